@@ -3,10 +3,9 @@ use Rattle.std.{proofs.Common.{◌≡◌, ◌∙◌, sym, subst, refl, ap, ℕ, 
 use Rattle.nntp_wire.specs.Answer.{Asked, Response}
 use Rattle.nntp_article.specs.{declared.session.profile.Profile.{Profile}, Session.{Machine.{Visible, start, visible_after}, Spool.{Name}}}
 use Rattle.nntp_pair.{specs.Pairing.{Paired, Unpaired, IsNext, AreNext, asked_at, asked_of, responses_of, streams}, proofs.PairingLemmas.{AreNext-push}}
-use Rattle.nntp_facts.specs.{Classes.{visible_from}, Conflict.{Placed, placed_of, placed_behind, SomeHas, told_with, below}, Inner.Conflict.{FitsThere}}
-use Rattle.nntp_facts.specs.{Inner.Noted.{FactsKept, HasNotedBehind, IsDue, IsNotedBehind}, declared.noted.Noted.{Noted, TheVariants.{Consistent}}}
-use Rattle.nntp_facts.{specs.declared.noted.Noted.TheVariants.{Contradiction}, proofs.Keeping.NotedExchange.{visible_next, as_many, ends}}
-use Rattle.nntp_facts.proofs.Reading.NotedContradictions.{placed_next}
+use Rattle.nntp_theory.specs.{Classes.{visible_from}, Conflict.{Placed, placed_of, placed_behind, SomeHas, told_with, below}, Inner.Conflict.{FitsThere}}
+use Rattle.nntp_theory.{specs.declared.noted.Noted.{Noted, TheVariants.{Consistent, Contradiction}}, proofs.Session.PairsGoOn.{visible_next, as_many, ends}}
+use Rattle.nntp_facts.{specs.Inner.Noted.{FactsKept, HasNotedBehind, IsDue, IsNotedBehind}, proofs.Reading.NotedContradictions.{placed_next}}
 use Rattle.nntp_said.specs.declared.position.Position.{Position}
 use Rattle.nntp_several.proofs.ConflictsOfSessions.{accepted_fit_behind, noted_conflicts_behind}
 use Rattle.nntp_verdict.proofs.JudgeLemmas.{is-due}

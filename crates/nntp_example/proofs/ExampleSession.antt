@@ -6,7 +6,7 @@ use Rattle.nntp_wire.specs.declared.{command.What.TheVariants.{Head, Stat}, mark
 use Rattle.nntp_article.specs.{Article.Parts.{Id, Line}, Session.{Spool.{Name}, Machine.{Visible, start}}}
 use Rattle.nntp_said.specs.{declared.position.Position.TheVariants.{Nowhere, First, Known}, Asks.{Ask, Estimates, Lacks, StandsAt, StepsUp}, Facts.{Fact}}
 use Rattle.nntp_said.specs.Facts.{ThereIs, Asks, IdAt, TextIs, facts_of}
-use Rattle.nntp_facts.specs.{declared.demand.Demand.TheVariants.{SecondIs}, Given.{asks_of, demand, wants, is_shown, is_denied}}
+use Rattle.nntp_theory.specs.{declared.demand.Demand.TheVariants.{SecondIs}, Given.{asks_of, demand, wants, is_shown, is_denied}}
 
 abbrev misc_test : Name
 misc_test = codes "misc.test"

@@ -5,8 +5,8 @@ ghost use Rattle.nntp_wire.specs.Inner.AnswerView.{response};
 ghost use Rattle.nntp_wire.specs.Answer.{Asked};
 ghost use Rattle.nntp_article.specs.Session.Limit.{profile_of};
 ghost use Rattle.nntp_article.specs.Session.Machine.{Visible, visible_after};
-ghost use Rattle.nntp_facts.specs.Inner.Conflict.{FitsThere};
-ghost use Rattle.nntp_facts.specs.Conflict.{SomeHas, told_with, below};
+ghost use Rattle.nntp_theory.specs.Inner.Conflict.{FitsThere};
+ghost use Rattle.nntp_theory.specs.Conflict.{SomeHas, told_with, below};
 
 use crate::session::{CLIENT, NAME, SERVER};
 use nntp_facts::{Conflict, Core, Facts, Noted, Placed, Point};

@@ -4,8 +4,8 @@ use Rattle.std.{proofs.Common.{append_assoc, append-nil, length-append}, specs.{
 use Rattle.nntp_wire.specs.Answer.{Asked, Response, group_is, numbers_are, sends, active_are, plain}
 use Rattle.nntp_article.specs.{declared.session.profile.Profile.{Profile}, Session.{Machine.{Visible, start, visible_after}, Spool.{Name}}}
 use Rattle.nntp_pair.specs.{Pairing.{Paired, asked_at, asked_of, responses_of}, declared.class.Class.{Class}}
-use Rattle.nntp_facts.specs.{Classes.{visible_from, position_from}, Conflict.{placed_behind}, Reading.{Judged, Accepted, Refused, Unspelled, accepted_of}}
-use Rattle.nntp_facts.{specs.Reading.{accepted_with}, proofs.Reading.JudgedSession.{accepted_one_more}}
+use Rattle.nntp_theory.specs.{Classes.{visible_from, position_from}, Conflict.{placed_behind}, Reading.{Judged, Accepted, Refused, Unspelled, accepted_of}}
+use Rattle.nntp_theory.{specs.Reading.{accepted_with}, proofs.Reading.JudgedSession.{accepted_one_more}}
 use Rattle.nntp_said.specs.declared.position.Position.{Position, TheVariants.{Nowhere}}
 use Rattle.nntp_explain.specs.{Explaining.{front_lines, place_lines, IsTold, IsExplained, AreExplained, count_bad}, Inner.ExplainingView.{placed_at, GoesOn}}
 use Rattle.nntp_explain.specs.{Reasons.{answer_at, rest_line}, Standing.{Standing, Cited, standing, standing_by, standing_from, standing_after, moved}}

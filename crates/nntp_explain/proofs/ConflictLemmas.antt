@@ -1,7 +1,7 @@
 -- What is told of a core.
 use Rattle.std.proofs.Common.{◌≡◌, ◌≤◌, refl, arith, length, ℕ, List, ◌++◌, Option, None, Some, MatchOption}
 use Rattle.nntp_article.specs.declared.session.profile.Profile.{Profile}
-use Rattle.nntp_facts.specs.{Conflict.{Placed, Point, Core, IsFirstPoint, told_with, places_of}, Inner.Conflict.{HasLast}}
+use Rattle.nntp_theory.specs.{Conflict.{Placed, Point, Core, IsFirstPoint, told_with, places_of}, Inner.Conflict.{HasLast}}
 use Rattle.nntp_explain.specs.{Explaining.{TellsCore}, Inner.ExplainingView.{GoesOn}, Says.{conflict_lines}, Standing.{Cited}}
 
 -- where the core is cut short, some of it was found

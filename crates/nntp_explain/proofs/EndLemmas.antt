@@ -6,8 +6,8 @@ use Rattle.nntp_wire.specs.declared.{limit.Limit.{Limit}, marks.Marks.{Marks}}
 use Rattle.nntp_article.specs.{declared.session.profile.Profile.{Profile}, Session.Limit.{profile_of}}
 use Rattle.nntp_pair.specs.{Pairing.{Paired, Unpaired, end, bad as ends_at, Ends, line_ahead, streams}, declared.class.PairClass.{PairClass}}
 use Rattle.nntp_pair.specs.{declared.class.PairClass.TheVariants.{Malformed as PairMalformed}, Classes.{class_of}}
-use Rattle.nntp_facts.specs.{Noted.{ArePermittedBehind}, Inner.Noted.{HasNoted}, Reading.{accepted_of, IsReadingBy}}
-use Rattle.nntp_facts.proofs.Keeping.NotedSessions.{session_begins}
+use Rattle.nntp_theory.specs.{Permitted.{ArePermittedBehind}, Reading.{accepted_of, IsReadingBy}}
+use Rattle.nntp_facts.{specs.Inner.Noted.{HasNoted}, proofs.Keeping.NotedSessions.{session_begins}}
 use Rattle.nntp_printing.specs.BadAnswer.{IsFirstLine}
 use Rattle.nntp_several.specs.{Reading.{ReadSession, AreReadings}, Sessions.{Named, unnamed}}
 use Rattle.nntp_explain.specs.Explaining.{IsTold, IsEndReason, IsSessionExplained, Counts, counts_of, counts_text, count_bad, titled, none_counted}

@@ -6,10 +6,11 @@ use Rattle.nntp_wire.specs.{Answer.{Asked}, Misspelling.{misspelling}, declared.
 use Rattle.nntp_article.specs.{declared.session.profile.Profile.{Profile}, Session.{Machine.{Visible}, Misfit.{misfit}}}
 use Rattle.nntp_pair.specs.{Pairing.{Paired, Unpaired, IsNext, IsPassedOver, asked_at, streams}, declared.class.Class.{Class, TheVariants.{Malformed}}}
 use Rattle.nntp_pair.{specs.declared.class.Class.TheVariants.{OutOfPlace, Contradiction}, proofs.PassedLemmas.{passed-reason}}
-use Rattle.nntp_facts.specs.{Conflict.{Placed, placed_of, SomeHas, told_with, below}, Inner.{Conflict.{FitsThere}, Noted.{FactsKept, HasNotedBehind}}}
-use Rattle.nntp_facts.specs.{Inner.Noted.{IsNotedBehind, IsDue, profile_kept}, Noted.{ArePermittedBehind}, Reading.{Judged, Accepted, Refused, Unspelled}}
-use Rattle.nntp_facts.specs.{Reading.{accepted_of, accepted_with, class_behind, IsJudged}, declared.noted.Noted.{Noted}}
-use Rattle.nntp_facts.proofs.{Reading.{JudgedSession.{accepted_one_more}, NotedAsJudged.{unfit_refused, contradiction_refused}}, Members.{all_at, all_from}}
+use Rattle.nntp_theory.specs.{Conflict.{Placed, placed_of, SomeHas, told_with, below}, Inner.Conflict.{FitsThere}, Permitted.{ArePermittedBehind}}
+use Rattle.nntp_theory.specs.{Reading.{Judged, Accepted, Refused, Unspelled, accepted_of, accepted_with, class_behind, IsJudged}, declared.noted.Noted.{Noted}}
+use Rattle.nntp_theory.proofs.{Members.{all_at, all_from}, Reading.JudgedSession.{accepted_one_more}}
+use Rattle.nntp_facts.{specs.Inner.Noted.{FactsKept, HasNotedBehind, IsNotedBehind, IsDue, profile_kept}, proofs.Reading.NotedAsJudged.{unfit_refused}}
+use Rattle.nntp_facts.proofs.Reading.NotedAsJudged.{contradiction_refused}
 use Rattle.nntp_said.specs.declared.position.Position.{Position}
 use Rattle.nntp_several.{specs.Conflict.{placed_of_all}, proofs.ConflictsOfSessions.{accepted_fit_behind, noted_conflicts_behind, placed_next_behind}}
 use Rattle.nntp_printing.specs.Title.{title_line}
@@ -20,7 +21,7 @@ use Rattle.nntp_explain.specs.Standing.{Standing, Cited, standing, standing_afte
 use Rattle.nntp_explain.{specs.Standing.{closing_with}, proofs.{ReasonsGoOn.{reason_still}, AnswerLemmas.{standing_push, closing_next, placed_there}}}
 use Rattle.nntp_explain.proofs.{AnswerLemmas.{explained_push, good_push, bad_push, told_as, told_long}, SessionLemmas.{one_more_behind, index_behind}}
 use Rattle.nntp_explain.proofs.SessionLemmas.{due_behind, as_many_cited, as_many_of_all, cited_next, own_part, untitled, told_once, text_grows}
-use Rattle.nntp_facts.specs.declared.noted.Noted.TheVariants as kinds
+use Rattle.nntp_theory.specs.declared.noted.Noted.TheVariants as kinds
 
 -- ---- how it goes on
 

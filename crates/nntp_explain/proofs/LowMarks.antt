@@ -7,7 +7,7 @@ use Rattle.nntp_wire.specs.{Answer.{Asked, Response, group_is, numbers_are, send
 use Rattle.nntp_article.specs.{Session.{Spool.{Name}, Machine.{Visible, visible_after, selects, are_zeros, is_same, start}}, Inner.Misfit.{IsAbove}}
 use Rattle.nntp_pair.specs.Pairing.{Paired, asked_of, responses_of}
 use Rattle.nntp_said.specs.{Asks.{position_after}, declared.position.Position.{Position, TheVariants.{Nowhere}}}
-use Rattle.nntp_facts.specs.{Classes.{visible_from}, Conflict.{placed_from, placed_of}}
+use Rattle.nntp_theory.specs.{Classes.{visible_from}, Conflict.{placed_from, placed_of}}
 use Rattle.nntp_explain.specs.Reasons.{gives_low, low_giver}
 
 -- a place is found among so many

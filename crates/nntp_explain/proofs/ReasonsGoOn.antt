@@ -4,8 +4,8 @@ use Rattle.std.{proofs.Common.{arith}, specs.{Prelude.{⊤, OnOk, if◌then◌el
 use Rattle.std.specs.Option.{option_or}
 use Rattle.nntp_article.specs.declared.session.profile.Profile.{Profile}
 use Rattle.nntp_wire.specs.declared.marks.Marks.{Marks}
-use Rattle.nntp_facts.{specs.Conflict.{Placed, Point, Core, IsCore, IsEndOfCore, IsFirstPoint, below, places_of}, proofs.Keeping.CoresGoOn.{in_front_of}}
-use Rattle.nntp_facts.proofs.{Keeping.CoresGoOn.{AreThere, told_still, core_goes_on, places_there, bound_there}, Members.{all_back}}
+use Rattle.nntp_theory.{specs.Conflict.{Placed, Point, Core, IsCore, IsEndOfCore, IsFirstPoint, below, places_of}, proofs.CoresGoOn.{in_front_of, AreThere}}
+use Rattle.nntp_theory.proofs.{CoresGoOn.{told_still, core_goes_on, places_there, bound_there}, Members.{all_back}}
 use Rattle.nntp_explain.specs.{Explaining.{IsConflictOf}, Reasons.{about_line, because_lines, answer_text, rest_line}, Says.{conflict_lines, difference}}
 use Rattle.nntp_explain.specs.{Says.{first_part, part_at, part_sent, reason_lines, said_lines, told_line}, Standing.{Cited}}
 use Rattle.nntp_explain.proofs.ConflictLemmas.{some_found}

@@ -5,9 +5,9 @@ use Rattle.std.specs.Option.{option_map_or}
 use Rattle.nntp_article.specs.{declared.session.profile.Profile.{Profile}, Session.Machine.{Visible, start, visible_after}}
 use Rattle.nntp_pair.specs.Pairing.{Paired, Unpaired, IsNext, Ending, end, bad as ends_at, asked_at, asked_of, responses_of, streams}
 use Rattle.nntp_said.specs.{Asks.{position_after}, declared.position.Position.{Position, TheVariants.{Nowhere}}}
-use Rattle.nntp_facts.specs.{Conflict.{placed_from, placed_of}, Inner.Noted.{FactsKept, HasNotedBehind, IsDue}, Reading.{Judged, accepted_of, IsJudged}}
-use Rattle.nntp_facts.{specs.Reading.{AreJudged}, proofs.Reading.JudgedAnswers.{accepted_behind as all_behind, judged_push, judged_count, accepted_few}}
-use Rattle.nntp_facts.proofs.Reading.JudgedAnswers.{visible_behind, accepted_open}
+use Rattle.nntp_theory.specs.{Conflict.{placed_from, placed_of}, Reading.{Judged, accepted_of, IsJudged, AreJudged}}
+use Rattle.nntp_theory.proofs.Reading.JudgedAnswers.{accepted_behind as all_behind, judged_push, judged_count, accepted_few, visible_behind, accepted_open}
+use Rattle.nntp_facts.specs.Inner.Noted.{FactsKept, HasNotedBehind, IsDue}
 use Rattle.nntp_several.specs.{Conflict.{placed_of_all}, Reading.{ReadSession}}
 use Rattle.nntp_printing.specs.Title.{title_line}
 use Rattle.nntp_explain.specs.{Explaining.{counts_behind}, Inner.ExplainingView.{untold, title_told, accepted_behind}, Standing.{Standing, standing}}

@@ -9,7 +9,7 @@ use Rattle.nntp_article.specs.Session.Misfit.{Misfit, wrong_code, wrong_name, wr
 use Rattle.nntp_article.specs.Session.{Misfit.{beyond_range, unmatched, listed_twice, no_head, other_id}, Machine.{is_same}, Spool.{Name}}
 use Rattle.nntp_said.specs.declared.position.Position.{Position, TheVariants.{Nowhere, First, Known}}
 use Rattle.nntp_printing.specs.{BadAnswer.{shown, command_line}, Printing.{escaped}}
-use Rattle.nntp_facts.specs.Conflict.{Placed, Point, Step, Group, Number as NumberOf, Count, First as FirstNumber, IdOf, PlaceOf, Article, HeadOf, BodyOf}
+use Rattle.nntp_theory.specs.Conflict.{Placed, Point, Step, Group, Number as NumberOf, Count, First as FirstNumber, IdOf, PlaceOf, Article, HeadOf, BodyOf}
 use Rattle.nntp_explain.specs.Standing.{Standing, Cited}
 
 -- ---- where the session stands

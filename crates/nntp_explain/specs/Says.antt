@@ -6,9 +6,9 @@ use Rattle.nntp_wire.specs.declared.{marks.Marks.TheVariants.{Strict}, range.Ran
 use Rattle.nntp_article.specs.{Article.Parts.{Id, Line}, Session.{Machine.{is_same}, Spool.{Name}}}
 use Rattle.nntp_said.specs.{Asks.{Ask, Estimates, Bounds, ListsIn, Has, Lacks, StandsAt, StandsNowhere, StepsUp, StepsDown, IsTop, IsBottom}, Facts.{Fact}}
 use Rattle.nntp_said.specs.{Facts.{ThereIs, ThereIsNo, IdAt, TextIs, NoArticle, GroupsAre}, declared.position.Position.{Position, TheVariants.{Known}}}
-use Rattle.nntp_facts.specs.Conflict.{Placed, Core, Point, Step, Group, Number, Count, First as FirstNumber, IdOf, PlaceOf, Article, HeadOf, BodyOf, said}
-use Rattle.nntp_facts.specs.{Given.{shows, denies, is_end, asks_in, shows_group, id_in, head_in, body_in}, Together.{denies_group, number_in, shows_article}}
-use Rattle.nntp_facts.specs.Together.{denies_article}
+use Rattle.nntp_theory.specs.Conflict.{Placed, Core, Point, Step, Group, Number, Count, First as FirstNumber, IdOf, PlaceOf, Article, HeadOf, BodyOf, said}
+use Rattle.nntp_theory.specs.{Given.{shows, denies, is_end, asks_in, shows_group, id_in, head_in, body_in}, Together.{denies_group, number_in, shows_article}}
+use Rattle.nntp_theory.specs.Together.{denies_article}
 use Rattle.nntp_printing.specs.{BadAnswer.{shown}, Printing.{escaped}}
 use Rattle.nntp_explain.specs.{Reasons.{octets_line, because_at, about_line, rest_line}, Standing.{Cited}}
 

@@ -3,7 +3,7 @@ use Rattle.std.specs.Prelude.{ℕ, ◌+◌, ◌==◌, if◌then◌else◌, List,
 use Rattle.nntp_wire.specs.{Answer.{Response, group_is, numbers_are}, Session.{closes}}
 use Rattle.nntp_article.specs.Session.Spool.{Name}
 use Rattle.nntp_said.specs.{Asks.{position_after}, declared.position.Position.{Position, TheVariants.{First, Known}}}
-use Rattle.nntp_facts.specs.Reading.{Judged, Accepted, Refused, Unspelled, accepted_with}
+use Rattle.nntp_theory.specs.Reading.{Judged, Accepted, Refused, Unspelled, accepted_with}
 use Rattle.nntp_pair.specs.Pairing.{Paired, asked_at}
 
 -- the selected group, the answer that selected it, the position in it, and the answer that led there

@@ -3,7 +3,7 @@ ghost use Rattle.std.specs.Prelude.{◌≡◌, ◌==◌, ◌++◌, None, true, O
 ghost use Rattle.std.specs.List.{list_any};
 ghost use Rattle.nntp_wire.specs.Listing.{listed_numbers};
 ghost use Rattle.nntp_article.specs.Session.Machine.{is_in_range};
-ghost use Rattle.nntp_facts.specs.Given.{is_end};
+ghost use Rattle.nntp_theory.specs.Given.{is_end};
 ghost use Rattle.nntp_said.specs.Asks as asks;
 ghost use Rattle.nntp_said.specs.Inner.FactView.{ask_of};
 ghost use Rattle.nntp_explain.specs.Says.{ask_text, ask_word, bears_on, current_place, current_word, listed_text, marks_text, place_text, range_text};

@@ -6,7 +6,7 @@ ghost use Rattle.nntp_wire.specs.declared.marks.Marks.{Marks};
 ghost use Rattle.nntp_article.specs.Session.Misfit.{misfit, below_low};
 ghost use Rattle.nntp_article.specs.Inner.Misfit.{marked_by};
 ghost use Rattle.nntp_article.specs.declared.session.profile.Profile.{Profile};
-ghost use Rattle.nntp_facts.specs.Conflict.{placed_of};
+ghost use Rattle.nntp_theory.specs.Conflict.{placed_of};
 ghost use Rattle.nntp_pair.specs.Pairing.{Paired};
 ghost use Rattle.nntp_several.specs.Sessions.{Named};
 ghost use Rattle.nntp_explain.specs.Explaining.{visible_left, Counts, counts_text, titled, IsExplanation, IsExplanationOfAll};

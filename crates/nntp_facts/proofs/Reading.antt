@@ -1,6 +1,3 @@
-pub mod JudgedAnswers
-pub mod JudgedSession
+pub mod DueExchanges
 pub mod NotedAsJudged
-pub mod OneReading
-pub mod FirstBadOfAReading
 pub mod NotedContradictions

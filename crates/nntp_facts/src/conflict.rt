@@ -2,8 +2,8 @@
 ghost use Rattle.std.specs.Prelude.{◌≡◌, ◌<◌, ◌≤◌, ◌^◌, ◌∷◌, [], List, ℕ, length, IfOk, MatchOption};
 ghost use Rattle.std.specs.List.{AllByRecursion};
 ghost use Rattle.nntp_article.specs.Session.Limit.{profile_of};
-ghost use Rattle.nntp_facts.specs.Conflict.{Placed as PlacedValue, SomeHas, told_with, below, places_of, IsFound};
-ghost use Rattle.nntp_facts.specs.Inner.Conflict.{FitsThere, IsPartOfCore};
+ghost use Rattle.nntp_theory.specs.Conflict.{Placed as PlacedValue, SomeHas, told_with, below, places_of, IsFound};
+ghost use Rattle.nntp_theory.specs.Inner.Conflict.{FitsThere, IsPartOfCore};
 ghost use Rattle.nntp_facts.specs.Inner.Kept.{IsKept};
 ghost use Rattle.nntp_facts.specs.Inner.Told.{AreToldWith, PlacesTold};
 
@@ -24,7 +24,7 @@ pub struct Core<A: Allocator = Global> {
 }
 
 impl<A: Allocator> Model for Core<A> {
-    ghost use Rattle.nntp_facts.specs.Conflict.{Core as CoreValue};
+    ghost use Rattle.nntp_theory.specs.Conflict.{Core as CoreValue};
 
     ghost Value = { CoreValue };
 

@@ -1,22 +1,23 @@
 //! The details that are kept of one group: its numbers, and the ids that are shown at numbers.
 ghost use Rattle.std.specs.Prelude.{◌≡◌, ◌↔◌, List, [], ◌++◌, IsTrue, IfSome, IfOk, OnOk, Some, option_map};
 ghost use Rattle.std.specs.Option.{option_copied};
+ghost use Rattle.std.specs.Ordering.{nat_cmp};
+ghost use Rattle.std.specs.BTreeMap.{get as entry};
 ghost use Rattle.std.specs.Rc.{rc_str_bytes};
 ghost use Rattle.std.specs.FinMap.{get, insert, empty};
 ghost use Rattle.nntp_said.specs.Asks.{Ask};
-ghost use Rattle.nntp_facts.specs.Inner.Together.{AsksStand};
-ghost use Rattle.nntp_facts.specs.Inner.Part.{Says};
-ghost use Rattle.nntp_facts.specs.Inner.PartView.{said};
+ghost use Rattle.nntp_theory.specs.Inner.Together.{AsksStand};
+ghost use Rattle.nntp_numbers.specs.Inner.Part.{Says};
+ghost use Rattle.nntp_numbers.specs.Inner.PartView.{said};
 ghost use Rattle.nntp_facts.specs.Inner.SayingView.{id_at, of_group};
-ghost use Rattle.nntp_facts.specs.Inner.Summary.{IsSummary, AreBounded};
+ghost use Rattle.nntp_numbers.specs.Inner.Summary.{IsSummary, AreBounded};
 ghost use Rattle.nntp_facts.specs.Inner.Kept.{Agree, IsFree, MayHave, ids_with, places_with};
 ghost use Rattle.nntp_facts.specs.Inner.Between.{group_between};
 ghost use Rattle.nntp_facts.specs.Inner.KeptSaying.{HasSaid, IsTextOf};
-ghost use Rattle.nntp_facts.specs.Inner.Readers.{unseen_in, unseen_high_in};
+ghost use Rattle.nntp_numbers.specs.Inner.Unseen.{unseen_in, unseen_high_in};
 
-use crate::numbers::Numbers;
 use crate::saying::{GroupPart, IdAt};
-use crate::shown::find;
+use nntp_numbers::Numbers;
 use std::alloc::{AllocError, Allocator, Global};
 use std::collections::{BTreeMap, BTreeSet};
 use std::marker::Model;
@@ -262,5 +263,15 @@ impl<A: Allocator> Details<A> {
         ensures { result ≡ get self.now.places id.now }
     {
         self.places.get(id).copied()
+    }
+}
+
+/// Returns what a map has at the number. Sessions ascend, so the greatest number is tried first.
+fn find<V, A: Allocator>(map: &BTreeMap<u64, V, A>, n: u64) -> Option<&V>
+    ensures { option_copied result ≡ entry nat_cmp map.now n }
+{
+    match map.last_key_value() {
+        Some((last, value)) if *last <= n => { if *last == n { Some(value) } else { None } }
+        _ => map.get(&n),
     }
 }

@@ -8,8 +8,8 @@ ghost use Rattle.nntp_wire.specs.Listing.{ActiveValue};
 ghost use Rattle.nntp_article.specs.Session.Spool.{Name};
 ghost use Rattle.nntp_article.specs.Session.Machine.{is_same};
 ghost use Rattle.nntp_said.specs.Facts.{Fact, GroupsAre};
-ghost use Rattle.nntp_facts.specs.Given.{is_shown_group};
-ghost use Rattle.nntp_facts.specs.Together.{denies_group};
+ghost use Rattle.nntp_theory.specs.Given.{is_shown_group};
+ghost use Rattle.nntp_theory.specs.Together.{denies_group};
 ghost use Rattle.nntp_facts.specs.Inner.Kept.{AreKeptNames};
 ghost use Rattle.nntp_facts.specs.Inner.ListedGroups.{MayList, WereListed};
 

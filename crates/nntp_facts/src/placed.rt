@@ -6,9 +6,9 @@ ghost use Rattle.nntp_wire.specs.Inner.AnswerView.{response};
 ghost use Rattle.nntp_wire.specs.Inner.View.{asked};
 ghost use Rattle.nntp_wire.specs.Name.{IsGroupName};
 ghost use Rattle.nntp_article.specs.Session.Machine.{Visible};
-ghost use Rattle.nntp_facts.specs.Conflict.{said};
+ghost use Rattle.nntp_theory.specs.Conflict.{said};
 ghost use Rattle.nntp_said.specs.Facts.{facts_of};
-ghost use Rattle.nntp_facts.specs.Inner.Together.{IsWellFormed};
+ghost use Rattle.nntp_theory.specs.Inner.Together.{IsWellFormed};
 ghost use Rattle.nntp_pair.specs.Pairing.{asked_at};
 ghost use Rattle.nntp_pair.specs.Inner.Pairing.{lines_in};
 
@@ -29,7 +29,7 @@ pub struct Placed<'a> {
 
 impl<'a> Model for Placed<'a> {
     ghost use Rattle.nntp_pair.specs.Pairing.{asked_at};
-    ghost use Rattle.nntp_facts.specs.Conflict.{Placed as PlacedValue};
+    ghost use Rattle.nntp_theory.specs.Conflict.{Placed as PlacedValue};
 
     ghost Value = { PlacedValue };
 

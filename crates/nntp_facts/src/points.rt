@@ -3,8 +3,8 @@ ghost use Rattle.std.specs.Prelude.{◌≡◌, ◌<◌, ◌^◌, ◌∷◌, List
 ghost use Rattle.std.specs.List.{AllByRecursion};
 ghost use Rattle.nntp_article.specs.Session.Limit.{profile_of};
 ghost use Rattle.nntp_article.specs.declared.session.profile.Profile.{Profile};
-ghost use Rattle.nntp_facts.specs.Conflict.{Placed as PlacedValue, told_with, places_of, IsFound, IsFirstPoint};
-ghost use Rattle.nntp_facts.specs.Inner.Conflict.{FitsThere, HasLast};
+ghost use Rattle.nntp_theory.specs.Conflict.{Placed as PlacedValue, told_with, places_of, IsFound, IsFirstPoint};
+ghost use Rattle.nntp_theory.specs.Inner.Conflict.{FitsThere, HasLast};
 ghost use Rattle.nntp_facts.specs.Inner.Points.{AreHeld, with_numbers};
 ghost use Rattle.nntp_facts.specs.Inner.PointView.{point_of};
 ghost use Rattle.nntp_pair.specs.Inner.Pairing.{lines_in};

@@ -12,12 +12,12 @@ ghost use Rattle.nntp_said.specs.Inner.FactView.{ask_of, fact_of};
 ghost use Rattle.nntp_facts.specs.Inner.Saying.{AreListed, HasSmall, IsSelectedShown, TellsHere, TellsThere, begun, nothing, numbers_shown, saying_by};
 ghost use Rattle.nntp_facts.specs.Inner.Saying.{saying_with};
 ghost use Rattle.nntp_said.specs.Asks.{Bounds};
-ghost use Rattle.nntp_facts.specs.Inner.Part.{Says};
-ghost use Rattle.nntp_facts.specs.Inner.PartView.{said};
+ghost use Rattle.nntp_numbers.specs.Inner.Part.{Says};
+ghost use Rattle.nntp_numbers.specs.Inner.PartView.{said};
 ghost use Rattle.nntp_facts.specs.Inner.SayingView.{id_at, of_group, saying_of};
-ghost use Rattle.nntp_facts.specs.Inner.Summary.{AreBounded};
+ghost use Rattle.nntp_numbers.specs.Inner.Summary.{AreBounded};
 
-use crate::numbers_part::NumbersPart;
+use nntp_numbers::NumbersPart;
 use nntp_said::{Ask, Fact, Position, SaidFacts, facts_of};
 use nntp_wire::{ActiveLine, Answer, Block, GroupName, Marks, MessageId, Prompt, What, Wildmat};
 use std::slice;

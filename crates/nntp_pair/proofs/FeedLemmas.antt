@@ -7,10 +7,10 @@ use Rattle.nntp_wire.specs.{Inner.{Prompts.{prompt_kind}, Search.{IsFrameThrough
 use Rattle.nntp_wire.proofs.{SearchLemmas.{line_searched-more, frame_searched-more}, SpellLemmas.{one-frame}, StreamLemmas.{lines-first, lines-joined}}
 use Rattle.nntp_pair.specs.declared.{class.PairClass.{PairClass, TheVariants.{Surplus, Cut, Malformed}}, searches.Searches.{Searches}}
 use Rattle.nntp_pair.specs.{declared.{octet_counts.OctetCounts.{OctetCounts}, side.Side.{Side, TheVariants.{Client, Server}}}, Pairing.{Paired, Unpaired}}
-use Rattle.nntp_pair.specs.{Pairing.{IsNext, IsAnswered, Awaits, AreNext, IsBad, IsCut, IsMalformed, streams, asked_at}, Inner.Pairing.{places_from}}
+use Rattle.nntp_pair.specs.{Pairing.{IsNext, IsAnswered, Awaits, AreNext, IsBad, IsCut, IsMalformed, streams, asked_at, HasNext}, Inner.Pairing.{places_from}}
 use Rattle.nntp_pair.specs.Inner.{Feeding.{Fed, IsFed, EndsForGood, left_of, with_octets}, Sides.{given, count_of}, Searching.{left_from, BeginsWithPlace}}
-use Rattle.nntp_pair.{specs.{Inner.Searching.{IsForNext, AreSearched, AreThrough, IsInStep}, Feeding.{HasNext}}, proofs.NextLemmas.{one-awaited}}
-use Rattle.nntp_pair.proofs.PairingLemmas.{AreNext-push, frame-more}
+use Rattle.nntp_pair.{specs.Inner.Searching.{IsForNext, AreSearched, AreThrough, IsInStep}, proofs.{NextLemmas.{one-awaited}, PairingLemmas.{AreNext-push}}}
+use Rattle.nntp_pair.proofs.PairingLemmas.{frame-more}
 
 pub is-empty : (octets : List ℕ) → (length octets == 0) ≡ true → octets ≡ []
 is-empty [] e = refl

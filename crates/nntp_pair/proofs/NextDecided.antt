@@ -3,7 +3,7 @@ use Rattle.std.{proofs.Common.{◌≡◌, ◌⊎◌, ℕ, List, [], ◌∷◌, �
 use Rattle.nntp_wire.{specs.{Answer.{Response, Spells}, Frame.{HasFrame, frame_octets}}, proofs.{SpellLemmas.{spelling-frame}, SpellsDecided.{dec_spelling}}}
 use Rattle.nntp_wire.proofs.FramesDecided.{dec_frame}
 use Rattle.nntp_pair.specs.{declared.class.PairClass.{PairClass, TheVariants.{Surplus, Cut, Malformed}}, Pairing.{Unpaired, IsAnswered, IsBad, Awaits, Ending}}
-use Rattle.nntp_pair.{specs.{Pairing.{end, bad, Ends, asked_at}, Feeding.{HasNext}}, proofs.FeedLemmas.{next-of}}
+use Rattle.nntp_pair.{specs.Pairing.{end, bad, Ends, asked_at, HasNext}, proofs.FeedLemmas.{next-of}}
 
 -- what a spelling at the front of the octets answers
 spelling-answers : (place : Option (List ℕ)) (server octets rest : List ℕ) (response : Response) → Spells (asked_at place) response octets → server ≡ octets ++ rest

@@ -1,4 +1,3 @@
 pub mod Classes
 pub mod Pairing
-pub mod Feeding
 pub mod Inner

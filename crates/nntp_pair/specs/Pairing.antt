@@ -54,6 +54,10 @@ pub record IsNext (before : Unpaired) (pair : Paired) (after : Unpaired) : Type 
   pub next_index : after.index ≡ before.index + 1
   pub closing : after.is_closed ≡ closes (asked_at pair.line) pair.response
 
+-- an exchange comes next
+abbrev pub HasNext : Unpaired → Type 0
+HasNext left = (pair : Paired) × (behind : Unpaired) × IsNext left pair behind
+
 -- at the next place, which has this line, a frame of this initial line and this block spells nothing, and this is left behind it (RFC 3977, sections 3.1 and 3.2)
 pub record IsPassedOver (before : Unpaired) (line : Option (List ℕ)) (initial : List ℕ) (block : Option (List ℕ)) (after : Unpaired) : Type 0 where
   pub is_open : before.is_closed ≡ false

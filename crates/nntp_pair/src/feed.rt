@@ -3,7 +3,7 @@ ghost use Rattle.std.specs.Prelude.{◌≡◌, ◌++◌, ◌∷◌, [], ℕ, Lis
 ghost use Rattle.std.specs.Option.{option_copied};
 ghost use Rattle.nntp_pair.specs.Pairing.{Paired, Unpaired, IsNext, line_ahead};
 ghost use Rattle.nntp_pair.specs.Inner.Feeding.{Fed, IsFed, IsTaken, IsUntaken, IsPeek, IsEnding, left_of, unfed, refused};
-ghost use Rattle.nntp_pair.specs.Feeding.{HasNext};
+ghost use Rattle.nntp_pair.specs.Pairing.{HasNext};
 ghost use Rattle.nntp_pair.specs.declared.side.Side.TheVariants.{Client, Server};
 
 use crate::buffer::{Buffer, extend};

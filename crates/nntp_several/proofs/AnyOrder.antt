@@ -5,13 +5,13 @@ use Rattle.std.specs.{List.{list_any, flat_map}, FinMap.{entries}}
 use Rattle.nntp_article.specs.{Article.Parts.{Id}, Session.Spool.{Spool, Numbers, Name}, declared.session.profile.Profile.{Profile}}
 use Rattle.nntp_wire.specs.Session.{prompts_of}
 use Rattle.nntp_said.specs.{Asks.{Ask}, Facts.{Fact}}
-use Rattle.nntp_facts.specs.Given.{shows, says_some, is_end, denies, demand_in, join, demand, wants, is_known, IsFirstFree, IsOneMore, IsGivenNumber, asks_in}
-use Rattle.nntp_facts.specs.Given.{asks_of, shows_group, gives_article, mentions, first_given, id_in, id_shown, head_in, body_in, plain_head, invented}
-use Rattle.nntp_facts.specs.{Given.{AreInvented, unshown_in, unshown_ids, IsGiven, facts_of_session}, Together.{GiveOne}, Inner.Together.{Together}}
-use Rattle.nntp_facts.specs.{declared.demand.Demand.{Demand, TheVariants.{NoDemand, NotEmpty, OnlyOne, SecondIs, Impossible}}, Answered.{facts_of_all}}
-use Rattle.nntp_facts.proofs.{GivenNumbers.JoinedDemands.{demand_append}, Given.{GivenHolds.{one_given}, OneGivenSpool.{given_once}}}
-use Rattle.nntp_facts.proofs.{Given.SessionsByFacts.{stand_each}, Members.{In, all_at, all_from, any_in, found_in, to_flat, from_flat, in_front, in_back}}
-use Rattle.nntp_facts.proofs.{Members.{in_cases, first_found, first_there, in_contains, contains_in}, Streams.OneOutcome.{same_answers}}
+use Rattle.nntp_theory.specs.Given.{shows, says_some, is_end, denies, demand_in, join, demand, wants, is_known, IsFirstFree, IsOneMore, IsGivenNumber, asks_in}
+use Rattle.nntp_theory.specs.Given.{asks_of, shows_group, gives_article, mentions, first_given, id_in, id_shown, head_in, body_in, plain_head, invented}
+use Rattle.nntp_theory.specs.{Given.{AreInvented, unshown_in, unshown_ids, IsGiven, facts_of_session}, Together.{GiveOne}, Inner.Together.{Together}}
+use Rattle.nntp_theory.specs.{declared.demand.Demand.{Demand, TheVariants.{NoDemand, NotEmpty, OnlyOne, SecondIs, Impossible}}, Answered.{facts_of_all}}
+use Rattle.nntp_theory.proofs.{GivenNumbers.JoinedDemands.{demand_append}, Given.{GivenHolds.{one_given}, OneGivenSpool.{given_once}}}
+use Rattle.nntp_theory.proofs.{Given.SessionsByFacts.{stand_each}, Members.{In, all_at, all_from, any_in, found_in, to_flat, from_flat, in_front, in_back}}
+use Rattle.nntp_theory.proofs.{Members.{in_cases, first_found, first_there, in_contains, contains_in}, Streams.OneOutcome.{same_answers}}
 use Rattle.nntp_several.specs.{Outcome.{IsLeastOfAll}, Sessions.{Recorded, ExplainsIt, ExplainsEach, ExplainsAll, answered_by}}
 use Rattle.nntp_several.proofs.ExplainedSessions.{runs_each}
 

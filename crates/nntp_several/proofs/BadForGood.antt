@@ -3,7 +3,7 @@ use Rattle.std.proofs.Common.{◌≡◌, ◌⊎◌, ℕ, zero, suc, ◌<◌, ◌
 use Rattle.std.{proofs.{Common.{subst, ◌∙◌, arith}, lemmas.Bool.{cases_lt}}, specs.Prelude.{MatchOption}}
 use Rattle.nntp_article.specs.declared.session.profile.Profile.{Profile}
 use Rattle.nntp_pair.specs.declared.class.Class.{Class}
-use Rattle.nntp_facts.{specs.Classes.{HasClass, IsSettled}, proofs.Streams.OneClass.{bad_stays, class_stays}}
+use Rattle.nntp_theory.{specs.Classes.{HasClass, IsSettled}, proofs.Streams.OneClass.{bad_stays, class_stays}}
 use Rattle.nntp_several.specs.{Told.{with_more, IsBadForGoodOfAll, IsToldBadOfAll}, Outcome.{NoOfAll, IsOutcomeOfAll}, Sessions.{Recorded, ExplainsEach}}
 use Rattle.nntp_several.{specs.Sessions.{BadBehind}, proofs.{ExplainedSessions.{there}, OneOutcomeOfAll.{one_outcome_of_all}, SessionsRead.{outcome_at}}}
 

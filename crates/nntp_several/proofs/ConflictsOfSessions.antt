@@ -5,14 +5,14 @@ use Rattle.nntp_wire.specs.Answer.{Asked, Response}
 use Rattle.nntp_article.specs.{declared.session.profile.Profile.{Profile}, Session.{Machine.{Visible, start, fits}, Spool.{Spool}}}
 use Rattle.nntp_pair.specs.Pairing.{Paired, asked_at, asked_of, responses_of}
 use Rattle.nntp_said.specs.{declared.position.Position.TheVariants.{Nowhere}, Facts.{Fact, Holds, facts_of}, Inner.Facts.{FitsAll}}
-use Rattle.nntp_facts.specs.{declared.noted.Noted.TheVariants.{Contradiction}, Answered.{Answered, facts_of_all}, Inner.Answered.{FitEach}}
-use Rattle.nntp_facts.specs.{Inner.{Conflict.{FitsThere}, Noted.{FactsKept, said_by, HasNotedBehind, IsDue, IsNotedBehind}}, Classes.{visible_from}}
-use Rattle.nntp_facts.specs.Conflict.{Placed, placed_of, placed_behind, said as said_there, told, told_at, told_with, below, SomeHas}
-use Rattle.nntp_facts.{specs.{Given.{facts_of_session}, Noted.{exchanged, ArePermittedBehind}}, proofs.Conflicts.{session_fits, session_told, there_said}}
-use Rattle.nntp_facts.proofs.{Conflicts.{told_own, all_places}, Members.{all_both, all_front, all_back}, Given.GivenPermits.{said}}
-use Rattle.nntp_facts.proofs.{Given.SessionsByFacts.{stand_each, permits_each}, Keeping.NotedExchange.{Runs, as_many, ends, facts_next}}
-use Rattle.nntp_facts.proofs.{Keeping.NotedSessions.{facts_behind}, Reading.NotedContradictions.{placed_next}, Session.LaterPrompts.{next_behind, run_longer}}
-use Rattle.nntp_facts.proofs.Session.{LaterPrompts.{visible_longer}, OneMoreAnswer.{as_few, fitting_grows}}
+use Rattle.nntp_theory.specs.{declared.noted.Noted.TheVariants.{Contradiction}, Answered.{Answered, facts_of_all}, Inner.Answered.{FitEach}}
+use Rattle.nntp_theory.specs.{Inner.{Conflict.{FitsThere}, Exchanged.{said_by}}, Classes.{visible_from}, Conflict.{Placed, placed_of, placed_behind}}
+use Rattle.nntp_theory.specs.{Conflict.{said as said_there, told, told_at, told_with, below, SomeHas}, Given.{facts_of_session}, Permitted.{exchanged}}
+use Rattle.nntp_theory.{specs.Permitted.{ArePermittedBehind}, proofs.Conflicts.{session_fits, session_told, there_said, told_own, all_places}}
+use Rattle.nntp_theory.proofs.{Members.{all_both, all_front, all_back}, Given.{GivenPermits.{said}, SessionsByFacts.{stand_each, permits_each}}}
+use Rattle.nntp_theory.proofs.{Given.SessionsGoOn.{facts_behind}, Session.{LaterPrompts.{next_behind, run_longer, visible_longer}, OneMoreAnswer.{as_few}}}
+use Rattle.nntp_theory.proofs.Session.{OneMoreAnswer.{fitting_grows}, PairsGoOn.{Runs, as_many, ends, facts_next}}
+use Rattle.nntp_facts.{specs.Inner.Noted.{FactsKept, HasNotedBehind, IsDue, IsNotedBehind}, proofs.Reading.NotedContradictions.{placed_next}}
 use Rattle.nntp_several.specs.Conflict.{placed_of_all}
 
 -- the answers of sessions that fit fit where they stand

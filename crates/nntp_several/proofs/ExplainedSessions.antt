@@ -4,10 +4,10 @@ use Rattle.std.{proofs.{Common.{ap, subst, ◌∙◌, arith, length-append, appe
 use Rattle.std.specs.List.{AllByRecursion}
 use Rattle.nntp_wire.specs.{Answer.{Response}, Session.{prompts_of}, declared.marks.Marks.{Marks}}
 use Rattle.nntp_article.specs.{Session.{Spool.{Spool, IsSpool}, Machine.{Run, start}, Explains.{Explains}}, declared.session.profile.Profile.{Profile}}
-use Rattle.nntp_facts.{specs.{Inner.Given.{size}, Answered.{Answered, PermitsEach, facts_in, facts_of_all}}, proofs.Members.{all_both, all_front, all_back}}
-use Rattle.nntp_facts.proofs.Given.{FirstBadAnswer.{size-append, none_permitted}, SessionsByFacts.{some_or_none_of_all}}
-use Rattle.nntp_facts.proofs.{Session.OneMoreAnswer.{size_by_octets}, Streams.ExplainedOrBad.{bad_once, explained_not_bad_among, explained_or_bad_among}}
-use Rattle.nntp_facts.proofs.Streams.{ExplainedOrBad.{IsDecided}, OneOutcome.{same_answers}}
+use Rattle.nntp_theory.{specs.{Inner.Given.{size}, Answered.{Answered, PermitsEach, facts_in, facts_of_all}}, proofs.Members.{all_both, all_front, all_back}}
+use Rattle.nntp_theory.proofs.Given.{FirstBadAnswer.{size-append, none_permitted}, SessionsByFacts.{some_or_none_of_all}}
+use Rattle.nntp_theory.proofs.{Session.OneMoreAnswer.{size_by_octets}, Streams.ExplainedOrBad.{bad_once, explained_not_bad_among, explained_or_bad_among}}
+use Rattle.nntp_theory.proofs.Streams.{ExplainedOrBad.{IsDecided}, OneOutcome.{same_answers}}
 use Rattle.nntp_several.specs.{Sessions.{Recorded, ExplainsIt, ExplainsEach, ExplainsAll, BadBehind, BadOfAll, answered_by}, Inner.Sessions.{octets_of}}
 
 -- ---- explained sessions and their answers

@@ -4,10 +4,10 @@ use Rattle.std.{proofs.{Common.{append-nil, arith}, lemmas.Bool.{true≢false}},
 use Rattle.nntp_article.specs.{Session.{Spool.{Spool}, Explains.{Explains, Bad}}, declared.session.profile.Profile.{Profile}}
 use Rattle.nntp_wire.specs.Session.{prompts_of}
 use Rattle.nntp_said.specs.Facts.{Fact}
-use Rattle.nntp_facts.specs.{Given.{IsGiven, HasAtLeast, facts_of_session}, Inner.Given.{size}, Classes.{HasClass}, Outcome.{Outcome, Yes, No}}
-use Rattle.nntp_facts.{specs.{Outcome.{IsLeastExplanation, IsOutcome}, Answered.{PermitsEach, facts_of_all}}, proofs.Given.OneGivenSpool.{given_once}}
-use Rattle.nntp_facts.proofs.Given.SessionsByFacts.{stand_each, made_for_all, given_exists_of_all, given_permits_all, least_of_all}
-use Rattle.nntp_facts.proofs.Streams.OneClass.{before_bad, class_there, one_class}
+use Rattle.nntp_theory.specs.{Given.{IsGiven, HasAtLeast, facts_of_session}, Inner.Given.{size}, Classes.{HasClass}, Outcome.{Outcome, Yes, No}}
+use Rattle.nntp_theory.{specs.{Outcome.{IsLeastExplanation, IsOutcome}, Answered.{PermitsEach, facts_of_all}}, proofs.Given.OneGivenSpool.{given_once}}
+use Rattle.nntp_theory.proofs.Given.SessionsByFacts.{stand_each, made_for_all, given_exists_of_all, given_permits_all, least_of_all}
+use Rattle.nntp_theory.proofs.Streams.OneClass.{before_bad, class_there, one_class}
 use Rattle.nntp_pair.specs.declared.class.Class.{Class}
 use Rattle.nntp_several.specs.{Sessions.{Recorded, ExplainsEach, ExplainsAll, BadOfAll, answered_by, counts_of}, Inner.Sessions.{octets_of}}
 use Rattle.nntp_several.specs.{Inner.Outcome.{is_yes_of_all, of_one}, Outcome.{OutcomeOfAll, YesOfAll, NoOfAll, IsLeastOfAll, HasClassThere, IsOutcomeOfAll}}

@@ -3,10 +3,11 @@ use Rattle.std.proofs.{Common.{◌≡◌, ℕ, ◌+◌, ◌<◌, ◌^◌, List, 
 use Rattle.nntp_article.specs.{Session.{Spool.{Spool}, Machine.{Run, start}}, declared.session.profile.Profile.{Profile}}
 use Rattle.nntp_pair.specs.declared.class.{PairClass.{PairClass}, Class.TheVariants.{OutOfPlace as IsOutOfPlace, Contradiction as Contradicts}}
 use Rattle.nntp_pair.{specs.{Pairing.{Paired, Unpaired, IsNext, Ends, end, bad, streams}, Classes.{class_of}}, proofs.PairingLemmas.{AreNext-push}}
-use Rattle.nntp_facts.specs.{declared.noted.Noted.TheVariants.{Consistent, OutOfPlace, Contradiction}, Given.{IsGiven}, Inner.{Given.{size}, Noted.{FactsKept}}}
-use Rattle.nntp_facts.specs.{Inner.Noted.{said_behind, HasNotedBehind, IsNotedBehind, begun}, Answered.{Answered, SomePermitsEach, facts_of_all}}
-use Rattle.nntp_facts.{specs.Noted.{exchanged}, proofs.{Members.{all_front}, Reading.NotedAsJudged.{unfit_refused, contradiction_refused}}}
-use Rattle.nntp_facts.proofs.Keeping.NotedSessions.{facts_behind, small_behind, session_begins}
+use Rattle.nntp_theory.specs.{declared.noted.Noted.TheVariants.{Consistent, OutOfPlace, Contradiction}, Given.{IsGiven}, Inner.Given.{size}}
+use Rattle.nntp_theory.specs.{Inner.Exchanged.{said_behind}, Answered.{Answered, SomePermitsEach, facts_of_all}, Permitted.{exchanged}}
+use Rattle.nntp_theory.proofs.{Members.{all_front}, Given.SessionsGoOn.{facts_behind, small_behind}}
+use Rattle.nntp_facts.{specs.Inner.Noted.{FactsKept, HasNotedBehind, IsNotedBehind, begun}, proofs.Reading.NotedAsJudged.{unfit_refused, contradiction_refused}}
+use Rattle.nntp_facts.proofs.Keeping.NotedSessions.{session_begins}
 use Rattle.nntp_several.specs.{Outcome.{YesOfAll, NoOfAll, IsOutcomeOfAll}, Inner.{Paired.{IsPairedWhole, ArePaired}, Passing.{PassedOfAll}}}
 use Rattle.nntp_several.{specs.Sessions.{Recorded}, proofs.{SessionsRead.{earlier_then}, WaysToOutcome.{outcome_at_all_ends, outcome_at_octets_of_all}}}
 use Rattle.nntp_several.proofs.WaysToOutcome.{outcome_at_response_of_all}

@@ -6,14 +6,14 @@ use Rattle.nntp_article.specs.{Session.{Spool.{Spool, IsSpool}, Machine.{Run, st
 use Rattle.nntp_pair.specs.{declared.class.{PairClass.{PairClass, TheVariants.{Malformed as PairMalformed}}, Class.{Class}}, Pairing.{Paired, Unpaired, IsNext}}
 use Rattle.nntp_pair.specs.{Pairing.{AreNext, Ending, end, bad, IsPairing, asked_at, asked_of, responses_of, streams}, Classes.{class_of}}
 use Rattle.nntp_pair.proofs.PassedLemmas.{passed-ends}
-use Rattle.nntp_facts.specs.{Classes.{visible_from, HasClass, class_by}, Inner.{Given.{size, weight}, Noted.{said_behind}}, Reading.{Judged, Accepted, Refused}}
-use Rattle.nntp_facts.specs.{Reading.{Unspelled, accepted_of, IsReadingBy, IsReading, class_behind}, Answered.{PermitsEach, SomePermitsEach, facts_of_all}}
-use Rattle.nntp_facts.{specs.Noted.{exchanged, ArePermittedBehind}, proofs.{Members.{all_both, all_front, all_back}, Given.FirstBadAnswer.{size-append}}}
-use Rattle.nntp_facts.proofs.{Given.{FirstBadAnswer.{none_permitted}, SessionsByFacts.{some_or_none_of_all}}, Ids.SizeOfASession.{session_size}}
-use Rattle.nntp_facts.proofs.{Session.OneMoreAnswer.{pairs_run}, Streams.{ExplainedPairs.{by_all_pairs}, OneOutcome.{bad_response}}}
-use Rattle.nntp_facts.proofs.{Streams.PairedStreams.{explained_end, bad_end}, Reading.FirstBadOfAReading.{accepted_all, accepted_or_bad}}
-use Rattle.nntp_facts.proofs.Reading.{JudgedAnswers.{accepted_light, accepted_first, all_paired}, OneReading.{one_reading, some_reading_by}}
-use Rattle.nntp_facts.proofs.Keeping.{NotedExchange.{Runs}, NotedSessions.{facts_behind}}
+use Rattle.nntp_theory.specs.{Classes.{visible_from, HasClass, class_by}, Inner.{Given.{size, weight}, Exchanged.{said_behind}}, Reading.{Judged, Accepted}}
+use Rattle.nntp_theory.specs.{Reading.{Refused, Unspelled, accepted_of, IsReadingBy, IsReading, class_behind}, Answered.{PermitsEach, SomePermitsEach}}
+use Rattle.nntp_theory.{specs.{Answered.{facts_of_all}, Permitted.{exchanged, ArePermittedBehind}}, proofs.Members.{all_both, all_front, all_back}}
+use Rattle.nntp_theory.proofs.Given.{FirstBadAnswer.{size-append, none_permitted}, SessionsByFacts.{some_or_none_of_all}, SessionsGoOn.{facts_behind}}
+use Rattle.nntp_theory.proofs.{Ids.SizeOfASession.{session_size}, Session.{OneMoreAnswer.{pairs_run}, PairsGoOn.{Runs}}, Streams.ExplainedPairs.{by_all_pairs}}
+use Rattle.nntp_theory.proofs.{Streams.{OneOutcome.{bad_response}, PairedStreams.{explained_end, bad_end}}, Reading.FirstBadOfAReading.{accepted_all}}
+use Rattle.nntp_theory.proofs.Reading.{FirstBadOfAReading.{accepted_or_bad}, JudgedAnswers.{accepted_light, accepted_first, all_paired}}
+use Rattle.nntp_theory.proofs.Reading.OneReading.{one_reading, some_reading_by}
 use Rattle.nntp_several.specs.{Outcome.{NoOfAll, IsOutcomeOfAll}, Reading.{ReadSession, AreReadings, IsReadingOfAll}, Inner.Reading.{IsGood, IsFirstBad}}
 use Rattle.nntp_several.specs.{Inner.Sessions.{octets_of}, Sessions.{Recorded, ExplainsIt, ExplainsEach, ExplainsAll, BadBehind}}
 use Rattle.nntp_several.proofs.ExplainedSessions.{there, bad_at, explained_not_bad_of_all}

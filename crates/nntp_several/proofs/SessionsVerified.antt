@@ -3,7 +3,7 @@ use Rattle.std.proofs.Common.{◌≡◌, ℕ, ◌+◌, ◌<◌, ◌≤◌, List,
 use Rattle.std.proofs.{Common.{subst, ◌∙◌, arith}, lemmas.{Bool.{cases_order}, List.{take_more, take_all, length-take-le}, Option.{slice_get-get_or}}}
 use Rattle.std.specs.Prelude.{MatchOption}
 use Rattle.nntp_article.specs.{Session.{Spool.{Spool}, Explains.{Explains}}, declared.session.profile.Profile.{Profile}}
-use Rattle.nntp_facts.proofs.Streams.{ExplainedOrBad.{first_explained}, OneOutcome.{same_answers}}
+use Rattle.nntp_theory.proofs.Streams.{ExplainedOrBad.{first_explained}, OneOutcome.{same_answers}}
 use Rattle.nntp_spool.{specs.Sessions.{RefusesAt}, proofs.PermittedPairs.{explained-unrefused}}
 use Rattle.nntp_several.specs.{Verifying.{VerifiedOfAll, PermitsAll, RefusesOne, IsVerifiedOfAll}, Sessions.{Recorded, ExplainsIt, ExplainsEach, OfEach}}
 use Rattle.nntp_several.{specs.Sessions.{answered_by, counts_of}, proofs.ExplainedSessions.{each_to, taken_to}}

@@ -4,9 +4,9 @@ use Rattle.nntp_wire.specs.Session.{prompts_of}
 use Rattle.nntp_article.specs.{Session.{Spool.{Spool}, Machine.{Run, start, fits}}, declared.session.profile.Profile.{Profile}}
 use Rattle.nntp_pair.specs.{declared.class.PairClass.{PairClass}, Pairing.{Paired, Unpaired, IsNext, AreNext, end, bad, IsPairing, asked_at, asked_of}}
 use Rattle.nntp_pair.specs.{Pairing.{responses_of, streams}, Classes.{class_of}}
-use Rattle.nntp_facts.specs.{Classes.{visible_from, class_by}, Given.{IsGiven, facts_of_session}, Inner.Given.{size}, Answered.{SomePermitsEach, facts_of_all}}
-use Rattle.nntp_facts.{specs.Noted.{exchanged, ArePermittedBehind}, proofs.Session.OneMoreAnswer.{facts_by_pairs, pairs_run}}
-use Rattle.nntp_facts.proofs.Streams.{ExplainedPairs.{by_all_pairs}, PairedStreams.{explained_end}}
+use Rattle.nntp_theory.specs.{Classes.{visible_from, class_by}, Given.{IsGiven, facts_of_session}, Inner.Given.{size}, Answered.{SomePermitsEach, facts_of_all}}
+use Rattle.nntp_theory.{specs.Permitted.{exchanged, ArePermittedBehind}, proofs.Session.OneMoreAnswer.{facts_by_pairs, pairs_run}}
+use Rattle.nntp_theory.proofs.Streams.{ExplainedPairs.{by_all_pairs}, PairedStreams.{explained_end}}
 use Rattle.nntp_several.specs.{Outcome.{YesOfAll, NoOfAll, IsLeastOfAll, IsOutcomeOfAll}, Inner.Paired.{ArePaired}, Sessions.{Recorded, ExplainsEach}}
 use Rattle.nntp_several.{specs.Sessions.{answered_by, counts_of}, proofs.{OneOutcomeOfAll.{given_explains_all}, SessionsRead.{Follows, octets_here, pair_here}}}
 use Rattle.nntp_several.proofs.SessionsRead.{outcome_at}

@@ -1,7 +1,7 @@
 -- What yes and no say of several sessions.
 use Rattle.std.specs.Prelude.{◌≡◌, ℕ, List, slice_get, MatchOption}
 use Rattle.nntp_article.specs.{declared.session.profile.Profile.{Profile}, Session.Spool.{Spool}}
-use Rattle.nntp_facts.specs.{Given.{IsGiven, HasAtLeast}, Classes.{HasClass}, Answered.{facts_of_all}}
+use Rattle.nntp_theory.specs.{Given.{IsGiven, HasAtLeast}, Classes.{HasClass}, Answered.{facts_of_all}}
 use Rattle.nntp_pair.specs.declared.class.Class.{Class}
 use Rattle.nntp_several.specs.Sessions.{Recorded, ExplainsAll, BadOfAll, answered_by, counts_of}
 

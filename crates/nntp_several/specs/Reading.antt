@@ -2,7 +2,7 @@
 use Rattle.std.specs.Prelude.{List, [], ◌∷◌, ◌++◌, ⊤}
 use Rattle.nntp_article.specs.declared.session.profile.Profile.{Profile}
 use Rattle.nntp_pair.specs.Pairing.{Paired, Ending}
-use Rattle.nntp_facts.specs.{Reading.{Judged, accepted_of, IsReadingBy}, Noted.{ArePermittedBehind}}
+use Rattle.nntp_theory.specs.{Reading.{Judged, accepted_of, IsReadingBy}, Permitted.{ArePermittedBehind}}
 use Rattle.nntp_several.specs.Sessions.{Recorded}
 
 -- a session as it is read

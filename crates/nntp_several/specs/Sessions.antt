@@ -2,7 +2,7 @@
 use Rattle.std.specs.{Prelude.{ℕ, List, [], ◌∷◌, length, map, take, slice_get, MatchOption, ⊤}, List.{AllByRecursion}}
 use Rattle.nntp_wire.specs.Session.{prompts_of}
 use Rattle.nntp_article.specs.{Session.{Spool.{Spool, IsSpool}, Explains.{Explains, BadAmong}}, declared.session.profile.Profile.{Profile}}
-use Rattle.nntp_facts.specs.Answered.{Answered}
+use Rattle.nntp_theory.specs.Answered.{Answered}
 
 -- what client and server sent in a session
 pub record Recorded : Type 0 where

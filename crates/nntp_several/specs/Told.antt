@@ -3,7 +3,7 @@ use Rattle.std.specs.Prelude.{◌⊎◌, ℕ, ◌<◌, List, [], ◌∷◌, ◌+
 use Rattle.nntp_several.specs.{Sessions.{Recorded}, Outcome.{NoOfAll, IsOutcomeOfAll}}
 use Rattle.nntp_article.specs.declared.session.profile.Profile.{Profile}
 use Rattle.nntp_pair.specs.declared.class.Class.{Class}
-use Rattle.nntp_facts.specs.Classes.{IsSettled}
+use Rattle.nntp_theory.specs.Classes.{IsSettled}
 
 -- the session with more octets
 abbrev pub with_more : Recorded → List ℕ → List ℕ → Recorded

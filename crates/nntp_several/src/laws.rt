@@ -3,20 +3,21 @@ ghost use Rattle.std.specs.Prelude.{Contains, ◌≡◌, ◌↔◌, ◌⊎◌, �
 ghost use Rattle.std.specs.List.{AllByRecursion};
 ghost use Rattle.nntp_article.specs.Session.Spool.{Spool};
 ghost use Rattle.nntp_article.specs.declared.session.profile.Profile.{Profile};
-ghost use Rattle.nntp_facts.specs.Given.{IsGiven};
-ghost use Rattle.nntp_facts.specs.Inner.Given.{size};
+ghost use Rattle.nntp_theory.specs.Given.{IsGiven};
+ghost use Rattle.nntp_theory.specs.Inner.Given.{size};
 ghost use Rattle.nntp_several.specs.Reading.{ReadSession, IsReadingOfAll};
 ghost use Rattle.nntp_several.specs.Inner.Reading.{IsGood, IsFirstBad};
 ghost use Rattle.nntp_pair.specs.declared.class.Class.{Class};
 ghost use Rattle.nntp_several.specs.Verifying.{VerifiedOfAll, PermitsAll, IsVerifiedOfAll};
 ghost use Rattle.nntp_pair.specs.declared.class.Class.TheVariants.{OutOfPlace, Contradiction as Contradicts};
-ghost use Rattle.nntp_facts.specs.Inner.Noted.{FactsKept, said_behind, HasNotedBehind, IsDue, IsNotedBehind, begun};
-ghost use Rattle.nntp_facts.specs.Noted.{exchanged, ArePermittedBehind};
-ghost use Rattle.nntp_facts.specs.Conflict.{placed_behind, SomeHas, told_with, below};
-ghost use Rattle.nntp_facts.specs.Inner.Conflict.{FitsThere};
+ghost use Rattle.nntp_facts.specs.Inner.Noted.{FactsKept, HasNotedBehind, IsDue, IsNotedBehind, begun};
+ghost use Rattle.nntp_theory.specs.Inner.Exchanged.{said_behind};
+ghost use Rattle.nntp_theory.specs.Permitted.{exchanged, ArePermittedBehind};
+ghost use Rattle.nntp_theory.specs.Conflict.{placed_behind, SomeHas, told_with, below};
+ghost use Rattle.nntp_theory.specs.Inner.Conflict.{FitsThere};
 ghost use Rattle.nntp_several.specs.Conflict.{placed_of_all};
-ghost use Rattle.nntp_facts.specs.declared.noted.Noted.TheVariants.{Consistent, OutOfPlace as NotedOutOfPlace, Contradiction};
-ghost use Rattle.nntp_facts.specs.Classes.{visible_from, class_by, HasClass, IsSettled};
+ghost use Rattle.nntp_theory.specs.declared.noted.Noted.TheVariants.{Consistent, OutOfPlace as NotedOutOfPlace, Contradiction};
+ghost use Rattle.nntp_theory.specs.Classes.{visible_from, class_by, HasClass, IsSettled};
 ghost use Rattle.nntp_pair.specs.Classes.{class_of};
 ghost use Rattle.nntp_pair.specs.Pairing.{Paired, Unpaired, IsNext, AreNext, Ends, end, bad, IsPairing, asked_at, asked_of, responses_of, streams};
 ghost use Rattle.nntp_pair.specs.declared.class.PairClass.{PairClass};
@@ -24,14 +25,14 @@ ghost use Rattle.nntp_several.specs.Inner.Paired.{ArePaired};
 ghost use Rattle.nntp_several.specs.Inner.Passing.{PassedOfAll};
 ghost use Rattle.nntp_several.specs.Told.{with_more, IsBadForGoodOfAll, IsToldBadOfAll};
 ghost use Rattle.nntp_article.specs.Session.Machine.{start, fits};
-ghost use Rattle.nntp_facts.specs.Answered.{SomePermitsEach, facts_of_all};
+ghost use Rattle.nntp_theory.specs.Answered.{SomePermitsEach, facts_of_all};
 ghost use Rattle.nntp_several.specs.Sessions.{Recorded, ExplainsEach, ExplainsAll, BadBehind, BadOfAll, answered_by, counts_of};
 ghost use Rattle.nntp_several.specs.Inner.Sessions.{octets_of};
 ghost use Rattle.nntp_several.specs.Outcome.{OutcomeOfAll, YesOfAll, NoOfAll, IsLeastOfAll, IsOutcomeOfAll};
 ghost use Rattle.nntp_several.specs.Inner.Outcome.{is_yes_of_all, of_one};
 ghost use Rattle.nntp_article.specs.Session.Explains.{Explains, Bad};
-ghost use Rattle.nntp_facts.specs.Reading.{IsReading};
-ghost use Rattle.nntp_facts.specs.Outcome.{Outcome, IsOutcome};
+ghost use Rattle.nntp_theory.specs.Reading.{IsReading};
+ghost use Rattle.nntp_theory.specs.Outcome.{Outcome, IsOutcome};
 
 /// Some spool explains several sessions, or exactly one answer is bad, and never both.
 pub fn sessions_are_explained_or_bad()

@@ -1,4 +1,4 @@
--- Pairs of a session that a spool permits, and the answers that it refuses (RFC 3977, section 3.5).
+-- The answer of a session that a spool refuses (RFC 3977, section 3.5).
 use Rattle.std.specs.Prelude.{◌≢◌, ℕ, List, []}
 use Rattle.nntp_article.specs.{Session.{Spool.{Spool}, Explains.{ExplainsUpTo, ExplainsFirst}}, declared.session.profile.Profile.{Profile}}
 

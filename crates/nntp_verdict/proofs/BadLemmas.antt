@@ -4,10 +4,11 @@ use Rattle.std.specs.Prelude.{IsTrue, is_some, ⊤}
 use Rattle.nntp_wire.specs.declared.{limit.Limit.{Limit}, marks.Marks.{Marks}}
 use Rattle.nntp_article.specs.{Session.Limit.{profile_of}, declared.session.profile.Profile.{Profile}}
 use Rattle.nntp_pair.specs.{declared.{class.{PairClass.{PairClass}, Class.{Class}}, octet_counts.OctetCounts.{OctetCounts}}, Pairing.{Unpaired, Ends, Ending}}
-use Rattle.nntp_pair.specs.{Pairing.{end, bad as pair_end}, Inner.{Pairing.{IsLasting}, Feeding.{EndsForGood}}, Feeding.{HasNext}, Classes.{class_of}}
+use Rattle.nntp_pair.specs.{Pairing.{end, bad as pair_end, HasNext}, Inner.{Pairing.{IsLasting}, Feeding.{EndsForGood}}, Classes.{class_of}}
 use Rattle.nntp_pair.proofs.{NextDecided.{next-or-end}, PairingLemmas.{index-counts}}
-use Rattle.nntp_facts.{specs.{Classes.{IsSettled}, Outcome.{No}, Inner.Noted.{FactsKept}}, proofs.Streams.OneClass.{bad_stays as answer_stays, class_stays}}
-use Rattle.nntp_facts.proofs.Streams.{OneClass.{settled_stays}, ClassAtTheEnd.{settled_lasts}}
+use Rattle.nntp_theory.{specs.{Classes.{IsSettled}, Outcome.{No}}, proofs.Streams.OneClass.{bad_stays as answer_stays, class_stays, settled_stays}}
+use Rattle.nntp_theory.proofs.Streams.ClassAtTheEnd.{settled_lasts}
+use Rattle.nntp_facts.specs.Inner.Noted.{FactsKept}
 use Rattle.nntp_several.specs.{Outcome.{NoOfAll}, Inner.Passing.{PassedOfAll}, Sessions.{Recorded}, Told.{IsBadForGoodOfAll, IsToldBadOfAll}}
 use Rattle.nntp_several.proofs.{BadForGood.{one_told_of_all}, ExplainedSessions.{explained_not_bad_of_all}, OneOutcomeOfAll.{one_outcome_of_all}}
 use Rattle.nntp_several.proofs.{OneOutcomeOfAll.{one_session_outcome}, PassingSessions.{paired_push}, SessionsRead.{earlier_then}, WaysToOutcome.{follows}}

@@ -4,10 +4,10 @@ use Rattle.std.proofs.Common.{slice_get, inl, inr, arith, append_assoc, append-n
 use Rattle.std.{proofs.lemmas.{Bool.{false≢true, true≢false}, Option.{slice_get_within}}, specs.Prelude.{MatchOption}}
 use Rattle.nntp_article.specs.{Session.Limit.{profile_of}, declared.session.profile.Profile.{Profile}}
 use Rattle.nntp_wire.specs.declared.{limit.Limit.{Limit}, marks.Marks.{Marks}}
-use Rattle.nntp_pair.specs.{Pairing.{Paired, Unpaired, IsNext, bad as pair_end}, declared.{class.PairClass.{PairClass}, octet_counts.OctetCounts.{OctetCounts}}}
-use Rattle.nntp_pair.specs.{declared.{peek.Peek.{Peek}, side.Side.{Side, TheVariants.{Client, Server}}, pair_error.PairError.{PairError}}, Inner.Feeding.{Fed}}
-use Rattle.nntp_pair.specs.Inner.{Feeding.{IsFed, IsTaken, IsPeek, EndsForGood, left_of, unfed, with_octets}, Sides.{given, counted, count_of}}
-use Rattle.nntp_pair.{specs.Feeding.{HasNext}, proofs.{FedLaws.{fed-paired}, NextLemmas.{next-no-end, next-shorter}}}
+use Rattle.nntp_pair.specs.{Pairing.{Paired, Unpaired, IsNext, bad as pair_end, HasNext}, declared.class.PairClass.{PairClass}}
+use Rattle.nntp_pair.specs.declared.{octet_counts.OctetCounts.{OctetCounts}, peek.Peek.{Peek}, side.Side.{Side, TheVariants.{Client, Server}}}
+use Rattle.nntp_pair.specs.{declared.pair_error.PairError.{PairError}, Inner.Feeding.{Fed, IsFed, IsTaken, IsPeek, EndsForGood, left_of, unfed, with_octets}}
+use Rattle.nntp_pair.{specs.Inner.Sides.{given, counted, count_of}, proofs.{FedLaws.{fed-paired}, NextLemmas.{next-no-end, next-shorter}}}
 use Rattle.nntp_facts.specs.Inner.Noted.{FactsKept, IsDue}
 use Rattle.nntp_several.{specs.{Sessions.{Recorded, BadBehind}, Told.{with_more}}, proofs.SessionsVerified.{as_many_counts}}
 use Rattle.nntp_verdict.specs.{Judging.{IsAnsweredThroughout, IsVerdictOfAll}, Inner.Judging.{IsVerdictFrom, IsNoForGood, IsNoAtWholeAnswer, HaveEnded, Passed}}

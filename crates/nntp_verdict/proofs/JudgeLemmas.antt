@@ -7,11 +7,11 @@ use Rattle.nntp_wire.specs.Frame.{frame_octets}
 use Rattle.nntp_article.specs.{Session.{Limit.{profile_of}, Machine.{Visible, visible_after, start}}, declared.session.profile.Profile.{Profile}}
 use Rattle.nntp_article.proofs.SessionLemmas.ClosingAnswers.{after-closes}
 use Rattle.nntp_pair.specs.Pairing.{Paired, Unpaired, IsNext, AreNext, Ends, IsBad, end, bad as pair_end, line_ahead, streams, asked_at, asked_of, responses_of}
-use Rattle.nntp_pair.specs.{declared.class.{PairClass.{PairClass}, Class.{Class, TheVariants.{OutOfPlace, Contradiction}}}, Feeding.{HasNext}}
+use Rattle.nntp_pair.specs.{Pairing.{HasNext}, declared.class.{PairClass.{PairClass}, Class.{Class, TheVariants.{OutOfPlace, Contradiction}}}}
 use Rattle.nntp_pair.{specs.Classes.{class_of}, proofs.PairingLemmas.{AreNext-push, index-counts}}
-use Rattle.nntp_facts.specs.{declared.noted.Noted.{Noted}, Answered.{facts_of_all}, Classes.{visible_from}, Given.{IsGiven}, Inner.Given.{size}}
-use Rattle.nntp_facts.specs.{Inner.Noted.{FactsKept, HasNotedBehind, IsDue, IsNotedBehind, begun}, Noted.{exchanged}}
-use Rattle.nntp_facts.proofs.Keeping.NotedSessions.{facts_behind, small_behind, session_begins}
+use Rattle.nntp_theory.specs.{declared.noted.Noted.{Noted}, Answered.{facts_of_all}, Classes.{visible_from}, Given.{IsGiven}, Inner.Given.{size}}
+use Rattle.nntp_theory.{specs.Permitted.{exchanged}, proofs.Given.SessionsGoOn.{facts_behind, small_behind}}
+use Rattle.nntp_facts.{specs.Inner.Noted.{FactsKept, HasNotedBehind, IsDue, IsNotedBehind, begun}, proofs.Keeping.NotedSessions.{session_begins}}
 use Rattle.nntp_spool.{specs.{Limited.{LimitedSpool}, Inner.Text.{IsWritten}}, proofs.WholeSpools.{written_is_read}}
 use Rattle.nntp_several.specs.{Outcome.{NoOfAll, IsOutcomeOfAll}, Inner.{Paired.{ArePaired}, Passing.{PassedOfAll}}, Sessions.{Recorded}}
 use Rattle.nntp_several.proofs.PassingSessions.{paired_push, as_many_sessions, earlier_permitted, passing_stops, passing_contradicted, passing_unfitting}
@@ -22,7 +22,7 @@ use Rattle.nntp_verdict.specs.{Judging.{pair_class_of}, Inner.{Judging.{IsVerdic
 use Rattle.nntp_verdict.specs.Verdict.{consistent, bad, JudgementOfAll, consistent_of_all, bad_of_all, sessions_verdict_shown}
 use Rattle.nntp_verdict.proofs.VerdictLaws.{one_session_verdict, verdict_at_ends, verdict_within}
 use Rattle.nntp_pair.specs.declared.class.PairClass.TheVariants as pair
-use Rattle.nntp_facts.specs.declared.noted.Noted.TheVariants as kinds
+use Rattle.nntp_theory.specs.declared.noted.Noted.TheVariants as kinds
 
 -- what is left of both streams is closed exactly if the visible state is
 closed-by : (v : Visible) (before left : Unpaired) (pairs : List Paired) → before.is_closed ≡ v.closed

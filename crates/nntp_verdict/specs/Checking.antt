@@ -1,8 +1,8 @@
--- Judging the streams of sessions as they come, in pieces.
+-- Which answer is told to be bad before the streams of sessions have ended.
 use Rattle.std.specs.Prelude.{ℕ, List, Option, MatchOption}
 use Rattle.nntp_article.specs.declared.session.profile.Profile.{Profile}
 use Rattle.nntp_pair.specs.declared.class.Class.{Class}
-use Rattle.nntp_facts.specs.{Classes.{IsSettled}, Outcome.{No, IsOutcome}}
+use Rattle.nntp_theory.specs.{Classes.{IsSettled}, Outcome.{No, IsOutcome}}
 
 -- the answer is bad, of its class, and no octets that follow change that
 abbrev pub IsBadForGood : Profile → List ℕ → List ℕ → ℕ → Class → Type 0

@@ -1,9 +1,9 @@
 -- What a verdict on sessions says, and where it stands: at the ends of their pairings, or at the exchange or the octets that are bad (RFC 3977, section 3.5).
 use Rattle.std.specs.{Prelude.{◌≡◌, ◌≢◌, ℕ, List, [], Option, None, Some, MatchOption, Ok, length, slice_get}, Option.{option_map}}
 use Rattle.nntp_wire.specs.declared.{limit.Limit.{Limit}, marks.Marks.{Marks}}
-use Rattle.nntp_pair.specs.{Pairing.{Paired, Unpaired, AreNext, IsBad, IsPairing, end, line_ahead, streams}, Feeding.{HasNext}}
-use Rattle.nntp_pair.specs.declared.class.{PairClass.{PairClass}, Class.{Class, TheVariants.{Surplus, Cut, Malformed, OutOfPlace, Contradiction}}}
-use Rattle.nntp_facts.specs.Outcome.{Yes, No, IsOutcome}
+use Rattle.nntp_pair.specs.{Pairing.{Paired, Unpaired, AreNext, IsBad, IsPairing, end, line_ahead, streams, HasNext}, declared.class.PairClass.{PairClass}}
+use Rattle.nntp_pair.specs.declared.class.Class.{Class, TheVariants.{Surplus, Cut, Malformed, OutOfPlace, Contradiction}}
+use Rattle.nntp_theory.specs.Outcome.{Yes, No, IsOutcome}
 use Rattle.nntp_article.specs.{declared.session.profile.Profile.{Profile}, Session.Limit.{profile_of}}
 use Rattle.nntp_spool.specs.{Limited.{LimitedSpool}, Reading.{spool_at}, Text.{spool_text}, Verifying.{IsVerified}}
 use Rattle.nntp_spool.specs.declared.verification.verified.Verified.{Verified, TheVariants.{Permits}}

@@ -2,7 +2,7 @@
 ghost use Rattle.std.specs.Prelude.{◌≡◌, [], ◌∷◌, ◌++◌, ℕ, List, true, false, None, IfOk, MatchOption, MatchResult};
 ghost use Rattle.nntp_article.specs.Session.Limit.{profile_of};
 ghost use Rattle.nntp_article.specs.declared.session.profile.Profile.{Profile};
-ghost use Rattle.nntp_pair.specs.Feeding.{HasNext};
+ghost use Rattle.nntp_pair.specs.Pairing.{HasNext};
 ghost use Rattle.nntp_pair.specs.Inner.Feeding.{left_of};
 ghost use Rattle.nntp_pair.specs.declared.side.Side.TheVariants.{Client, Server};
 ghost use Rattle.nntp_several.specs.Sessions.{Recorded};

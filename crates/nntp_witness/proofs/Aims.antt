@@ -2,9 +2,10 @@
 use Rattle.std.{proofs.Common.{List, [], ◌∷◌, ◌++◌, map, refl, sym, subst}, specs.List.{AllByRecursion}}
 use Rattle.nntp_article.specs.{declared.session.profile.Profile.{Profile}, Session.Spool.{Spool}}
 use Rattle.nntp_pair.specs.Pairing.{Paired}
-use Rattle.nntp_facts.specs.{Answered.{Answered}, Given.{IsGiven}, Inner.{Noted.{FactsKept, HasNotedBehind, profile_kept, said_behind}, Kept.{AreKeptArticles}}}
-use Rattle.nntp_facts.{specs.Noted.{exchanged}, proofs.Given.SessionsByFacts.{given_exists_of_all, given_permits_all, made_for_all, said_each, stand_each}}
-use Rattle.nntp_facts.proofs.Keeping.NotedSessions.{facts_behind, small_behind}
+use Rattle.nntp_theory.specs.{Answered.{Answered}, Given.{IsGiven}, Permitted.{exchanged}, Inner.Exchanged.{said_behind}}
+use Rattle.nntp_theory.proofs.Given.{SessionsByFacts.{given_exists_of_all, given_permits_all, made_for_all, said_each, stand_each}, SessionsGoOn.{facts_behind}}
+use Rattle.nntp_theory.proofs.Given.SessionsGoOn.{small_behind}
+use Rattle.nntp_facts.specs.Inner.{Noted.{FactsKept, HasNotedBehind, profile_kept}, Kept.{AreKeptArticles}}
 use Rattle.nntp_said.specs.Facts.{Fact, Holds}
 use Rattle.nntp_witness.specs.Inner.Witness.{HaveNoted, IsGivenSpool, IsWitness}
 

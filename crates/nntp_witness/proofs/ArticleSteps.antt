@@ -6,9 +6,10 @@ use Rattle.std.specs.{Cmp.Lexicographic.{slice_cmp, nat_list_cmp_total, same_tex
 use Rattle.nntp_wire.{proofs.OptionLemmas.{none_of, some_is}, specs.declared.limit.Limit.{Limit}}
 use Rattle.nntp_article.specs.{Article.Parts.{Id}, Session.{Machine.{is_same}, Spool.{Spool, Text}}}
 use Rattle.nntp_said.specs.Facts.{Fact, IdAt, TextIs, Holds}
-use Rattle.nntp_facts.specs.{Given.{IsGiven, mentions, is_mentioned, gives_article, plain_head}, Inner.Readers.{ShownArticle, IsShownArticle, AreShownArticles}}
-use Rattle.nntp_facts.{specs.Together.{shows_article}, proofs.{Given.ConstructedSpool.{names_apart}, Members.{In, all_at, all_from, any_in, found_in}}}
-use Rattle.nntp_facts.proofs.Together.FactsOfASpoolStand.{same_itself}
+use Rattle.nntp_theory.specs.{Given.{IsGiven, mentions, is_mentioned, gives_article, plain_head}, Together.{shows_article}}
+use Rattle.nntp_theory.proofs.{Given.ConstructedSpool.{names_apart}, Members.{In, all_at, all_from, any_in, found_in}}
+use Rattle.nntp_theory.proofs.Together.FactsOfASpoolStand.{same_itself}
+use Rattle.nntp_facts.specs.Inner.Readers.{ShownArticle, IsShownArticle, AreShownArticles}
 use Rattle.nntp_spool.specs.{Inner.Building.{Building, Builds, article_fault}, Content.{with_article}, declared.value.spool_fault.SpoolFault.{SpoolFault}}
 use Rattle.nntp_spool.proofs.MapEntries.{apart, got_more}
 use Rattle.nntp_witness.specs.Inner.{Witness.{IsGivenSpool}, Making.{Makes, IsPart, IsBegun, GroupsLeft, ArticlesLeft, given_text}}

@@ -7,8 +7,9 @@ use Rattle.nntp_wire.{specs.{Decided.{is_group_name, is_message_id}, Limit.{grea
 use Rattle.nntp_article.specs.{Article.Parts.{Id, Line}, Session.{Machine.{is_article_number}, Spool.{Spool, Name, Numbers, Text, IsGroup, IsSpool, numbers}}}
 use Rattle.nntp_article.specs.Session.Spool.{is_line}
 use Rattle.nntp_said.specs.Facts.{Fact, TextIs}
-use Rattle.nntp_facts.specs.{Given.{mentions, is_mentioned, first_given, head_in, body_in, plain_head, IsGiven}, Inner.Articles.{head_sent, body_sent}}
-use Rattle.nntp_facts.proofs.{Given.GivenHolds.{group_of_number}, Maps.{in_get}, Members.{found_in}, Keeping.SaidOfArticles.{head_of_text, body_of_text}}
+use Rattle.nntp_theory.{specs.Given.{mentions, is_mentioned, first_given, head_in, body_in, plain_head, IsGiven}, proofs.Given.GivenHolds.{group_of_number}}
+use Rattle.nntp_theory.proofs.{Maps.{in_get}, Members.{found_in}}
+use Rattle.nntp_facts.{specs.Inner.Articles.{head_sent, body_sent}, proofs.Keeping.SaidOfArticles.{head_of_text, body_of_text}}
 use Rattle.nntp_spool.specs.{Inner.Building.{group_fault, number_fault, article_fault}, Content.{is_head_of}, Numbers.{has_id}}
 use Rattle.nntp_spool.proofs.WholeSpools.{content_of_spool}
 use Rattle.nntp_witness.specs.Inner.Making.{IsPart}

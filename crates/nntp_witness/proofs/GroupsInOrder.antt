@@ -5,9 +5,9 @@ use Rattle.std.specs.{Cmp.Lexicographic.{slice_cmp, same_text, nat_list_cmp_tota
 use Rattle.nntp_wire.specs.declared.limit.Limit.{Limit}
 use Rattle.nntp_article.specs.{Article.Parts.{Id}, Session.{Machine.{is_same}, Spool.{Spool, Name, Numbers, IsGroup, numbers}}}
 use Rattle.nntp_said.specs.Facts.{Fact}
-use Rattle.nntp_facts.specs.{Given.{id_shown, unshown_in, unshown_ids, AreInvented, IsGiven}, Inner.Readers.{ShownGroup, HasShownNumbers, AreShownGroups}}
-use Rattle.nntp_facts.proofs.{Given.ConstructedSpool.{names_apart}, Maps.{in_get}, Members.{In, all_from, any_in, found_in, in_map, from_map}}
-use Rattle.nntp_facts.proofs.Keeping.FactsOfOneGroup.{same_self}
+use Rattle.nntp_theory.{specs.Given.{id_shown, unshown_in, unshown_ids, AreInvented, IsGiven}, proofs.{Given.ConstructedSpool.{names_apart}, Maps.{in_get}}}
+use Rattle.nntp_theory.proofs.{Members.{In, all_from, any_in, found_in, in_map, from_map}, Together.FactsOfASpoolStand.{same_itself}}
+use Rattle.nntp_facts.specs.Inner.Readers.{ShownGroup, HasShownNumbers, AreShownGroups}
 use Rattle.nntp_spool.specs.Content.{no_spool}
 use Rattle.nntp_witness.{specs.Inner.Making.{given_numbers, unshown_at, unshown_of, IsPart, GroupsLeft}, proofs.GroupNumbers.{keys_listed, given_keys}}
 use Rattle.nntp_witness.proofs.GroupNumbers.{given_ids}
@@ -69,7 +69,7 @@ module _ (facts : List Fact) (G : Spool) (given : IsGiven facts G) where
     pub shown_is_group : (name : Name) → In name (map (λ g. g.name) groups) → IsGroup G name
     shown_is_group name i =
         let f = from_map (λ (g : ShownGroup). g.name) name groups i in
-        (given.groups name).1 (sym (shown.all name) ∙ any_in (λ (g : ShownGroup). is_same g.name name) f.0 groups f.1 (ap (λ n. is_same n name) f.2 ∙ same_self name))
+        (given.groups name).1 (sym (shown.all name) ∙ any_in (λ (g : ShownGroup). is_same g.name name) f.0 groups f.1 (ap (λ n. is_same n name) f.2 ∙ same_itself name))
 
     -- its name is one of the names
     name_listed : (name : Name) → IsGroup G name → In name (map (λ g. g.name) groups)

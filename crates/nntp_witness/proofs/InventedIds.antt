@@ -2,7 +2,7 @@
 use Rattle.std.proofs.{Common.{◌≡◌, ℕ, ◌+◌, ◌<◌, ◌≤◌, Bool, true, false, IsTrue, List, sym, ap, subst, ◌∙◌, arith, inl, inr}, lemmas.Bool.{cases_lt}}
 use Rattle.nntp_article.specs.Article.Parts.{Id}
 use Rattle.nntp_said.specs.Facts.{Fact}
-use Rattle.nntp_facts.specs.Given.{is_mentioned, invented, IsFirstFree}
+use Rattle.nntp_theory.specs.Given.{is_mentioned, invented, IsFirstFree}
 
 -- the ids that are invented with these numbers are mentioned
 abbrev pub AreTaken : List Fact → ℕ → ℕ → Type 0

@@ -6,7 +6,7 @@ use Rattle.std.specs.FinMap.{nat_cmp-IsAntisymmetric}
 use Rattle.nntp_article.{proofs.SessionLemmas.FiniteMapsDecided.{dec_texts}, specs.{Article.Parts.{Id}, Session.Spool.{Spool, Name, Numbers, Text, IsGroup}}}
 use Rattle.nntp_article.specs.Session.Spool.{numbers}
 use Rattle.nntp_said.specs.Facts.{Fact}
-use Rattle.nntp_facts.specs.Given.{id_shown}
+use Rattle.nntp_theory.specs.Given.{id_shown}
 use Rattle.nntp_spool.{specs.Content.{with_group}, proofs.{MapEntries.{tied_itself, got_more}, ShownMaps.{octet_keys}}}
 use Rattle.nntp_witness.specs.Inner.Making.{IsPart}
 

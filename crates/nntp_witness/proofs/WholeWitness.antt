@@ -5,8 +5,8 @@ use Rattle.std.specs.{Cmp.Lexicographic.{nat_list_cmp_total}, FinMap.{get, empty
 use Rattle.nntp_wire.specs.{Limit.{greatest}, declared.limit.Limit.{Limit}}
 use Rattle.nntp_article.specs.{Article.Parts.{Id}, Session.{Machine.{is_same}, Spool.{Spool, Name, Text, numbers}}}
 use Rattle.nntp_said.specs.Facts.{Fact, IdAt, TextIs}
-use Rattle.nntp_facts.{specs.{Given.{IsGiven, id_in, id_shown, is_sent, gives_article}, Together.{shows_article}}, proofs.Given.ConstructedSpool.{names_apart}}
-use Rattle.nntp_facts.proofs.{Members.{any_in, found_in, first_found}, Together.FactsOfASpoolStand.{same_itself}}
+use Rattle.nntp_theory.{specs.{Given.{IsGiven, id_in, id_shown, is_sent, gives_article}, Together.{shows_article}}, proofs.Given.ConstructedSpool.{names_apart}}
+use Rattle.nntp_theory.proofs.{Members.{any_in, found_in, first_found}, Together.FactsOfASpoolStand.{same_itself}}
 use Rattle.nntp_spool.specs.{Inner.Building.{Building, finished}, Content.{ids_have_articles}, Limited.{LimitedSpool}}
 use Rattle.nntp_spool.{specs.declared.value.spool_fault.SpoolFault.{SpoolFault}, proofs.{ShownMaps.{spool_is}, WholeSpools.{spool_knows}}}
 use Rattle.nntp_witness.specs.Inner.{Witness.{IsGivenSpool}, Making.{ArticlesLeft}}

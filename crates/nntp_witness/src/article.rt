@@ -2,7 +2,7 @@
 ghost use Rattle.std.specs.Prelude.{◌≡◌, [], IfOk, unwrap_or};
 ghost use Rattle.std.specs.Rc.{rc_str_bytes};
 ghost use Rattle.nntp_wire.specs.Name.{IsMessageId};
-ghost use Rattle.nntp_facts.specs.Given.{plain_head};
+ghost use Rattle.nntp_theory.specs.Given.{plain_head};
 ghost use Rattle.nntp_witness.specs.Inner.Making.{Makes};
 
 use nntp_facts::ShownArticle;

@@ -2,7 +2,7 @@
 ghost use Rattle.std.specs.Prelude.{◌≡◌, ◌-◌, ◌<◌, ◌^◌, List, IfOk};
 ghost use Rattle.std.specs.Rc.{rc_str_bytes};
 ghost use Rattle.nntp_said.specs.Facts.{Fact};
-ghost use Rattle.nntp_facts.specs.Given.{invented, is_mentioned, IsFirstFree};
+ghost use Rattle.nntp_theory.specs.Given.{invented, is_mentioned, IsFirstFree};
 ghost use Rattle.nntp_witness.specs.Inner.Witness.{HaveArticles};
 
 use itoa::Buffer;

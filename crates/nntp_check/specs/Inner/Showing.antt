@@ -1,6 +1,6 @@
 -- Showing sessions as they come.
 use Rattle.std.specs.{Prelude.{◌≡◌, ℕ, Bool, true, false, List, length}, List.{flat_map}}
-use Rattle.nntp_pair.specs.{Pairing.{Paired}, Inner.Feeding.{Fed, IsFed, left_of}, Feeding.{HasNext}}
+use Rattle.nntp_pair.specs.{Pairing.{Paired, HasNext}, Inner.Feeding.{Fed, IsFed, left_of}}
 use Rattle.nntp_several.specs.Sessions.{Recorded, Named}
 use Rattle.nntp_check.specs.{Capture.{Held}, Show.{ShownSession, AreShown, IsShownAs, are_answered, exchange_text, is_end, session_text, shown_report}}
 use Rattle.nntp_check.specs.declared.session_printer.SessionPrinter.{SessionPrinter}

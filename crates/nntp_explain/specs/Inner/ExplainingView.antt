@@ -4,8 +4,9 @@ use Rattle.std.specs.Option.{option_copied, option_map, option_map_or}
 use Rattle.nntp_wire.specs.{Answer.{Asked}, Misspelling.{misspelling}}
 use Rattle.nntp_article.specs.{Session.Misfit.{misfit}, declared.session.profile.Profile.{Profile}}
 use Rattle.nntp_pair.specs.{Pairing.{Paired, Unpaired, asked_at, streams}, declared.class.Class.{Class}}
-use Rattle.nntp_facts.specs.{Conflict.{Placed, placed_of, SomeHas, told_with, below}, Inner.{Conflict.{FitsThere}, Noted.{FactsKept, HasNotedBehind, begun}}}
-use Rattle.nntp_facts.specs.{Inner.Noted.{profile_kept}, Noted.{ArePermittedBehind}, Reading.{Judged, accepted_of, AreJudged, IsReadingBy}}
+use Rattle.nntp_theory.specs.{Conflict.{Placed, placed_of, SomeHas, told_with, below}, Inner.Conflict.{FitsThere}, Permitted.{ArePermittedBehind}}
+use Rattle.nntp_theory.specs.Reading.{Judged, accepted_of, AreJudged, IsReadingBy}
+use Rattle.nntp_facts.specs.Inner.Noted.{FactsKept, HasNotedBehind, begun, profile_kept}
 use Rattle.nntp_several.specs.{Conflict.{placed_of_all}, Reading.{ReadSession, IsReadingOfAll}, Sessions.{Named, Recorded, unnamed}}
 use Rattle.nntp_printing.specs.Title.{title_line}
 use Rattle.nntp_explain.specs.declared.{standing.{Standing.{Standing as StandingCode}, Cited.{Cited as CitedCode}}, explainer.Explainer.{Explainer}}

@@ -5,10 +5,11 @@ use Rattle.std.specs.{declared.cmp.Ordering.TheVariants.{Less}, Ordering.{nat_cm
 use Rattle.std.specs.FinMap.{entries, entries_sorted}
 use Rattle.nntp_article.specs.{Article.Parts.{Id}, Session.Machine.{is_same}}
 use Rattle.nntp_said.specs.Facts.{Fact}
-use Rattle.nntp_facts.specs.{Together.{shows_article}, Inner.{Together.{SaidOfArticle, said_of}, Kept.{KeptArticle, said_kept, AreKeptArticles}}}
-use Rattle.nntp_facts.specs.Inner.{Articles.{is_there, articles_in}, Readers.{ShownArticle, IsShownArticle, AreShownArticles, shown_article, shown_articles}}
-use Rattle.nntp_facts.proofs.{Keeping.{KeptArticles.{shown_kept, listed}, GroupReaders.{read_off, all_along}}, Maps.{sorted_keys}, Members.{in_map, from_map}}
-use Rattle.nntp_facts.proofs.{Members.{any_in, found_in}, Together.FactsOfASpoolStand.{same_itself}}
+use Rattle.nntp_theory.{specs.{Together.{shows_article}, Inner.Together.{SaidOfArticle, said_of}}, proofs.{Maps.{sorted_keys}, Members.{in_map, from_map}}}
+use Rattle.nntp_theory.proofs.{Members.{any_in, found_in}, Together.FactsOfASpoolStand.{same_itself}}
+use Rattle.nntp_facts.specs.Inner.{Kept.{KeptArticle, said_kept, AreKeptArticles}, Articles.{is_there, articles_in}, Readers.{ShownArticle, IsShownArticle}}
+use Rattle.nntp_facts.{specs.Inner.Readers.{AreShownArticles, shown_article, shown_articles}, proofs.Keeping.KeptArticles.{shown_kept, listed}}
+use Rattle.nntp_facts.proofs.Keeping.GroupReaders.{read_off, all_along}
 
 -- ---- order
 

@@ -4,10 +4,10 @@ use Rattle.std.{proofs.{Common.{append_assoc}, lemmas.{Bool.{or_left, or_right},
 use Rattle.nntp_wire.specs.Listing.{ActiveValue}
 use Rattle.nntp_article.specs.{Article.Parts.{Id}, Session.{Spool.{Name}, Machine.{is_same}}}
 use Rattle.nntp_said.specs.{Asks.{Bounds}, Facts.{Fact, GroupsAre}}
-use Rattle.nntp_facts.specs.{Given.{asks_of, shows_group, is_shown_group, first_given, id_in}, Together.{number_in}, Inner.Kept.{told, IsKeptGroup, IsUntold}}
-use Rattle.nntp_facts.{specs.Inner.{Kept.{AreKeptGroups, with_part, Changes}, ListedGroups.{is_listed}}, proofs.Together.TwoListsOfFacts.{any_more}}
-use Rattle.nntp_facts.proofs.{Together.{TwoListsOfFacts.{given_silent, or_none}, FactsJoin.{asks_append}}, Keeping.SilentFacts.{told_same}}
-use Rattle.nntp_facts.proofs.Keeping.{FactsOfOneGroup.{same_self}, KeptGroups.{Groups}, ListedGroups.{bounds_in}}
+use Rattle.nntp_theory.specs.{Given.{asks_of, shows_group, is_shown_group, first_given, id_in}, Together.{number_in}}
+use Rattle.nntp_theory.proofs.Together.{TwoListsOfFacts.{any_more, given_silent, or_none}, FactsJoin.{asks_append}, FactsOfASpoolStand.{same_itself}}
+use Rattle.nntp_facts.specs.Inner.{Kept.{told, IsKeptGroup, IsUntold, AreKeptGroups, with_part, Changes}, ListedGroups.{is_listed}}
+use Rattle.nntp_facts.proofs.Keeping.{SilentFacts.{told_same}, KeptGroups.{Groups}, ListedGroups.{bounds_in}}
 
 -- of no group that is listed nothing is told
 pub none_bound : (facts : List Fact) (p : Option (List ℕ)) (groups : Groups) → AreKeptGroups facts groups → AreKeptGroups (facts ++ GroupsAre p [] ∷ []) groups
@@ -56,7 +56,7 @@ module _ (facts : List Fact) (p : Option (List ℕ)) where
         any_more (shows_group line.name) facts (GroupsAre p (lines ++ line ∷ []))
         ∙ or_right (is_shown_group facts line.name) (is_listed (lines ++ line ∷ []) line.name)
         (listed_more line.name ∙ or_right (is_listed lines line.name) (is_same line.name line.name || false)
-        (or_left (is_same line.name line.name) false (same_self line.name)))
+        (or_left (is_same line.name line.name) false (same_itself line.name)))
 
     shown_elsewhere : (name : Name) → is_same line.name name ≡ false → is_shown_group (listing (lines ++ line ∷ [])) name ≡ is_shown_group (listing lines) name
     shown_elsewhere name e =
@@ -69,7 +69,7 @@ module _ (facts : List Fact) (p : Option (List ℕ)) where
     one_more_bound = record {
       here = λ i. record {
         is_shown = shown_here i;
-        asks = asks_more line.name true (same_self line.name) i;
+        asks = asks_more line.name true (same_itself line.name) i;
         ids = λ n. (same_ids line.name n (lines ++ line ∷ []) lines ∙ sym (or_none _)) i;
         places = λ id. (same_places line.name id (lines ++ line ∷ []) lines ∙ sym (or_none _)) i;
       };

@@ -1,14 +1,13 @@
 -- Finding the answers with which a bad one conflicts.
-use Rattle.std.proofs.Common.{arith, zero, suc, ◌+◌, ◌*◌, ◌^◌, ◌<◌, ◌≤◌, ◌≡◌, ◌⊎◌, ℕ, Bool, true, false, IsTrue, Option, None, Some, inl, inr, refl, sym, ap}
-use Rattle.std.proofs.{Common.{subst, ◌∙◌, List, [], ◌∷◌, ◌++◌, length, length-append, append-nil, append_assoc, take, get_or}, lemmas.Bool.{and_from}}
-use Rattle.std.{proofs.lemmas.{Bool.{cases_lt, Decides.{nat_tests}}, List.{take_more}}, specs.{Prelude.{Contains, MatchOption, nat_lt}, Bool.{then_some}}}
-use Rattle.std.specs.List.{AllByRecursion}
+use Rattle.std.proofs.Common.{arith, zero, suc, ◌+◌, ◌*◌, ◌^◌, ◌<◌, ◌≤◌, ◌≡◌, ℕ, Bool, true, false, IsTrue, Option, None, Some, inl, inr, refl, sym, ap, subst}
+use Rattle.std.proofs.{Common.{◌∙◌, List, [], ◌∷◌, ◌++◌, length, length-append, append-nil, append_assoc, take, get_or}, lemmas.Bool.{and_from, cases_lt}}
+use Rattle.std.{proofs.lemmas.{Bool.Decides.{nat_tests}, List.{take_more}}, specs.{Prelude.{MatchOption, nat_lt}, Bool.{then_some}, List.{AllByRecursion}}}
 use Rattle.nntp_article.specs.{Session.Machine.{is_ascending}, declared.session.profile.Profile.{Profile}}
-use Rattle.nntp_facts.specs.Inner.{Given.{size}, Together.{Together}, Conflict.{FitsThere, AreFound, IsPartOfCore}, Kept.{Kept, IsKept}, Told.{AreTold}}
-use Rattle.nntp_facts.specs.{Inner.Told.{AreToldWith, PlacesTold}, Conflict.{Placed, told, told_with, SomeHas, below, AreAmong, IsEndOfCore, IsFound}}
-use Rattle.nntp_facts.proofs.Members.{In, all_at, all_from, in_front, in_back, in_cases, contains_in, in_contains, every}
-use Rattle.nntp_facts.proofs.{Given.FirstBadAnswer.{none_permitted}, Together.FactsOfASpoolStand.{stand}, Conflicts.{with_told, told_together, fewer_places}}
-use Rattle.nntp_facts.proofs.Conflicts.{from_below, core_step, core_done, found_in_each}
+use Rattle.nntp_theory.specs.{Inner.{Given.{size}, Together.{Together}, Conflict.{FitsThere, AreFound, IsPartOfCore}}, Conflict.{Placed, told, told_with}}
+use Rattle.nntp_theory.{specs.Conflict.{SomeHas, below, IsFound}, proofs.Members.{In, all_at, all_from, in_front, in_back, in_cases, contains_in, in_contains}}
+use Rattle.nntp_theory.proofs.{Members.{every}, Given.FirstBadAnswer.{none_permitted}, Together.FactsOfASpoolStand.{stand}, Conflicts.{with_told}}
+use Rattle.nntp_theory.proofs.Conflicts.{told_together, fewer_places, core_step, core_done, found_in_each}
+use Rattle.nntp_facts.specs.Inner.{Kept.{Kept, IsKept}, Told.{AreTold, AreToldWith, PlacesTold}}
 
 -- ---- places
 
@@ -176,30 +175,3 @@ module _ (profile : Profile) (bad : Placed) (answers : List Placed) where
               (found_in_each profile bad answers bound places some k p (λ j t. in_contains j (below bound ++ places) (among j (contains_in j some t))) none (in_contains k places i));
         };
       }
-
--- ---- the end of a core
-
--- one of the places is below the bound, or none is
-low_or_not : (bound : ℕ) (places : List ℕ) → ((k : ℕ) × (k < bound) × In k places) ⊎ ((k : ℕ) → In k places → bound ≤ k)
-low_or_not bound [] = inr (λ k i. absurd i)
-low_or_not bound (j ∷ places) = elim (cases_lt j bound) [
-  | inl l ↦ inl (j, l, inl refl)
-  | inr le ↦ elim (low_or_not bound places) [
-    | inl there ↦ inl (there.0, there.1, inr there.2)
-    | inr none ↦ inr (λ k i. elim i [ inl e ↦ omega (arith, le, e) | inr more ↦ none k more ])
-  ]
-]
-
--- each conflict among those below the bound and those at the places has one below the bound
-pub one_below : (profile : Profile) (bad : Placed) (answers : List Placed) (bound : ℕ) (places some : List ℕ) → IsEndOfCore profile bad answers bound places
-    → AreAmong some (below bound ++ places) → (SomeHas profile (told_with profile bad answers some) → ⊥) → (k : ℕ) × (k < bound) × Contains some k
-one_below profile bad answers bound places some e among none = elim (low_or_not bound some) [
-  | inl there ↦ (there.0, there.1, contains_in there.0 some there.2)
-  | inr high ↦ absurd (none (fewer_places profile bad answers some places (sub high) e.stand))
-]
-  where
-    sub : ((k : ℕ) → In k some → bound ≤ k) → (k : ℕ) → In k some → In k places
-    sub high k i = elim (in_cases k (below bound) places (in_contains k (below bound ++ places) (among k (contains_in k some i)))) [
-      | inl low ↦ (let l = from_below k bound low in let le = high k i in absurd (omega (arith, l, le)))
-      | inr there ↦ there
-    ]

@@ -5,9 +5,10 @@ use Rattle.std.specs.{List.{list_any, list_all, filter}, Option.{option_map_or},
 use Rattle.nntp_wire.{specs.{Decided.{is_group_name, matches_name}, Inner.Decided.{is_asked}, Listing.{ActiveValue}}, proofs.DecidedLemmas.{group_name-iff}}
 use Rattle.nntp_article.{specs.Session.{Spool.{Name}, Machine.{is_same, names_differ}}, proofs.SessionLemmas.MatchingGroups.{as_many, each_listed}}
 use Rattle.nntp_said.specs.Facts.{Fact, GroupsAre}
-use Rattle.nntp_facts.specs.{Given.{shows_group, is_shown_group}, Together.{denies_group}, Inner.{Together.{Together}, Kept.{told, AreKeptGroups, asked_count}}}
-use Rattle.nntp_facts.{specs.Inner.ListedGroups.{MayList, WereListed, is_listed, shown_lines, NoneIsMissing}, proofs.Members.{In, in_contains, contains_in}}
-use Rattle.nntp_facts.proofs.{Members.{in_front, all_at, any_in, found_in}, Keeping.{KeptGroups.{Groups, shown_kept}, ShownNames.{shown_named}}}
+use Rattle.nntp_theory.{specs.{Given.{shows_group, is_shown_group}, Together.{denies_group}, Inner.Together.{Together}}, proofs.Members.{In, in_contains}}
+use Rattle.nntp_theory.proofs.{Members.{contains_in, in_front, all_at, any_in, found_in}, Given.ShownNames.{shown_named}}
+use Rattle.nntp_facts.specs.Inner.{Kept.{told, AreKeptGroups, asked_count}, ListedGroups.{MayList, WereListed, is_listed, shown_lines, NoneIsMissing}}
+use Rattle.nntp_facts.proofs.Keeping.KeptGroups.{Groups, shown_kept}
 
 -- groups that were listed are so behind more facts
 pub listed_still : (facts more : List Fact) (p : Option (List ℕ)) (count : ℕ) → WereListed facts p count → WereListed (facts ++ more) p count

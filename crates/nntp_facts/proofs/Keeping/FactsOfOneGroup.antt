@@ -4,11 +4,9 @@ use Rattle.std.{proofs.lemmas.Bool.{and_parts, and_from, eqb-true, eq-eqb, cases
 use Rattle.std.specs.Cmp.{unsigned_tied, Lexicographic.{slice_cmp, same_text, texts_ties, nat_list_eq_equiv}}
 use Rattle.nntp_article.specs.{Article.Parts.{Id}, Session.{Spool.{Name}, Machine.{is_same}}}
 use Rattle.nntp_said.specs.{Asks.{Ask}, Facts.{Fact}}
-use Rattle.nntp_facts.specs.{Given.{asks_of, first_given, id_in}, Together.{number_in}, Inner.{Together.{GiveSame, JoinIds}, Kept.{told, MayShow, id_of}}}
-use Rattle.nntp_facts.{specs.Inner.Kept.{place_of}, proofs.Together.TwoListsOfFacts.{none_if, both_if}}
-
-pub same_self : (xs : List ℕ) → is_same xs xs ≡ true
-same_self xs = nat_list_eq_equiv.refl xs
+use Rattle.nntp_theory.specs.{Given.{asks_of, first_given, id_in}, Together.{number_in}, Inner.Together.{GiveSame, JoinIds}}
+use Rattle.nntp_theory.proofs.Together.{TwoListsOfFacts.{none_if, both_if}, FactsOfASpoolStand.{same_itself}}
+use Rattle.nntp_facts.specs.Inner.Kept.{told, MayShow, id_of, place_of}
 
 -- ---- asks
 
@@ -17,7 +15,7 @@ abbrev pub AskOf : Name → List Ask → List Fact → Type 0
 AskOf here asks more = (name : Name) → asks_of name more ≡ cond (is_same here name) asks []
 
 pub asked_here : (here : Name) (asks : List Ask) (more : List Fact) → AskOf here asks more → asks_of here more ≡ asks
-asked_here here asks more is = is here ∙ ap (λ b. cond b asks []) (same_self here)
+asked_here here asks more is = is here ∙ ap (λ b. cond b asks []) (same_itself here)
 
 pub asked_elsewhere : (here : Name) (asks : List Ask) (more : List Fact) → AskOf here asks more → (name : Name) → is_same here name ≡ false → asks_of name more ≡ []
 asked_elsewhere here asks more is name e = is name ∙ ap (λ b. cond b asks []) e
@@ -45,10 +43,10 @@ id_joins facts more here n id is = (
   λ j. (
     subst (λ o. IfSome o (λ x. IfSome (first_given (id_in here n) facts) (λ y. x ≡ y)))
         (is.ids here n ∙ ap (λ b. cond b (Some id) None)
-        (and_from (is_same here here) (n == n) (same_self here) (eq-eqb n n refl))) (j.ids here n),
+        (and_from (is_same here here) (n == n) (same_itself here) (eq-eqb n n refl))) (j.ids here n),
     subst (λ o. IfSome o (λ x. IfSome (first_given (number_in here id) facts) (λ y. x ≡ y)))
         (is.places here id ∙ ap (λ b. cond b (Some n) None)
-        (and_from (is_same here here) (is_same id id) (same_self here) (same_self id))) (j.ids_once here id),
+        (and_from (is_same here here) (is_same id id) (same_itself here) (same_itself id))) (j.ids_once here id),
   ),
   λ h. record {
     ids = λ name m. give_same_if (id_in name m) facts more (is_same here name && n == m) id (is.ids name m) (λ e.

@@ -4,10 +4,10 @@ use Rattle.std.{proofs.lemmas.List.Folds.{list_any-append}, specs.{List.{list_an
 use Rattle.nntp_wire.specs.declared.command.What.{What}
 use Rattle.nntp_article.specs.{Article.Parts.{Id, Line}, Session.{Spool.{Name}, Machine.{is_same}}}
 use Rattle.nntp_said.specs.{Asks.{Ask, Has}, Facts.{Fact, ThereIs, ThereIsNo, Asks, IdAt, TextIs, NoArticle}}
-use Rattle.nntp_facts.specs.{Given.{asks_of, shows_group, is_shown_group, first_given, id_in}, Together.{denies_group, number_in}, Inner.Saying.{OfGroup}}
-use Rattle.nntp_facts.specs.Inner.Saying.{OfArticle, Lacks, Exists, Sends, Saying, asked_id, sent_facts, lack_facts, id_facts, group_facts, there_facts}
-use Rattle.nntp_facts.{specs.Inner.{Saying.{missing_facts, groups_facts, facts_in}, Kept.{id_of, place_of}}, proofs.Together.TwoListsOfFacts.{given_append}}
-use Rattle.nntp_facts.proofs.Together.{TwoListsOfFacts.{or_none, none_if, both_if}, FactsJoin.{asks_append}}
+use Rattle.nntp_theory.specs.{Given.{asks_of, shows_group, is_shown_group, first_given, id_in}, Together.{denies_group, number_in}}
+use Rattle.nntp_theory.proofs.Together.{TwoListsOfFacts.{given_append, or_none, none_if, both_if}, FactsJoin.{asks_append}}
+use Rattle.nntp_facts.specs.Inner.Saying.{OfGroup, OfArticle, Lacks, Exists, Sends, Saying, asked_id, sent_facts, lack_facts, id_facts, group_facts}
+use Rattle.nntp_facts.specs.Inner.{Saying.{there_facts, missing_facts, groups_facts, facts_in}, Kept.{id_of, place_of}}
 
 -- the id at a number of a group
 abbrev pub ids_in : Option OfGroup → List Fact

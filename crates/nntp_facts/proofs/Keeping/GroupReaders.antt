@@ -4,10 +4,11 @@ use Rattle.std.specs.{List.Sorted.{IsStrictlySortedBy}, BTreeMap.{is_at}, Orderi
 use Rattle.std.specs.FinMap.{FinMap, get, entries, entries_sorted, contains_key-keys, IsAntisymmetric, slice_cmp-IsAntisymmetric, nat_cmp-IsAntisymmetric}
 use Rattle.nntp_article.specs.Session.{Spool.{Name}, Machine.{is_same}}
 use Rattle.nntp_said.specs.Facts.{Fact}
-use Rattle.nntp_facts.specs.{Given.{asks_of}, Inner.{Together.{AsksStand}, Kept.{KeptGroup, IsKeptGroup, told, AreKeptGroups}, Readers.{AreShownNumbers}}}
-use Rattle.nntp_facts.specs.Inner.Readers.{HasShownNumbers, AreShownGroups, ShownGroup, with_ids, shown_group, shown_groups}
-use Rattle.nntp_facts.proofs.Keeping.{KeptGroups.{kept_of, shown_kept}, FactsOfOneGroup.{flip_number, flip_text}, UnseenNumbers.{are_unseen}}
-use Rattle.nntp_facts.proofs.{Maps.{sorted_keys, in_get}, Members.{In, all_from, from_map}}
+use Rattle.nntp_theory.{specs.{Given.{asks_of}, Inner.Together.{AsksStand}}, proofs.{Maps.{sorted_keys, in_get}, Members.{In, all_from, from_map}}}
+use Rattle.nntp_facts.specs.Inner.{Kept.{KeptGroup, IsKeptGroup, told, AreKeptGroups}, Readers.{AreShownNumbers, HasShownNumbers, AreShownGroups, ShownGroup}}
+use Rattle.nntp_facts.{specs.Inner.Readers.{with_ids, shown_group, shown_groups}, proofs.Keeping.KeptGroups.{kept_of, shown_kept}}
+use Rattle.nntp_facts.proofs.Keeping.FactsOfOneGroup.{flip_number, flip_text}
+use Rattle.nntp_numbers.proofs.UnseenNumbers.{are_unseen}
 
 -- ---- lists that are made of another
 

@@ -4,11 +4,11 @@ use Rattle.std.{proofs.{Common.{ap, subst, ◌∙◌, append-nil, inl, inr}, lem
 use Rattle.std.specs.{List.{AllByRecursion, list_all}, Option.{option_map_or}}
 use Rattle.nntp_article.specs.{Session.Machine.{is_ascending}, declared.session.profile.Profile.{Profile}}
 use Rattle.nntp_pair.specs.Inner.Pairing.{lines_in}
-use Rattle.nntp_facts.specs.{Conflict.{Placed, SomeHas, IsCore, IsEndOfCore, IsFound, Core, places_of, below, told, told_with}, Inner.Conflict.{FitsThere}}
-use Rattle.nntp_facts.specs.Inner.{Conflict.{HasLast}, Given.{size}, Kept.{Kept, IsKept}, Points.{Answers, AreHeld, with_numbers}, Together.{Together}}
-use Rattle.nntp_facts.{specs.Inner.Told.{AreToldWith, PlacesTold}, proofs.Conflicts.{told_together, with_told, from_below}}
-use Rattle.nntp_facts.proofs.{Given.FirstBadAnswer.{size-append}, Keeping.{CoresFound.{nothing_together}, ToldAnswers.{told_size, with_place, fits_at}}}
-use Rattle.nntp_facts.proofs.Members.{In, all_at, in_front, in_back, in_cases, in_contains, contains_in}
+use Rattle.nntp_theory.specs.{Conflict.{Placed, SomeHas, IsCore, IsEndOfCore, IsFound, Core, places_of, below, told, told_with}, Inner.Conflict.{FitsThere}}
+use Rattle.nntp_theory.{specs.Inner.{Conflict.{HasLast}, Given.{size}, Together.{Together}}, proofs.Conflicts.{told_together, with_told, from_below}}
+use Rattle.nntp_theory.proofs.{Given.FirstBadAnswer.{size-append}, Members.{In, all_at, in_front, in_back, in_cases, in_contains, contains_in}}
+use Rattle.nntp_facts.specs.Inner.{Kept.{Kept, IsKept}, Points.{Answers, AreHeld, with_numbers}, Told.{AreToldWith, PlacesTold}}
+use Rattle.nntp_facts.proofs.Keeping.{CoresFound.{nothing_together}, ToldAnswers.{told_size, with_place, fits_at}}
 
 -- ---- the last place
 

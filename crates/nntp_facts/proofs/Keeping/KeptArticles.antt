@@ -7,10 +7,10 @@ use Rattle.std.specs.FinMap.{slice_cmp-IsAntisymmetric, nat_cmp-IsAntisymmetric}
 use Rattle.nntp_wire.proofs.ShownMaps.{equal_is}
 use Rattle.nntp_article.specs.{Article.Parts.{Id, Line}, Session.Machine.{is_same}}
 use Rattle.nntp_said.specs.Facts.{Fact}
-use Rattle.nntp_facts.specs.{Given.{is_mentioned}, Together.{shows_article, denies_article}, Inner.Together.{SaidOfArticle, said_of, said_nothing, join_said}}
-use Rattle.nntp_facts.specs.Inner.{Together.{AreSame, JoinArticle}, Kept.{KeptArticle, said_kept, AreKeptArticles}, Articles.{is_there, with_new, articles_in}}
-use Rattle.nntp_facts.{specs.Inner.{Saying.{OfArticle}, KeptSaying.{kept_by, ArticleJoins, AreKeptThen}}, proofs.{Maps.{get_in, in_get}, Members.{In}}}
-use Rattle.nntp_facts.proofs.{Together.FactsOfASpoolStand.{same_itself}, Keeping.SaidOfArticles.{nothing_more, nothing_joins}}
+use Rattle.nntp_theory.specs.{Given.{is_mentioned}, Together.{shows_article, denies_article}, Inner.Together.{SaidOfArticle, said_of, said_nothing, join_said}}
+use Rattle.nntp_theory.{specs.Inner.Together.{AreSame, JoinArticle}, proofs.{Maps.{get_in, in_get}, Members.{In}, Together.FactsOfASpoolStand.{same_itself}}}
+use Rattle.nntp_facts.specs.Inner.{Kept.{KeptArticle, said_kept, AreKeptArticles}, Articles.{is_there, with_new, articles_in}, Saying.{OfArticle}}
+use Rattle.nntp_facts.{specs.Inner.KeptSaying.{kept_by, ArticleJoins, AreKeptThen}, proofs.Keeping.SaidOfArticles.{nothing_more, nothing_joins}}
 
 abbrev pub Articles : Type 0
 Articles = FinMap (slice_cmp nat_cmp) KeptArticle

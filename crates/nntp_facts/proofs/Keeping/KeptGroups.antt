@@ -7,9 +7,10 @@ use Rattle.std.specs.{Prelude.{◌↔◌, IfSome}, List.{list_any}}
 use Rattle.nntp_wire.proofs.ShownMaps.{insert-same}
 use Rattle.nntp_article.specs.{Article.Parts.{Id}, Session.{Spool.{Name}, Machine.{is_same}}}
 use Rattle.nntp_said.specs.Asks.{Ask}
-use Rattle.nntp_facts.specs.Inner.{Summary.{IsSummary, AreBounded}, Kept.{KeptGroup, Told, IsKeptGroup, IsUntold, AreKept, with_part, Changes, Agree, MayHave}}
-use Rattle.nntp_facts.{specs.{Inner.Kept.{MayShow, ids_with, places_with, id_of, place_of}, Given.{denies}}, proofs.Together.TwoListsOfFacts.{or_none}}
-use Rattle.nntp_facts.proofs.Keeping.{FactsOfOneGroup.{IsOr, flip_number, flip_text}, SilentFacts.{kept_at}}
+use Rattle.nntp_numbers.specs.Inner.Summary.{IsSummary, AreBounded}
+use Rattle.nntp_facts.specs.Inner.Kept.{KeptGroup, Told, IsKeptGroup, IsUntold, AreKept, with_part, Changes, Agree, MayHave, MayShow, ids_with, places_with}
+use Rattle.nntp_facts.{specs.Inner.Kept.{id_of, place_of}, proofs.Keeping.{FactsOfOneGroup.{IsOr, flip_number, flip_text}, SilentFacts.{kept_at}}}
+use Rattle.nntp_theory.{specs.Given.{denies}, proofs.Together.TwoListsOfFacts.{or_none}}
 
 abbrev pub Groups : Type 0
 Groups = FinMap (slice_cmp nat_cmp) KeptGroup

@@ -8,10 +8,10 @@ use Rattle.std.specs.FinMap.{get-entries, entries-insert, same_map, slice_cmp-Is
 use Rattle.std.specs.{BTreeSet.{insert_key}, Map.{lookup, set_value}, Str.{IsUtf8}, Rc.{rc_str_bytes}}
 use Rattle.nntp_wire.proofs.ShownMaps.{get-shown, replaced}
 use Rattle.nntp_article.specs.{Article.Parts.{Id, Line}, Session.Machine.{is_same}}
-use Rattle.nntp_facts.specs.Inner.{Together.{SaidOfArticle, said_nothing}, Kept.{KeptArticle, said_kept}, Articles.{denied, is_there, with_new, with_denied}}
-use Rattle.nntp_facts.specs.{Inner.{Articles.{articles_in}, ArticleView.{known_article, entries_value}}, declared.articles.known.KnownArticle.{KnownArticle}}
-use Rattle.nntp_facts.proofs.{Together.TwoListsOfFacts.{or_none}, Keeping.{KeptArticles.{Articles, new_elsewhere, new_there}, KeptNames.{any_put, any-map}}}
-use Rattle.nntp_facts.proofs.Keeping.KeptNames.{is_key}
+use Rattle.nntp_theory.{specs.Inner.Together.{SaidOfArticle, said_nothing}, proofs.Together.TwoListsOfFacts.{or_none}}
+use Rattle.nntp_facts.specs.Inner.{Kept.{KeptArticle, said_kept}, Articles.{denied, is_there, with_new, with_denied, articles_in}, ArticleView.{known_article}}
+use Rattle.nntp_facts.{specs.{Inner.ArticleView.{entries_value}, declared.articles.known.KnownArticle.{KnownArticle}}, proofs.Keeping.KeptArticles.{Articles}}
+use Rattle.nntp_facts.proofs.Keeping.{KeptArticles.{new_elsewhere, new_there}, KeptNames.{any_put, any-map, is_key}}
 
 -- ---- denied ids beside articles
 

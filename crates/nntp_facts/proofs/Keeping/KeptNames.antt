@@ -7,9 +7,9 @@ use Rattle.std.specs.{BTreeMap.{insert_entry}, Map.{lookup, keys_of}}
 use Rattle.nntp_wire.specs.{Decided.{matches_name}, Wildmat.{is_wildmat}, Listing.{ActiveValue}}
 use Rattle.nntp_article.{specs.Session.{Spool.{Name}, Machine.{is_same}}, proofs.SessionLemmas.SetKeys.{any-insert_key}}
 use Rattle.nntp_said.specs.Facts.{Fact, GroupsAre}
-use Rattle.nntp_facts.specs.{Given.{shows_group, is_shown_group}, Together.{denies_group}, Inner.Kept.{KeptNames, WasAnswered, AreKeptNames}}
-use Rattle.nntp_facts.{specs.Inner.ListedGroups.{MayList, WereListed}, proofs.Keeping.{CountedGroups.{listed_still}, FactsOfOneGroup.{flip_text}}}
-use Rattle.nntp_facts.proofs.Members.{all_at, all_from, contains_in, in_back}
+use Rattle.nntp_theory.{specs.{Given.{shows_group, is_shown_group}, Together.{denies_group}}, proofs.Members.{all_at, all_from, contains_in, in_back}}
+use Rattle.nntp_facts.specs.Inner.{Kept.{KeptNames, WasAnswered, AreKeptNames}, ListedGroups.{MayList, WereListed}}
+use Rattle.nntp_facts.proofs.Keeping.{CountedGroups.{listed_still}, FactsOfOneGroup.{flip_text}}
 
 -- ---- keys of a set
 

@@ -3,8 +3,9 @@ use Rattle.std.{proofs.Common.{◌≡◌, false, List, ◌++◌, MatchOption, sy
 use Rattle.std.specs.{Cmp.Lexicographic.{slice_cmp}, FinMap.{FinMap, get}}
 use Rattle.nntp_article.specs.Session.Spool.{Name}
 use Rattle.nntp_said.specs.Facts.{Fact}
-use Rattle.nntp_facts.specs.{Together.{denies_group}, Inner.Kept.{told, IsUntold, IsKeptGroup, KeptGroup, AreKept, KeptNames, AreKeptNames}}
-use Rattle.nntp_facts.proofs.{Together.TwoListsOfFacts.{any_silent}, Keeping.{KeptNames.{not_before, counted_still, all_still}, SilentFacts.{told_same}}}
+use Rattle.nntp_theory.{specs.Together.{denies_group}, proofs.Together.TwoListsOfFacts.{any_silent}}
+use Rattle.nntp_facts.{specs.Inner.Kept.{told, IsUntold, IsKeptGroup, KeptGroup, AreKept, KeptNames, AreKeptNames}, proofs.Keeping.KeptNames.{not_before}}
+use Rattle.nntp_facts.proofs.Keeping.{KeptNames.{counted_still, all_still}, SilentFacts.{told_same}}
 
 -- ---- names
 

@@ -5,9 +5,9 @@ use Rattle.std.specs.{Prelude.{◌↔◌, IsFalse}, List.{AllByRecursion, list_a
 use Rattle.nntp_wire.specs.{Listing.{ActiveValue}, Decided.{matches_name}}
 use Rattle.nntp_article.specs.Session.{Spool.{Name}, Machine.{is_same, names_differ}}
 use Rattle.nntp_said.specs.{Asks.{Ask, Bounds}, Facts.{Fact, GroupsAre}}
-use Rattle.nntp_facts.specs.{Given.{asks_of, is_shown_group}, Inner.{Together.{IsWellFormed, AsksStand, Together, Join}, ListedGroups.{is_listed, LineJoins}}}
-use Rattle.nntp_facts.{specs.{Inner.ListedGroups.{NoneIsMissing}, Together.{denies_group}}, proofs.Members.{In, all_at, all_from, any_in, found_in}}
-use Rattle.nntp_facts.proofs.Keeping.{SilentFacts.{ids_join}, SaidOfArticles.{articles_join}, FactsOfOneGroup.{same_self}}
+use Rattle.nntp_theory.specs.{Given.{asks_of, is_shown_group}, Inner.Together.{IsWellFormed, AsksStand, Together, Join}, Together.{denies_group}}
+use Rattle.nntp_theory.proofs.{Members.{In, all_at, all_from, any_in, found_in}, Together.FactsOfASpoolStand.{same_itself}}
+use Rattle.nntp_facts.{specs.Inner.ListedGroups.{is_listed, LineJoins, NoneIsMissing}, proofs.Keeping.{SilentFacts.{ids_join}, SaidOfArticles.{articles_join}}}
 
 -- the bounds that the lines report for a group
 abbrev pub bounds_in : Name → List ActiveValue → List Ask
@@ -28,7 +28,7 @@ differs name other [] s e = refl
 differs name other (line ∷ lines) s e =
     let p = and_parts (not (is_same name line.name)) (list_all (λ line. not (is_same name line.name)) lines) e in
     let apart : is_same line.name other ≡ false = false_from_ne_true (is_same line.name other) (λ t.
-    let here : is_same name line.name ≡ true = subst (λ n. is_same name n ≡ true) (same_text name other (sym s) ∙ sym (same_text line.name other (sym t))) (same_self name) in
+    let here : is_same name line.name ≡ true = subst (λ n. is_same name n ≡ true) (same_text name other (sym s) ∙ sym (same_text line.name other (sym t))) (same_itself name) in
     true≢false (sym here ∙ not-true (is_same name line.name) p.0)) in
     (λ i. apart i || differs name other lines s p.1 i)
 
@@ -38,10 +38,10 @@ bounds_at line [] d i = absurd i
 bounds_at line (x ∷ xs) d (inl e) =
     let p = and_parts (list_all (λ other. not (is_same x.name other.name)) xs) (names_differ xs) d in
     subst (λ line. bounds_in line.name (x ∷ xs) ≡ Bounds line.low line.high ∷ []) e
-    (λ i. cond (same_self x.name i) (Bounds x.low x.high ∷ []) [] ++ no_bounds x.name xs (differs x.name x.name xs (same_self x.name) p.0) i)
+    (λ i. cond (same_itself x.name i) (Bounds x.low x.high ∷ []) [] ++ no_bounds x.name xs (differs x.name x.name xs (same_itself x.name) p.0) i)
 bounds_at line (x ∷ xs) d (inr i) =
     let p = and_parts (list_all (λ other. not (is_same x.name other.name)) xs) (names_differ xs) d in
-    let there = any_in (λ other. is_same other.name line.name) line xs i (same_self line.name) in
+    let there = any_in (λ other. is_same other.name line.name) line xs i (same_itself line.name) in
     let apart : is_same x.name line.name ≡ false = false_from_ne_true (is_same x.name line.name) (λ s. true≢false (sym there ∙ differs x.name line.name xs s p.0)) in
     ap (λ b. cond b (Bounds x.low x.high ∷ []) [] ++ bounds_in line.name xs) apart ∙ bounds_at line xs p.1 i
 
@@ -63,7 +63,7 @@ module _ (facts : List Fact) (p : Option (List ℕ)) (lines : List ActiveValue) 
   listing_joins t wf differ = (
     λ j. (
       all_from (LineJoins facts) lines (λ line i.
-          let there = any_in (λ other. is_same other.name line.name) line lines i (same_self line.name) in
+          let there = any_in (λ other. is_same other.name line.name) line lines i (same_itself line.name) in
           record {
             free = j.names.groups line.name (or_left (is_listed lines line.name) false there);
             bounds = subst (λ asks. AsksStand (asks_of line.name facts ++ asks)) (listing_asks line.name ∙ bounds_at line lines differ i) (j.numbers line.name);

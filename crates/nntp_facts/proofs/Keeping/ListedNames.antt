@@ -3,9 +3,9 @@ use Rattle.std.proofs.Common.{◌≡◌, ℕ, Bool, true, false, ◌||◌, ◌&&
 use Rattle.std.{proofs.{Common.{◌∙◌}, lemmas.Bool.{true≢false, and_from}}, specs.{Borrow.{Bor}, Option.{option_map_or}, List.{list_any}, BTreeSet.{insert_key}}}
 use Rattle.std.specs.{Map.{lookup, keys_of}, Ordering.{nat_cmp, is_eq}, Cmp.Lexicographic.{slice_cmp, nat_list_cmp_total}, FinMap.{get}}
 use Rattle.nntp_wire.{specs.{Name.{IsGroupName}, Decided.{matches_name}, Listing.{ActiveValue}}, proofs.ShownMaps.{shown, get-shown, is_some-option_map}}
-use Rattle.nntp_facts.specs.{Together.{denies_group}, Inner.{Together.{Together}, Kept.{KeptGroup, told, AreKeptGroups}, ListedGroups.{is_listed}}}
-use Rattle.nntp_facts.{specs.{Inner.ListedGroups.{NoneIsMissing}, Given.{is_shown_group}}, proofs.Keeping.{FactsOfOneGroup.{flip_text}, KeptGroups.{Groups}}}
-use Rattle.nntp_facts.proofs.Keeping.{KeptGroups.{shown_kept}, KeptNames.{order, any_put, key_text}, ShownNames.{shown_named}}
+use Rattle.nntp_theory.{specs.{Together.{denies_group}, Inner.Together.{Together}, Given.{is_shown_group}}, proofs.Given.ShownNames.{shown_named}}
+use Rattle.nntp_facts.{specs.Inner.{Kept.{KeptGroup, told, AreKeptGroups}, ListedGroups.{is_listed, NoneIsMissing}}, proofs.Keeping.FactsOfOneGroup.{flip_text}}
+use Rattle.nntp_facts.proofs.Keeping.{KeptGroups.{Groups, shown_kept}, KeptNames.{order, any_put, key_text}}
 use Rattle.nntp_said.specs.Facts.{GroupsAre, Fact}
 use Rattle.nntp_article.specs.Session.{Spool.{Name}, Machine.{is_same}}
 

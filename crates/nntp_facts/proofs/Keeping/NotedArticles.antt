@@ -6,11 +6,11 @@ use Rattle.std.specs.FinMap.{nat_cmp-IsAntisymmetric}
 use Rattle.nntp_wire.{specs.declared.command.What.{What}, proofs.ShownMaps.{insert-same}}
 use Rattle.nntp_article.specs.Article.Parts.{Id, Line}
 use Rattle.nntp_said.specs.Facts.{Fact}
-use Rattle.nntp_facts.specs.{Together.{shows_article}, Inner.{Kept.{KeptArticle, AreKeptArticles, IsAddedIf}, Articles.{head_sent, body_sent, MayBeSent}}}
-use Rattle.nntp_facts.specs.Inner.{Articles.{denied, unsent, with_sent, is_there, with_new}, Saying.{OfArticle, Lacks, Exists, Sends}, KeptSaying.{kept_by}}
-use Rattle.nntp_facts.{specs.Inner.KeptSaying.{IsArticleAdded}, proofs.{Together.TwoListsOfFacts.{or_none}, Keeping.KeptArticles.{Articles, get_elsewhere}}}
-use Rattle.nntp_facts.proofs.Keeping.KeptArticles.{get_there, new_elsewhere, new_there, MayKeep, kept_with, same_as_none, article_joins, article_kept}
-use Rattle.nntp_facts.proofs.Keeping.KeptArticles.{shown_kept}
+use Rattle.nntp_theory.{specs.Together.{shows_article}, proofs.Together.TwoListsOfFacts.{or_none}}
+use Rattle.nntp_facts.specs.Inner.{Kept.{KeptArticle, AreKeptArticles, IsAddedIf}, Articles.{head_sent, body_sent, MayBeSent, denied, unsent, with_sent}}
+use Rattle.nntp_facts.specs.Inner.{Articles.{is_there, with_new}, Saying.{OfArticle, Lacks, Exists, Sends}, KeptSaying.{kept_by, IsArticleAdded}}
+use Rattle.nntp_facts.proofs.Keeping.KeptArticles.{Articles, get_elsewhere, get_there, new_elsewhere, new_there, MayKeep, kept_with, same_as_none}
+use Rattle.nntp_facts.proofs.Keeping.KeptArticles.{article_joins, article_kept, shown_kept}
 
 -- what is kept of an id of which nothing was sent
 abbrev bare : Bool → KeptArticle

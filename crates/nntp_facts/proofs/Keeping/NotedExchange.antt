@@ -1,96 +1,21 @@
 -- Noting an exchange behind earlier sessions: when it is permitted behind those that were accepted, and what stands then.
-use Rattle.nntp_wire.specs.{declared.marks.Marks.{Marks}, Answer.{Asked, Response}}
-use Rattle.std.proofs.Common.{◌≡◌, ℕ, ◌+◌, ◌<◌, ◌≤◌, ◌^◌, ◌↔◌, Bool, false, true, IsTrue, List, [], ◌∷◌, ◌++◌, length, map, Option, None, Some, IfSome, refl}
-use Rattle.std.{proofs.{Common.{sym, ap, ap₂, subst, ◌∙◌, arith, append_assoc, length-append}, lemmas.List.{length-map, map-append}}, specs.Prelude.{IsFalse}}
-use Rattle.std.specs.List.{AllByRecursion, list_any}
-use Rattle.nntp_article.specs.Session.{Limit.{profile_of}, Spool.{Spool, Name}, Machine.{Visible, Run, start, fits, visible_after}}
+use Rattle.nntp_wire.specs.Answer.{Asked, Response}
+use Rattle.std.proofs.Common.{◌≡◌, ℕ, ◌+◌, ◌<◌, ◌^◌, ◌↔◌, Bool, false, true, IsTrue, List, [], ◌∷◌, ◌++◌, map, Option, None, Some, IfSome, refl, sym, ap, ap₂}
+use Rattle.std.{proofs.Common.{subst, ◌∙◌, arith, append_assoc, length-append}, specs.{Prelude.{IsFalse}, List.{AllByRecursion, list_any}}}
+use Rattle.nntp_article.specs.Session.{Limit.{profile_of}, Spool.{Name}, Machine.{Visible, start, fits, visible_after}}
 use Rattle.nntp_article.specs.{declared.session.profile.Profile.{Profile}, Inner.Misfit.{numbers_of}}
 use Rattle.nntp_pair.specs.{Pairing.{Paired, asked_at, asked_of, responses_of}, Inner.Pairing.{IsSpelled, lines_in}}
-use Rattle.nntp_said.specs.{Asks.{position_after}, declared.position.Position.{Position, TheVariants.{Nowhere}}, Facts.{Fact, here, facts_of}}
-use Rattle.nntp_said.specs.Inner.Facts.{FitsAll}
-use Rattle.nntp_facts.specs.{Given.{facts_of_session, shows_group}, Inner.{Given.{size}, Together.{IsWellFormed, Together, Join}, Kept.{Kept, IsKept}}}
-use Rattle.nntp_facts.specs.Inner.{Kept.{AreAdded}, Saying.{Saying, IsSelectedShown, Tells, TellsHere}, Noted.{FactsKept, said_by, said_behind, AreFew}}
-use Rattle.nntp_facts.specs.{Inner.Noted.{HasNotedBehind, IsDue, MayBeNoted, said_then, IsNotedBehind}, Answered.{Answered, SomePermitsEach, facts_of_all}}
-use Rattle.nntp_facts.specs.{Classes.{visible_from, position_from}, Noted.{exchanged, ArePermittedBehind}, declared.noted.Noted.TheVariants.{Consistent}}
-use Rattle.nntp_facts.{specs.declared.noted.Noted.TheVariants.{OutOfPlace, Contradiction}, proofs.Members.{all_both, all_front, all_back, any_back}}
-use Rattle.nntp_facts.proofs.Session.{LaterPrompts.{run_longer, facts_longer, visible_longer, position_longer, next_behind}, OneMoreAnswer.{facts_grow}}
-use Rattle.nntp_facts.proofs.Session.{OneMoreAnswer.{visible_grows, position_grows}, SelectedGroupIsShown.{selected_shown}}
-use Rattle.nntp_facts.proofs.{Given.SessionsByFacts.{stand_each}, Together.WellFormed.{spelled_formed}, Keeping.NotedSessions.{facts_behind}}
-use Rattle.nntp_facts.proofs.Keeping.NotedSessions.{permitted_more_behind, small_behind}
-
--- ---- one prompt and its answer more
-
--- an answer to this may come behind what was said, as far as the state, the position and the facts go
-abbrev MayFollow : Profile → Visible → Position → List Fact → Asked → Response → Type 0
-MayFollow profile v at facts asked response = (v.closed ≡ false) × IsTrue (fits profile v asked response) × Join facts (facts_of profile.marks v at asked response)
-
--- a session of these prompts and answers
-abbrev pub of_these : List Asked → List Response → Answered
-of_these ps answers = record { prompts = ps; answers = answers }
-
--- a spool permits a session
-abbrev pub Runs : Profile → Spool → Answered → Type 0
-Runs profile S s = Run profile S start s.prompts s.answers
-
--- some spool permits one prompt and its answer more exactly if it may follow
-permitted_next : (profile : Profile) (earlier : List Answered) (ps : List Asked) (answers : List Response) (asked : Asked) (response : Response) → length ps ≡ length answers
-    → size (facts_of_all profile.marks (earlier ++ of_these (ps ++ asked ∷ []) (answers ++ response ∷ []) ∷ [])) < 2 ^ 210
-    → SomePermitsEach profile (earlier ++ of_these ps answers ∷ [])
-    → SomePermitsEach profile (earlier ++ of_these (ps ++ asked ∷ []) (answers ++ response ∷ []) ∷ [])
-    ↔ MayFollow profile (visible_from start.visible ps answers) (position_from Nowhere ps answers) (facts_of_all profile.marks earlier ++ facts_of_session profile.marks ps answers) asked response
-permitted_next profile earlier ps answers asked response e small h =
-    let qs = ps ++ asked ∷ [] in
-    let le : length answers ≤ length ps = omega (arith, e) in
-    let front = all_front (Runs profile h.0) earlier (of_these ps answers ∷ []) h.2 in
-    let own = run_longer profile h.0 start ps (asked ∷ []) answers (all_back (Runs profile h.0) earlier (of_these ps answers ∷ []) h.2).0 in
-    let g : SomePermitsEach profile (earlier ++ of_these qs answers ∷ []) = (h.0, h.1, all_both (Runs profile h.0) earlier (of_these qs answers ∷ []) front (own, tt)) in
-    let more = permitted_more_behind profile earlier qs answers asked response (next_behind ps [] asked answers e) small g in
-    let v = visible_longer start.visible ps (asked ∷ []) answers le in
-    let at = position_longer Nowhere ps (asked ∷ []) answers le in
-    let facts = ap (λ own. facts_of_all profile.marks earlier ++ own) (facts_longer profile.marks start.visible Nowhere ps (asked ∷ []) answers le) in
-    let After : Type 0 = SomePermitsEach profile (earlier ++ of_these qs (answers ++ response ∷ []) ∷ []) in
-    subst (λ facts. After ↔ MayFollow profile (visible_from start.visible ps answers) (position_from Nowhere ps answers) facts asked response) facts
-    (subst (λ at. After ↔ MayFollow profile (visible_from start.visible ps answers) at (facts_of_all profile.marks earlier ++ facts_of_session profile.marks qs answers) asked response) at
-    (subst (λ v. After ↔ MayFollow profile v (position_from Nowhere qs answers) (facts_of_all profile.marks earlier ++ facts_of_session profile.marks qs answers) asked response) v more))
-
--- what is said then
-pub facts_next : (how : Marks) (ps : List Asked) (answers : List Response) (asked : Asked) (response : Response) → length ps ≡ length answers
-    → facts_of_session how (ps ++ asked ∷ []) (answers ++ response ∷ []) ≡ facts_of_session how ps answers ++ facts_of how
-    (visible_from start.visible ps answers) (position_from Nowhere ps answers) asked response
-facts_next how ps answers asked response e =
-    let le : length answers ≤ length ps = omega (arith, e) in
-    facts_grow how start.visible Nowhere (ps ++ asked ∷ []) answers asked response (next_behind ps [] asked answers e)
-    ∙ ap₂ (λ (facts new : List Fact). facts ++ new) (facts_longer how start.visible Nowhere ps (asked ∷ []) answers le)
-    (ap₂ (λ v at. facts_of how v at asked response) (visible_longer start.visible ps (asked ∷ []) answers le) (position_longer Nowhere ps (asked ∷ []) answers le))
-
--- what is visible then
-pub visible_next : (ps : List Asked) (answers : List Response) (asked : Asked) (response : Response) → length ps ≡ length answers
-    → visible_from start.visible (ps ++ asked ∷ []) (answers ++ response ∷ []) ≡ visible_after (visible_from start.visible ps answers) asked response
-visible_next ps answers asked response e =
-    visible_grows start.visible (ps ++ asked ∷ []) answers asked response (next_behind ps [] asked answers e)
-    ∙ ap (λ v. visible_after v asked response) (visible_longer start.visible ps (asked ∷ []) answers (omega (arith, e)))
-
--- and where the session stands then
-pub position_next : (ps : List Asked) (answers : List Response) (asked : Asked) (response : Response) → length ps ≡ length answers
-    → position_from Nowhere (ps ++ asked ∷ []) (answers ++ response ∷ []) ≡ position_after (position_from Nowhere ps answers) asked response
-position_next ps answers asked response e =
-    position_grows Nowhere (ps ++ asked ∷ []) answers asked response (next_behind ps [] asked answers e)
-    ∙ ap (λ at. position_after at asked response) (position_longer Nowhere ps (asked ∷ []) answers (omega (arith, e)))
+use Rattle.nntp_said.specs.{Asks.{position_after}, declared.position.Position.TheVariants.{Nowhere}, Facts.{Fact, here, facts_of}, Inner.Facts.{FitsAll}}
+use Rattle.nntp_theory.specs.{Given.{facts_of_session, shows_group}, Inner.{Given.{size}, Together.{IsWellFormed, Together, Join}, Exchanged.{said_by}}}
+use Rattle.nntp_theory.specs.{Inner.Exchanged.{said_behind, AreFew}, Answered.{Answered, SomePermitsEach, facts_of_all}, Classes.{visible_from, position_from}}
+use Rattle.nntp_theory.specs.{Permitted.{exchanged, ArePermittedBehind}, declared.noted.Noted.TheVariants.{Consistent, OutOfPlace, Contradiction}}
+use Rattle.nntp_theory.proofs.{Members.{all_both, all_back, any_back}, Session.PairsGoOn.{MayFollow, of_these, permitted_next, facts_next, visible_next}}
+use Rattle.nntp_theory.proofs.{Session.PairsGoOn.{position_next, as_many, ends, with_pair}, Given.{SessionsByFacts.{stand_each}, SessionsGoOn.{facts_behind}}}
+use Rattle.nntp_theory.proofs.{Given.SessionsGoOn.{small_behind}, Together.WellFormed.{spelled_formed}}
+use Rattle.nntp_facts.specs.Inner.{Kept.{Kept, IsKept, AreAdded}, Saying.{Saying, IsSelectedShown, Tells, TellsHere}, Noted.{FactsKept, HasNotedBehind, IsDue}}
+use Rattle.nntp_facts.{specs.Inner.Noted.{MayBeNoted, said_then, IsNotedBehind}, proofs.Keeping.SelectedGroupIsShown.{selected_shown}}
 
 -- ---- one exchange more
-
--- there are as many prompts as answers
-pub as_many : (past : List Paired) → length (asked_of past) ≡ length (responses_of past)
-as_many past = length-map past (λ pair. asked_at pair.line) ∙ sym (length-map past (λ pair. pair.response))
-
--- the prompts and answers of one exchange more
-pub ends : (past : List Paired) (pair : Paired)
-    → ◌≡◌ {A = List Asked × List Response} (asked_of (past ++ pair ∷ []), responses_of (past ++ pair ∷ [])) (asked_of past ++ asked_at pair.line ∷ [], responses_of past ++ pair.response ∷ [])
-ends past pair = ap₂ (λ (ps : List Asked) (answers : List Response). (ps, answers)) (map-append (λ pair. asked_at pair.line) past (pair ∷ [])) (map-append (λ pair. pair.response) past (pair ∷ []))
-
--- and the session with it
-pub with_pair : (past : List Paired) (pair : Paired) → exchanged (past ++ pair ∷ []) ≡ of_these (asked_of past ++ asked_at pair.line ∷ []) (responses_of past ++ pair.response ∷ [])
-with_pair past pair = ap (λ (q : List Asked × List Response). of_these q.0 q.1) (ends past pair)
 
 -- the facts have moved on behind the exchange, whatever is kept
 pub record Moves (facts new : FactsKept) (pair : Paired) : Type 0 where

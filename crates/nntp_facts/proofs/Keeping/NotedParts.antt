@@ -4,11 +4,12 @@ use Rattle.std.specs.{Prelude.{◌↔◌, IfSome}, List.{AllByRecursion}}
 use Rattle.nntp_article.specs.Article.Parts.{Id}
 use Rattle.nntp_wire.specs.Listing.{ActiveValue}
 use Rattle.nntp_said.specs.{Asks.{Ask}, Facts.{Fact, GroupsAre}}
-use Rattle.nntp_facts.specs.Inner.{Together.{IsWellFormed, said_of, join_said, Together, Join}, ListedGroups.{MayList}, Saying.{OfGroup, OfArticle, Lacks}}
-use Rattle.nntp_facts.specs.Inner.Saying.{Exists, Sends, Saying, sent_facts, there_facts, group_facts, missing_facts, lack_facts, groups_facts, facts_in}
-use Rattle.nntp_facts.specs.Inner.{Saying.{AreListed, IsToExist, MayBeOf, IsAlone, Tells}, Kept.{Kept, IsKept, AreKeptNames, AreKeptGroups, AreAdded}}
-use Rattle.nntp_facts.{specs.Inner.KeptSaying.{IsTextOf, JoinGroups, MayBeSaid, ArticleJoins, IsArticleAdded}, proofs.Keeping.PartsJoin.{parts_join}}
-use Rattle.nntp_facts.proofs.Keeping.{PartsJoin.{said_of_parts}, SaidOfArticles.{said_append}, KeptArticles.{Articles}}
+use Rattle.nntp_theory.specs.Inner.Together.{IsWellFormed, said_of, join_said, Together, Join}
+use Rattle.nntp_facts.specs.Inner.{ListedGroups.{MayList}, Saying.{OfGroup, OfArticle, Lacks, Exists, Sends, Saying, sent_facts, there_facts, group_facts}}
+use Rattle.nntp_facts.specs.Inner.{Saying.{missing_facts, lack_facts, groups_facts, facts_in, AreListed, IsToExist, MayBeOf, IsAlone, Tells}, Kept.{Kept}}
+use Rattle.nntp_facts.specs.Inner.{Kept.{IsKept, AreKeptNames, AreKeptGroups, AreAdded}, KeptSaying.{IsTextOf, JoinGroups, MayBeSaid, ArticleJoins}}
+use Rattle.nntp_facts.{specs.Inner.KeptSaying.{IsArticleAdded}, proofs.Keeping.{PartsJoin.{parts_join, said_of_parts}, SaidOfArticles.{said_append}}}
+use Rattle.nntp_facts.proofs.Keeping.KeptArticles.{Articles}
 
 -- what has the same parts is the same
 pub kept_is : (a b : Kept) → a.groups ≡ b.groups → a.names ≡ b.names → a.articles ≡ b.articles → a ≡ b

@@ -4,17 +4,19 @@ use Rattle.std.{proofs.lemmas.{Bool.{true≢false, or_left, or_right}, List.Fold
 use Rattle.std.specs.{Option.{option_map_or, option_or}, List.{AllByRecursion, list_any}, Cmp.Lexicographic.{same_text}}
 use Rattle.nntp_article.specs.{Article.Parts.{Id}, Session.{Spool.{Name}, Machine.{is_same}}}
 use Rattle.nntp_said.specs.{Asks.{Ask}, Facts.{Fact, IdAt, TextIs}}
-use Rattle.nntp_facts.specs.{Given.{asks_of, shows_group, is_shown_group, first_given, id_in, denies}, Inner.Together.{IsWellFormed, said_of, said_nothing}}
-use Rattle.nntp_facts.specs.Inner.{Together.{join_said, Together, JoinNames, JoinNumbers, JoinIds, JoinArticle, Join}, Saying.{OfGroup, OfArticle, Lacks}}
-use Rattle.nntp_facts.specs.Inner.Saying.{Exists, Sends, Saying, asked_id, sent_facts, lack_facts, id_facts, group_facts, facts_in, MaySay, IsToExist, MayBeOf}
-use Rattle.nntp_facts.specs.Inner.{Saying.{IsShownThen}, Summary.{AreBounded}, Part.{Says}, Kept.{told, Told, IsUntold, AreKept, AreKeptGroups, with_part}}
-use Rattle.nntp_facts.specs.Inner.{Kept.{Changes, Agree, IsShownAt, MayShow, AreKeptWith, id_of, place_of}, KeptSaying.{GroupJoins, JoinGroups, said_in}}
-use Rattle.nntp_facts.{specs.{Inner.KeptSaying.{ArticleJoins}, Together.{denies_group, number_in}}, proofs.Together.TwoListsOfFacts.{given_append}}
-use Rattle.nntp_facts.proofs.{Together.FactsJoin.{asks_append}, Keeping.{KeptNamesAndGroups.{groups_kept}, KeptGroups.{Groups}, FactsOfOneGroup.{AskOf}}}
-use Rattle.nntp_facts.proofs.Keeping.{FactsOfOneGroup.{asked_here, asked_elsewhere, GivesId, gives_joins, same_self}, FactsOfParts.{given_is_read}}
-use Rattle.nntp_facts.proofs.Keeping.FactsOfParts.{asks_are_read, ids_in, of_articles, of_group, group_asks, group_ids, group_places, shown_group, denied_group}
-use Rattle.nntp_facts.proofs.Keeping.{SaidOfArticles.{nothing_more, said_is_read, lack_said, there_said, text_said, text_at}, SilentFacts.{numbers_join}}
-use Rattle.nntp_facts.proofs.{Keeping.SilentFacts.{no_numbers_join, GiveNoIds, ids_join, told_same}, Ids.OnePlaceOfAnId.{agree_together, shown_with_id}}
+use Rattle.nntp_theory.specs.{Given.{asks_of, shows_group, is_shown_group, first_given, id_in, denies}, Inner.Together.{IsWellFormed, said_of, said_nothing}}
+use Rattle.nntp_theory.specs.{Inner.Together.{join_said, Together, JoinNames, JoinNumbers, JoinIds, JoinArticle, Join}, Together.{denies_group, number_in}}
+use Rattle.nntp_theory.proofs.Together.{TwoListsOfFacts.{given_append}, FactsJoin.{asks_append}, FactsOfASpoolStand.{same_itself}}
+use Rattle.nntp_theory.proofs.Ids.OnePlaceOfAnId.{agree_together, shown_with_id}
+use Rattle.nntp_facts.specs.Inner.Saying.{OfGroup, OfArticle, Lacks, Exists, Sends, Saying, asked_id, sent_facts, lack_facts, id_facts, group_facts, facts_in}
+use Rattle.nntp_facts.specs.Inner.{Saying.{MaySay, IsToExist, MayBeOf, IsShownThen}, Kept.{told, Told, IsUntold, AreKept, AreKeptGroups, with_part, Changes}}
+use Rattle.nntp_facts.specs.Inner.{Kept.{Agree, IsShownAt, MayShow, AreKeptWith, id_of, place_of}, KeptSaying.{GroupJoins, JoinGroups, said_in, ArticleJoins}}
+use Rattle.nntp_facts.proofs.Keeping.{KeptNamesAndGroups.{groups_kept}, KeptGroups.{Groups}, FactsOfOneGroup.{AskOf, asked_here, asked_elsewhere, GivesId}}
+use Rattle.nntp_facts.proofs.Keeping.{FactsOfOneGroup.{gives_joins}, FactsOfParts.{given_is_read, asks_are_read, ids_in, of_articles, of_group, group_asks}}
+use Rattle.nntp_facts.proofs.Keeping.{FactsOfParts.{group_ids, group_places, shown_group, denied_group}, SaidOfArticles.{nothing_more, said_is_read, lack_said}}
+use Rattle.nntp_facts.proofs.Keeping.{SaidOfArticles.{there_said, text_said, text_at}, SilentFacts.{numbers_join, no_numbers_join, GiveNoIds, ids_join}}
+use Rattle.nntp_facts.proofs.Keeping.SilentFacts.{told_same}
+use Rattle.nntp_numbers.specs.Inner.{Summary.{AreBounded}, Part.{Says}}
 
 -- ---- articles
 
@@ -108,8 +110,8 @@ module _ (facts : List Fact) (s : Saying) (asks : List Ask) (no_list : s.groups 
   names_join : JoinNames facts (facts_in s asks) ↔ (IfSome s.there_is (λ name. IsFalse (list_any (denies_group name) facts)) × IfSome s.there_is_no (λ name. IsFalse (is_shown_group facts name)))
   names_join = (
     λ j. (
-      there s.there_is (λ name e. j.groups name (shown_group s asks no_list name ∙ ap (λ o. option_map_or (λ g. is_same g name) o false) e ∙ same_self name)),
-      there s.there_is_no (λ name e. j.no_groups name (denied_group s asks no_list name ∙ ap (λ o. option_map_or (λ g. is_same g name) o false) e ∙ same_self name)),
+      there s.there_is (λ name e. j.groups name (shown_group s asks no_list name ∙ ap (λ o. option_map_or (λ g. is_same g name) o false) e ∙ same_itself name)),
+      there s.there_is_no (λ name e. j.no_groups name (denied_group s asks no_list name ∙ ap (λ o. option_map_or (λ g. is_same g name) o false) e ∙ same_itself name)),
     ),
     λ h. record {
       groups = λ name t. here s.there_is (λ name. IsFalse (list_any (denies_group name) facts)) name h.0 (sym (shown_group s asks no_list name) ∙ t);
@@ -162,10 +164,10 @@ module _ (facts : List Fact) (s : Saying) (asks : List Ask) (no_list : s.groups 
       is_shown = shown_now i;
       asks = (asks_append g.name facts more ∙ ap (λ more. asks_of g.name facts ++ more) (asked_here g.name all more says.0)) i;
       ids = λ n. (given_append (id_in g.name n) facts more ∙ ap (λ o. option_or (first_given (id_in g.name n) facts) o)
-          (says.1.ids g.name n ∙ ap (λ b. cond b (id_of g.id n) None) (same_self g.name))) i;
+          (says.1.ids g.name n ∙ ap (λ b. cond b (id_of g.id n) None) (same_itself g.name))) i;
       places = λ id. (given_append (number_in g.name id) facts more
           ∙ ap (λ o. option_or (first_given (number_in g.name id) facts) o)
-          (says.1.places g.name id ∙ ap (λ b. cond b (place_of g.id id) None) (same_self g.name))) i;
+          (says.1.places g.name id ∙ ap (λ b. cond b (place_of g.id id) None) (same_itself g.name))) i;
     };
     elsewhere = λ other apart. told_same facts more other (record {
       not_shown = not_shown other apart;
@@ -191,7 +193,7 @@ module _ (facts : List Fact) (s : Saying) (asks : List Ask) (no_list : s.groups 
       shown_now = list_any-append (shows_group g.name) facts more ∙ elim shown_then [
         | inl was ↦ or_left (is_shown_group facts g.name) (is_shown_group more g.name) was
         | inr now ↦ or_right (is_shown_group facts g.name) (is_shown_group more g.name)
-            (shown_group s asks no_list g.name ∙ ap (λ o. option_map_or (λ h. is_same h g.name) o false) now.0 ∙ same_self g.name)
+            (shown_group s asks no_list g.name ∙ ap (λ o. option_map_or (λ h. is_same h g.name) o false) now.0 ∙ same_itself g.name)
       ]
 
       -- only the group that is said to be there is shown

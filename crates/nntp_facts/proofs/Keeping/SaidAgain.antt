@@ -1,23 +1,23 @@
 -- What was said before is said again: all stands together as before, and what is kept is right still.
 use Rattle.std.proofs.Common.{◌≡◌, ℕ, ◌+◌, ◌-◌, ◌^◌, ◌<◌, Bool, true, false, not, ◌&&◌, ◌||◌, ◌==◌, cond, IsTrue, List, ◌++◌, Option, None, Some, is_some}
 use Rattle.std.proofs.{Common.{MatchOption, inl, inr, refl, sym, ap, subst, ◌∙◌, arith}, Math.Bool.{or-false}, lemmas.Bool.{true≢false, and_parts, or_cases}}
-use Rattle.std.{proofs.lemmas.Bool.{or_from, eqb-true, eq-eqb, cases_lt, ltb-true, leb-true, le-leb, false_from_ne_true}, specs.Prelude.{◌↔◌, nat_lt, nat_le}}
-use Rattle.std.specs.{Prelude.{IfSome}, List.{list_any}, Cmp.Lexicographic.{nat_list_cmp_total}, FinMap.{len, get, insert, slice_cmp-IsAntisymmetric}}
-use Rattle.std.specs.FinMap.{nat_cmp-IsAntisymmetric}
+use Rattle.std.{proofs.lemmas.Bool.{or_from, eqb-true, eq-eqb, cases_lt, ltb-true, leb-true, false_from_ne_true}, specs.Prelude.{nat_lt, nat_le, IfSome}}
+use Rattle.std.specs.{List.{list_any}, Cmp.Lexicographic.{nat_list_cmp_total}, FinMap.{len, get, insert, slice_cmp-IsAntisymmetric, nat_cmp-IsAntisymmetric}}
 use Rattle.nntp_wire.proofs.ShownMaps.{insert-same}
 use Rattle.nntp_intervals.specs.Inner.Intervals.{holds, is_between}
 use Rattle.nntp_article.specs.{Article.Parts.{Id}, Session.{Spool.{Name}, Machine.{is_same}}}
 use Rattle.nntp_said.specs.{Asks.{Ask}, Facts.{Fact, IdAt}}
-use Rattle.nntp_facts.specs.Given.{id_in, first_given, is_shown, is_denied, says_some, is_known, wants, demand, join, IsGivenNumber}
-use Rattle.nntp_facts.specs.{declared.{demand.Demand.{Demand, TheVariants.{NoDemand}}, ends.Ends.{Ends}}, Together.{shows_article, MeetsDemand, is_possible}}
-use Rattle.nntp_facts.specs.Inner.{Together.{AsksStand}, Part.{Said, Says, only_has, part_denies, is_one_of, is_within, ends_of, join_ends, is_end_of}}
-use Rattle.nntp_facts.specs.Inner.{Part.{is_demanding}, Summary.{Summary, has, IsSummary, AreBounded, AddsNothing}, Saying.{OfGroup, OfArticle, Exists, Saying}}
-use Rattle.nntp_facts.specs.Inner.{Saying.{MayBeOf, MaySay}, Kept.{KeptGroup, Told, told, IsKeptGroup, AreKept, Agree, IsShownAt, MayShow, ids_with}}
-use Rattle.nntp_facts.{specs.Inner.{Kept.{places_with, AreKeptWith}, KeptSaying.{HasSaid, IsThereAlready}}, proofs.Keeping.MoreAsks.{are_possible, added}}
-use Rattle.nntp_facts.proofs.Keeping.HullOfMarks.{is_known_by, apart_by_hull, stands_by_hull, said_some, shown_says, demand_says, some_is}
-use Rattle.nntp_facts.proofs.Keeping.{KeptGroups.{Groups, kept_of, part_kept, bounded_more, agree_kept, same_id}, AsksSettled.{ArePossible, few_for}}
-use Rattle.nntp_facts.proofs.{Keeping.AsksSettled.{within_all}, GivenNumbers.GivenNumbersMeet.{same_demand}, Members.{all_both, any_in, first_found}}
-use Rattle.nntp_facts.proofs.Together.FactsOfASpoolStand.{same_itself}
+use Rattle.nntp_theory.specs.Given.{id_in, first_given, is_shown, is_denied, says_some, is_known, wants, demand, join, IsGivenNumber}
+use Rattle.nntp_theory.specs.{declared.demand.Demand.{Demand, TheVariants.{NoDemand}}, Together.{shows_article, MeetsDemand, is_possible}}
+use Rattle.nntp_theory.{specs.Inner.{Together.{AsksStand}, Estimates.{is_within}, OneMore.{is_demanding}}, proofs.Together.FewEnough.{few_for, within_all}}
+use Rattle.nntp_theory.proofs.{Together.FactsOfASpoolStand.{same_itself}, GivenNumbers.GivenNumbersMeet.{same_demand}, Members.{all_both, any_in, first_found}}
+use Rattle.nntp_numbers.specs.{declared.ends.Ends.{Ends}, Inner.Part.{Said, Says, only_has, part_denies, is_one_of, ends_of, join_ends, is_end_of}}
+use Rattle.nntp_numbers.{specs.Inner.Summary.{Summary, has, IsSummary, AreBounded, AddsNothing}, proofs.MoreAsks.{are_possible, added}}
+use Rattle.nntp_numbers.proofs.HullOfMarks.{is_known_by, apart_by_hull, stands_by_hull, said_some, shown_says, demand_says, some_is}
+use Rattle.nntp_numbers.proofs.{AsksSettled.{ArePossible}, Implied.{Implies}}
+use Rattle.nntp_facts.specs.Inner.{Saying.{OfGroup, OfArticle, Exists, Saying, MayBeOf, MaySay}, Kept.{KeptGroup, Told, told, IsKeptGroup, AreKept, Agree}}
+use Rattle.nntp_facts.specs.Inner.{Kept.{IsShownAt, MayShow, ids_with, places_with, AreKeptWith}, KeptSaying.{HasSaid, IsThereAlready}}
+use Rattle.nntp_facts.proofs.Keeping.KeptGroups.{Groups, kept_of, part_kept, bounded_more, agree_kept, same_id}
 
 -- ---- asks of which the same is kept
 
@@ -82,28 +82,6 @@ module _ (s : Summary) (asks others : List Ask) (sum : IsSummary s asks) (same :
             (sym (same.estimate (len N)) ∙ sum.estimate (len N)
             ∙ within_all N asks (stand.few N (λ n. (λ i. given_before n ((given n).0 i), λ g. (given n).1 (given_still n g)))));
       }
-
--- ---- estimates
-
--- what is within the first is within the other
-abbrev Implies : Option ℕ → Option ℕ → Type 0
-Implies estimate other = (n : ℕ) → is_within estimate n ≡ true → is_within other n ≡ true
-
--- where nothing is estimated, any count is within
-pub none_implies : (a b : Option ℕ) (e : ℕ) → a ≡ None → b ≡ Some e → IsTrue false ↔ Implies a b
-none_implies a b e is_a is_b =
-    subst (λ a. IsTrue false ↔ Implies a b) (sym is_a) (subst (λ b. IsTrue false ↔ Implies None b) (sym is_b)
-    (λ t. absurd (true≢false (sym t)), λ h. absurd (let more = leb-true (e + 1) e (h (e + 1) refl) in omega arith)))
-
-pub some_implies : (a b : Option ℕ) (d e : ℕ) → a ≡ Some d → b ≡ Some e → IsTrue (nat_le d e) ↔ Implies a b
-some_implies a b d e is_a is_b =
-    subst (λ a. IsTrue (nat_le d e) ↔ Implies a b) (sym is_a) (subst (λ b. IsTrue (nat_le d e) ↔ Implies (Some d) b) (sym is_b) (
-      λ t n within.
-          let above = leb-true d e t in
-          let below = leb-true n d within in
-          le-leb n e (omega arith),
-      λ h. h d (le-leb d d (omega arith)),
-    ))
 
 -- ---- what was said before
 

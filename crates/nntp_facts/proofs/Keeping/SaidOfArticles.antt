@@ -5,10 +5,11 @@ use Rattle.std.specs.{Ordering.{nat_cmp}, FinMap.{FinMap}}
 use Rattle.nntp_wire.specs.declared.command.What.{What, TheVariants.{Article, Head, Body}}
 use Rattle.nntp_article.specs.{Article.Parts.{Id, Line}, Session.{Spool.{Name}, Machine.{is_same}}}
 use Rattle.nntp_said.specs.Facts.{Fact, IdAt, TextIs, NoArticle}
-use Rattle.nntp_facts.specs.{Given.{mentions, gives_article, head_in, body_in}, Together.{shows_article, denies_article}, Inner.Together.{SaidOfArticle}}
-use Rattle.nntp_facts.specs.Inner.{Together.{said_of, said_nothing, join_said, JoinArticle, JoinArticles}, Kept.{KeptArticle, said_kept, AreKeptArticles}}
-use Rattle.nntp_facts.specs.Inner.{Articles.{head_sent, body_sent, denied, unsent, with_sent}, Saying.{Lacks, Exists, Sends}, KeptSaying.{said_in}}
-use Rattle.nntp_facts.proofs.{Together.TwoListsOfFacts.{given_append, or_none, none_if}, Keeping.FactsOfParts.{IsRead}}
+use Rattle.nntp_theory.specs.{Given.{mentions, gives_article, head_in, body_in}, Together.{shows_article, denies_article}, Inner.Together.{SaidOfArticle}}
+use Rattle.nntp_theory.{specs.Inner.Together.{said_of, said_nothing, join_said, JoinArticle, JoinArticles}, proofs.Together.TwoListsOfFacts.{given_append}}
+use Rattle.nntp_theory.proofs.Together.TwoListsOfFacts.{or_none, none_if}
+use Rattle.nntp_facts.specs.Inner.{Kept.{KeptArticle, said_kept, AreKeptArticles}, Articles.{head_sent, body_sent, denied, unsent, with_sent}, Saying.{Lacks}}
+use Rattle.nntp_facts.{specs.Inner.{Saying.{Exists, Sends}, KeptSaying.{said_in}}, proofs.Keeping.FactsOfParts.{IsRead}}
 
 -- ---- one list behind the other
 

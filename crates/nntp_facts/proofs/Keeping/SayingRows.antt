@@ -7,11 +7,12 @@ use Rattle.nntp_wire.specs.{Answer.{Asked, Response}, Command.{group, last}, Lis
 use Rattle.nntp_wire.specs.declared.{range.Range.{Range}, water_marks.WaterMarks.{WaterMarks}}
 use Rattle.nntp_said.specs.{declared.position.Position.{Position}, Asks.{Ask, Estimates, ListsIn, Has, Lacks, StandsAt, StandsNowhere, StepsUp, StepsDown}}
 use Rattle.nntp_said.specs.{Asks.{IsTop, IsBottom}, Facts.{Fact, ThereIs, Asks, IdAt, here, facts_of, group_of}}
-use Rattle.nntp_facts.specs.{Given.{is_shown_group}, Inner.{Part.{Said, Says, AreListable}, PartOf.{IsSmall, nothing_said, part_with}, Summary.{AreBounded}}}
+use Rattle.nntp_theory.specs.Given.{is_shown_group}
+use Rattle.nntp_numbers.specs.Inner.{Part.{Said, Says, AreListable}, PartOf.{IsSmall, nothing_said, part_with}, Summary.{AreBounded}}
+use Rattle.nntp_numbers.proofs.{SaidInARange.{says_range}, SaidOfAsks.{says_marks, marks_bounded, says_has, says_lacks, says_stands, says_nowhere, says_up}}
+use Rattle.nntp_numbers.proofs.SaidOfAsks.{says_down, says_top, says_bottom}
 use Rattle.nntp_facts.specs.Inner.Saying.{AreListed, HasSmall, Saying, TellsHere, IsSelectedShown, IsShownThen, nothing, numbers_shown, saying_by}
-use Rattle.nntp_facts.proofs.Keeping.{KeptGroups.{bounded_more}, SaidInARange.{says_range}, SaidOfAsks.{says_marks, marks_bounded, says_has, says_lacks}}
-use Rattle.nntp_facts.proofs.{Keeping.SaidOfAsks.{says_stands, says_nowhere, says_up, says_down, says_top, says_bottom}, Session.FittingAnswers.{listable}}
-use Rattle.nntp_facts.proofs.Session.FittingAnswers.{may_list, numbered}
+use Rattle.nntp_facts.proofs.Keeping.{KeptGroups.{bounded_more}, FittingAnswers.{listable, may_list, numbered}}
 use Rattle.nntp_said.proofs.Rows as rows
 
 -- ---- sayings

@@ -4,9 +4,9 @@ use Rattle.std.{proofs.lemmas.Bool.{true≢false, false_from_ne_true}, specs.{Pr
 use Rattle.std.specs.{Ordering.{eq_by_cmp}, Cmp.{eq_by_cmp_equiv, Lexicographic.{slice_cmp, same_text, nat_list_cmp_total, texts_ties}}}
 use Rattle.nntp_article.specs.{Article.Parts.{Id}, Session.{Spool.{Name}, Machine.{is_same}}}
 use Rattle.nntp_said.specs.{Asks.{Ask}, Facts.{Fact}}
-use Rattle.nntp_facts.specs.{Given.{asks_of, shows_group, first_given, id_in}, Inner.Together.{AsksStand, GiveSame, Together, JoinNumbers, JoinIds}}
-use Rattle.nntp_facts.specs.{Inner.Kept.{KeptGroup, Told, told, IsKeptGroup, IsUntold, AreKept}, Together.{number_in}}
-use Rattle.nntp_facts.proofs.Together.{TwoListsOfFacts.{any_silent, given_silent}, FactsJoin.{asks_append}}
+use Rattle.nntp_theory.specs.{Given.{asks_of, shows_group, first_given, id_in}, Inner.Together.{AsksStand, GiveSame, Together, JoinNumbers, JoinIds}}
+use Rattle.nntp_theory.{specs.Together.{number_in}, proofs.Together.{TwoListsOfFacts.{any_silent, given_silent}, FactsJoin.{asks_append}}}
+use Rattle.nntp_facts.specs.Inner.Kept.{KeptGroup, Told, told, IsKeptGroup, IsUntold, AreKept}
 
 -- ---- ids at numbers
 

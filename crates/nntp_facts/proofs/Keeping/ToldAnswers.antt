@@ -8,13 +8,14 @@ use Rattle.nntp_pair.specs.Inner.Pairing.{lines_in}
 use Rattle.nntp_article.specs.{Session.{Spool.{Name}, Machine.{Visible, start, fits, is_same}}, declared.session.profile.Profile.{Profile}}
 use Rattle.nntp_article.specs.Inner.Misfit.{numbers_of}
 use Rattle.nntp_said.specs.{declared.position.Position.{Position}, Asks.{Estimates}, Facts.{Fact, Holds, ThereIs, here, facts_of, group_of}}
-use Rattle.nntp_facts.specs.{Given.{is_shown_group, shows_group}, Inner.{Given.{size}, Part.{Said, Says}, Summary.{AreBounded}, Together.{Together}}}
-use Rattle.nntp_facts.specs.Inner.{Together.{AgreeWithin, Join, IsWellFormed}, Conflict.{FitsThere}, Kept.{Kept, IsKept, AreAdded}, Saying.{Saying, OfGroup}}
-use Rattle.nntp_facts.specs.Inner.{Saying.{Tells, TellsHere, TellsThere, IsShownThen, IsSelectedShown}, Told.{AreTold, AreToldWith, PlacesTold}}
-use Rattle.nntp_facts.{specs.Conflict.{Placed, said, widest, a_group, the_group, told, SomeHas, told_at, told_with}, proofs.Members.{any_back, all_front}}
-use Rattle.nntp_facts.proofs.{Given.FirstBadAnswer.{size-append}, Ids.SizeOfASession.{answer_size}, Session.GroupOfAnAnswer.{same_selected}}
-use Rattle.nntp_facts.proofs.Together.{FactsJoin.{together_more, none_agrees, group_agrees, answer_agrees}, FactsOfASpoolStand.{stand, same_itself}}
-use Rattle.nntp_facts.proofs.Keeping.{NotedExchange.{Adds}, SayingRows.{of_group, tells_marks}}
+use Rattle.nntp_theory.specs.{Given.{is_shown_group, shows_group}, Inner.{Given.{size}, Together.{Together, AgreeWithin, Join, IsWellFormed}}}
+use Rattle.nntp_theory.specs.{Inner.Conflict.{FitsThere}, Conflict.{Placed, said, widest, a_group, the_group, told, SomeHas, told_at, told_with}}
+use Rattle.nntp_theory.proofs.{Members.{any_back, all_front}, Given.FirstBadAnswer.{size-append}, Ids.SizeOfASession.{answer_size}}
+use Rattle.nntp_theory.proofs.{Session.GroupOfAnAnswer.{same_selected}, Together.FactsJoin.{together_more, none_agrees, group_agrees, answer_agrees}}
+use Rattle.nntp_theory.proofs.Together.FactsOfASpoolStand.{stand, same_itself}
+use Rattle.nntp_numbers.specs.Inner.{Part.{Said, Says}, Summary.{AreBounded}}
+use Rattle.nntp_facts.specs.Inner.{Kept.{Kept, IsKept, AreAdded}, Saying.{Saying, OfGroup, Tells, TellsHere, TellsThere, IsShownThen, IsSelectedShown}}
+use Rattle.nntp_facts.{specs.Inner.Told.{AreTold, AreToldWith, PlacesTold}, proofs.Keeping.{NotedExchange.{Adds}, SayingRows.{of_group, tells_marks}}}
 
 -- ---- that there is such a group
 

@@ -5,12 +5,13 @@ use Rattle.std.specs.Cmp.Lexicographic.{same_text}
 use Rattle.nntp_wire.specs.declared.command.What.{What}
 use Rattle.nntp_article.specs.{Article.Parts.{Id, Line}, Session.Machine.{is_same, head_fits}, declared.session.profile.Profile.{Profile}}
 use Rattle.nntp_said.specs.Facts.{Fact}
-use Rattle.nntp_facts.specs.{Given.{first_given, head_in, body_in}, Together.{GiveOne, shows_article, denies_article}, Inner.Together.{SaidOfArticle, said_of}}
-use Rattle.nntp_facts.specs.Inner.{Together.{said_nothing, join_said, AreSame}, Kept.{Kept, said_kept}, Saying.{OfArticle, Sends, MayBeOf}}
-use Rattle.nntp_facts.specs.{Inner.{KeptSaying.{kept_by, said_in}, Points.{Statement, IsPointOf, IsBeside}}, Conflict.{Point, Article, HeadOf, BodyOf, rank}}
-use Rattle.nntp_facts.{specs.Conflict.{ConflictAt}, proofs.{Conflicts.{at_point}, PointsByRank.{of_rank}, Together.FactsOfASpoolStand.{same_itself}}}
-use Rattle.nntp_facts.proofs.{Together.TwoListsOfFacts.{give_one_both, give_same_of_both}, Keeping.SaidOfArticles.{said_append}}
-use Rattle.nntp_facts.proofs.PointsFound.{StatementsRead.{article_told}, KindsOfPoints.{alone_once}}
+use Rattle.nntp_theory.specs.{Given.{first_given, head_in, body_in}, Together.{GiveOne, shows_article, denies_article}, Inner.Together.{SaidOfArticle, said_of}}
+use Rattle.nntp_theory.specs.{Inner.Together.{said_nothing, join_said, AreSame}, Conflict.{Point, Article, HeadOf, BodyOf, rank, ConflictAt}}
+use Rattle.nntp_theory.proofs.{Conflicts.{at_point}, PointsByRank.{of_rank}, Together.{FactsOfASpoolStand.{same_itself}, TwoListsOfFacts.{give_one_both}}}
+use Rattle.nntp_theory.proofs.Together.TwoListsOfFacts.{give_same_of_both}
+use Rattle.nntp_facts.specs.Inner.{Kept.{Kept, said_kept}, Saying.{OfArticle, Sends, MayBeOf}, KeptSaying.{kept_by, said_in}, Points.{Statement, IsPointOf}}
+use Rattle.nntp_facts.{specs.Inner.Points.{IsBeside}, proofs.{Keeping.SaidOfArticles.{said_append}, PointsFound.StatementsRead.{article_told}}}
+use Rattle.nntp_facts.proofs.PointsFound.KindsOfPoints.{alone_once}
 
 -- ---- the parts of an article
 

@@ -6,15 +6,16 @@ use Rattle.std.specs.{Prelude.{option_map}, List.{AllByRecursion, list_any, list
 use Rattle.nntp_wire.specs.{Listing.{ActiveValue}, Decided.{matches_name}, declared.marks.Marks.TheVariants.{Lenient}}
 use Rattle.nntp_article.specs.{Article.Parts.{Id}, Session.{Spool.{Name}, Machine.{is_same, names_differ}}, declared.session.profile.Profile.{Profile}}
 use Rattle.nntp_said.specs.{Asks.{Ask, Bounds, Estimates}, Facts.{Fact, ThereIs, Asks, GroupsAre, group_of}}
-use Rattle.nntp_facts.specs.Given.{asks_of, shows_group, is_shown_group, first_given, id_in, is_known, is_denied, demand, IsGivenNumber}
-use Rattle.nntp_facts.specs.{Together.{is_possible, MeetsDemand, GiveOne, denies_group, number_in}, Inner.{Part.{Says}, Kept.{Kept, id_of, place_of}}}
-use Rattle.nntp_facts.specs.Inner.{Saying.{OfGroup, asked_id, IsAlone}, ListedGroups.{is_listed, MayList, NoneIsMissing}, Points.{Statement, TellsAlone}}
-use Rattle.nntp_facts.specs.Inner.Points.{IsPointOf, IsPointIn, IsBeside, IsAbout, is_impossible, shows_name, denies_name, id_told, place_told, bounds_of}
-use Rattle.nntp_facts.specs.Conflict.{widest, the_group, Point, Step, Group, Number, Count, First, IdOf, PlaceOf, rank, ConflictAt, AreTooMany}
-use Rattle.nntp_facts.proofs.{Members.{all_at, all_from, found_in}, Conflicts.{at_point}, PointsByRank.{of_rank}, Together.FactsJoin.{asks_append}}
-use Rattle.nntp_facts.proofs.Together.{FactsOfASpoolStand.{same_itself}, TwoListsOfFacts.{give_one_both, give_same_of_both, none_if}}
-use Rattle.nntp_facts.proofs.{Keeping.ListedGroups.{no_bounds, bounds_at}, PointsFound.StatementsRead.{shown_told, denied_told, asks_some, asks_listed}}
-use Rattle.nntp_facts.proofs.PointsFound.StatementsRead.{asks_none, id_given, place_given}
+use Rattle.nntp_theory.specs.Given.{asks_of, shows_group, is_shown_group, first_given, id_in, is_known, is_denied, demand, IsGivenNumber}
+use Rattle.nntp_theory.specs.{Together.{is_possible, MeetsDemand, GiveOne, denies_group, number_in}, Conflict.{widest, the_group, Point, Step, Group, Number}}
+use Rattle.nntp_theory.{specs.Conflict.{Count, First, IdOf, PlaceOf, rank, ConflictAt, AreTooMany}, proofs.Members.{all_at, all_from, found_in}}
+use Rattle.nntp_theory.proofs.{Conflicts.{at_point}, PointsByRank.{of_rank}, Together.{FactsJoin.{asks_append}, FactsOfASpoolStand.{same_itself}}}
+use Rattle.nntp_theory.proofs.Together.TwoListsOfFacts.{give_one_both, give_same_of_both, none_if}
+use Rattle.nntp_numbers.specs.Inner.Part.{Says}
+use Rattle.nntp_facts.specs.Inner.{Kept.{Kept, id_of, place_of}, Saying.{OfGroup, asked_id, IsAlone}, ListedGroups.{is_listed, MayList, NoneIsMissing}}
+use Rattle.nntp_facts.specs.Inner.Points.{Statement, TellsAlone, IsPointOf, IsPointIn, IsBeside, IsAbout, is_impossible, shows_name, denies_name, id_told}
+use Rattle.nntp_facts.{specs.Inner.Points.{place_told, bounds_of}, proofs.Keeping.ListedGroups.{no_bounds, bounds_at}}
+use Rattle.nntp_facts.proofs.PointsFound.StatementsRead.{shown_told, denied_told, asks_some, asks_listed, asks_none, id_given, place_given}
 
 -- an ask can't be met
 abbrev pub cannot : Ask → Bool

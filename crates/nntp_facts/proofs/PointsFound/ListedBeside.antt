@@ -2,7 +2,8 @@
 use Rattle.std.proofs.{Common.{◌≡◌, IsTrue, List, ◌∷◌, sym, subst}, lemmas.Bool.{or_left, or_right}}
 use Rattle.nntp_wire.specs.Listing.{ActiveValue}
 use Rattle.nntp_article.specs.Session.{Spool.{Name}, Machine.{is_same}}
-use Rattle.nntp_facts.{specs.Inner.ListedGroups.{is_listed}, proofs.Together.FactsOfASpoolStand.{same_itself}}
+use Rattle.nntp_facts.specs.Inner.ListedGroups.{is_listed}
+use Rattle.nntp_theory.proofs.Together.FactsOfASpoolStand.{same_itself}
 
 -- the next group is listed
 pub line_listed : (line : ActiveValue) (rest lines : List ActiveValue) → lines ≡ line ∷ rest → IsTrue (is_listed lines line.name)

@@ -3,9 +3,10 @@ use Rattle.std.proofs.{Common.{arith, ℕ, ◌≡◌, ◌<◌, ◌^◌, ◌++◌
 use Rattle.nntp_wire.specs.{Limit.{greatest}, declared.{limit.Limit.{Limit, TheVariants.{Narrow, Wide}}, marks.Marks.TheVariants.{Lenient}}}
 use Rattle.nntp_article.specs.{Session.Spool.{Name}, declared.session.profile.Profile.{Profile}}
 use Rattle.nntp_said.specs.{Asks.{Ask, Estimates}, Facts.{Fact}}
-use Rattle.nntp_facts.specs.{Given.{asks_of, is_denied, denies, demand, IsGivenNumber}, Together.{MeetsDemand}, Inner.Summary.{AreBounded}}
-use Rattle.nntp_facts.specs.{Inner.{Conflict.{AreApart}, Points.{IsAbout, NoneBefore}, StatementView.{rank_of_numbers}}, Conflict.{widest, Point, Number}}
-use Rattle.nntp_facts.{specs.{Conflict.{Count, First, rank, ConflictAt, AreTooMany}, declared.points.NumbersKind.{NumbersKind}}, proofs.Members.{any_back}}
+use Rattle.nntp_theory.specs.{Given.{asks_of, is_denied, denies, demand, IsGivenNumber}, Together.{MeetsDemand}, Inner.Conflict.{AreApart}, Conflict.{widest}}
+use Rattle.nntp_theory.{specs.Conflict.{Point, Number, Count, First, rank, ConflictAt, AreTooMany}, proofs.Members.{any_back}}
+use Rattle.nntp_numbers.specs.Inner.Summary.{AreBounded}
+use Rattle.nntp_facts.specs.{Inner.{Points.{IsAbout, NoneBefore}, StatementView.{rank_of_numbers}}, declared.points.NumbersKind.{NumbersKind}}
 use Rattle.nntp_facts.specs.declared.points.NumbersKind.TheVariants as kinds
 
 -- their ranks are these

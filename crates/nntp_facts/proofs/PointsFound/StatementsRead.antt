@@ -5,12 +5,12 @@ use Rattle.std.specs.Option.{option_map_or, option_or}
 use Rattle.nntp_wire.specs.{Decided.{matches_name}, Listing.{ActiveValue}, declared.marks.Marks.TheVariants.{Lenient}}
 use Rattle.nntp_article.specs.{Article.Parts.{Id}, Session.{Spool.{Name}, Machine.{is_same}}, declared.session.profile.Profile.{Profile}}
 use Rattle.nntp_said.specs.{Asks.{Ask, Estimates}, Facts.{Fact, ThereIs, Asks, GroupsAre}}
-use Rattle.nntp_facts.specs.{Given.{asks_of, shows_group, is_shown_group, first_given, id_in}, Together.{denies_group, number_in}, Inner.Together.{said_of}}
+use Rattle.nntp_theory.specs.{Given.{asks_of, shows_group, is_shown_group, first_given, id_in}, Together.{denies_group, number_in}, Inner.Together.{said_of}}
+use Rattle.nntp_theory.{specs.Conflict.{widest, the_group}, proofs.Together.FactsJoin.{asks_append}}
 use Rattle.nntp_facts.specs.Inner.Saying.{OfGroup, Saying, asked_id, sent_facts, lack_facts, group_facts, there_facts, missing_facts, groups_facts, facts_in}
 use Rattle.nntp_facts.specs.Inner.{Saying.{IsAlone}, Kept.{id_of, place_of}, KeptSaying.{said_in}, ListedGroups.{MayList, is_listed}, Points.{Statement}}
-use Rattle.nntp_facts.specs.{Inner.Points.{TellsAlone, shows_name, denies_name, id_told, place_told, bounds_of}, Conflict.{widest, the_group}}
-use Rattle.nntp_facts.proofs.{Together.FactsJoin.{asks_append}, Keeping.{FactsOfParts.{shown_group, denied_group}, PartsJoin.{said_of_parts, group_is}}}
-use Rattle.nntp_facts.proofs.Keeping.PartsJoin.{no_group_is}
+use Rattle.nntp_facts.{specs.Inner.Points.{TellsAlone, shows_name, denies_name, id_told, place_told, bounds_of}, proofs.Keeping.FactsOfParts.{shown_group}}
+use Rattle.nntp_facts.proofs.Keeping.{FactsOfParts.{denied_group}, PartsJoin.{said_of_parts, group_is, no_group_is}}
 
 or_no : (b : Bool) → (b || false) ≡ b
 or_no true = refl

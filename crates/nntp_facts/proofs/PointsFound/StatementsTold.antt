@@ -5,9 +5,9 @@ use Rattle.nntp_wire.specs.{Name.{IsGroupName}, Answer.{Asked, Response}, declar
 use Rattle.nntp_article.specs.{Session.{Spool.{Name}, Machine.{Visible, start, fits, is_same}}, declared.session.profile.Profile.{Profile}}
 use Rattle.nntp_article.specs.Inner.Misfit.{numbers_of}
 use Rattle.nntp_said.specs.{declared.position.Position.{Position}, Facts.{Fact, ThereIs, here, facts_of, group_of}}
-use Rattle.nntp_facts.specs.{Given.{is_shown_group}, Inner.{Together.{IsWellFormed}, Saying.{Saying, OfGroup, TellsHere, TellsThere, IsSelectedShown}}}
-use Rattle.nntp_facts.specs.{Inner.{Saying.{sent_facts, there_facts}, Conflict.{FitsThere}, Points.{TellsAlone}}, Conflict.{Placed, said, the_group, told}}
-use Rattle.nntp_facts.proofs.{Members.{In, in_front, in_back, all_at, all_both}, Together.{FactsJoin.{answer_agrees}, FactsOfASpoolStand.{same_itself}}}
+use Rattle.nntp_theory.specs.{Given.{is_shown_group}, Inner.{Together.{IsWellFormed}, Conflict.{FitsThere}}, Conflict.{Placed, said, the_group, told}}
+use Rattle.nntp_theory.proofs.{Members.{In, in_front, in_back, all_at, all_both}, Together.{FactsJoin.{answer_agrees}, FactsOfASpoolStand.{same_itself}}}
+use Rattle.nntp_facts.specs.Inner.{Saying.{Saying, OfGroup, TellsHere, TellsThere, IsSelectedShown, sent_facts, there_facts}, Points.{TellsAlone}}
 use Rattle.nntp_facts.proofs.Keeping.ToldAnswers.{there_told, group_said, none_said, selected_spoken}
 
 -- facts that show the selected group

@@ -2,11 +2,12 @@
 use Rattle.std.proofs.{Common.{◌≡◌, true, List, [], ◌∷◌, ◌++◌, map, Some, sym, ap, subst, ◌∙◌}, lemmas.Bool.{true≢false}}
 use Rattle.nntp_article.specs.{declared.session.profile.Profile.{Profile}, Session.Machine.{start, fits}}
 use Rattle.nntp_pair.specs.{Pairing.{Paired, Unpaired, IsNext, asked_at, asked_of, responses_of}, declared.class.Class.TheVariants.{OutOfPlace, Contradiction}}
-use Rattle.nntp_facts.specs.{Answered.{SomePermitsEach}, Classes.{class_by}, declared.noted.Noted.TheVariants.{Consistent, OutOfPlace as NotedOutOfPlace}}
-use Rattle.nntp_facts.specs.{declared.noted.Noted.TheVariants.{Contradiction as NotedContradiction}, Inner.Noted.{FactsKept, HasNotedBehind, IsNotedBehind}}
-use Rattle.nntp_facts.{specs.{Noted.{exchanged, ArePermittedBehind}, Reading.{Accepted, Refused, IsJudged, class_behind}}, proofs.Members.{all_back}}
-use Rattle.nntp_facts.proofs.{Keeping.NotedExchange.{Runs, of_these, with_pair, as_many}, Session.LaterPrompts.{next_behind, visible_longer}}
-use Rattle.nntp_facts.proofs.{Session.OneMoreAnswer.{as_few}, Streams.OneClass.{run_fits}, Reading.JudgedAnswers.{visible_behind}}
+use Rattle.nntp_theory.specs.{Answered.{SomePermitsEach}, Classes.{class_by}, declared.noted.Noted.TheVariants.{Consistent, OutOfPlace as NotedOutOfPlace}}
+use Rattle.nntp_theory.specs.{declared.noted.Noted.TheVariants.{Contradiction as NotedContradiction}, Permitted.{exchanged, ArePermittedBehind}}
+use Rattle.nntp_theory.{specs.Reading.{Accepted, Refused, IsJudged, class_behind}, proofs.{Members.{all_back}, Session.LaterPrompts.{next_behind}}}
+use Rattle.nntp_theory.proofs.Session.{LaterPrompts.{visible_longer}, OneMoreAnswer.{as_few}, PairsGoOn.{Runs, of_these, with_pair, as_many}}
+use Rattle.nntp_theory.proofs.{Streams.OneClass.{run_fits}, Reading.JudgedAnswers.{visible_behind}}
+use Rattle.nntp_facts.specs.Inner.Noted.{FactsKept, HasNotedBehind, IsNotedBehind}
 
 -- a pair that some spool permits behind others fits
 permitted_fits : (profile : Profile) (earlier : List (List Paired)) (past : List Paired) (pair : Paired) → ArePermittedBehind profile earlier (past ++ pair ∷ [])

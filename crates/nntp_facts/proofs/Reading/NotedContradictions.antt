@@ -4,11 +4,12 @@ use Rattle.nntp_wire.specs.Answer.{Asked, Response}
 use Rattle.nntp_article.specs.{declared.session.profile.Profile.{Profile}, Session.Machine.{Visible, visible_after, start, fits}}
 use Rattle.nntp_pair.specs.Pairing.{Paired, asked_at, asked_of, responses_of}
 use Rattle.nntp_said.specs.{declared.position.Position.{Position, TheVariants.{Nowhere}}, Asks.{position_after}}
-use Rattle.nntp_facts.specs.{declared.noted.Noted.TheVariants.{Contradiction}, Classes.{visible_from, position_from, asked_next}, Inner.Permits.{SomePermits}}
-use Rattle.nntp_facts.specs.{Inner.{Noted.{FactsKept, HasNoted, IsNoted, IsDue}, Conflict.{FitsThere}}, Noted.{exchanged}, Conflict.{Placed, placed_from}}
-use Rattle.nntp_facts.{specs.Conflict.{placed_of, placed_behind, told_with, SomeHas, below}, proofs.Conflicts.{session_fits, contradicts}}
-use Rattle.nntp_facts.proofs.{Given.{GivenPermits.{said}, SessionsByFacts.{permits_alone}}, Keeping.NotedExchange.{as_many, ends}}
-use Rattle.nntp_facts.proofs.Session.{LaterPrompts.{next_behind, visible_longer, position_longer, permitted_longer}, OneMoreAnswer.{as_few, fitting_grows}}
+use Rattle.nntp_theory.specs.{declared.noted.Noted.TheVariants.{Contradiction}, Classes.{visible_from, position_from, asked_next}, Inner.Permits.{SomePermits}}
+use Rattle.nntp_theory.specs.{Inner.Conflict.{FitsThere}, Permitted.{exchanged}, Conflict.{Placed, placed_from, placed_of, placed_behind, told_with, SomeHas}}
+use Rattle.nntp_theory.{specs.Conflict.{below}, proofs.{Conflicts.{session_fits, contradicts}, Given.{GivenPermits.{said}, SessionsByFacts.{permits_alone}}}}
+use Rattle.nntp_theory.proofs.Session.{LaterPrompts.{next_behind, visible_longer, position_longer, permitted_longer}, OneMoreAnswer.{as_few, fitting_grows}}
+use Rattle.nntp_theory.proofs.Session.PairsGoOn.{as_many, ends}
+use Rattle.nntp_facts.specs.Inner.Noted.{FactsKept, HasNoted, IsNoted, IsDue}
 
 -- ---- one answer more, and more prompts
 

@@ -3,7 +3,8 @@ use Rattle.std.specs.{Prelude.{◌≡◌, Bool, true, false, not, if◌then◌el
 use Rattle.std.specs.{Option.{option_map_or}, Ordering.{nat_cmp}, Cmp.Lexicographic.{slice_cmp}, FinMap.{FinMap, get, insert}}
 use Rattle.nntp_wire.specs.declared.command.What.{What, TheVariants.{Article, Head, Body}}
 use Rattle.nntp_article.specs.Article.Parts.{head_part, body_part, Id, Line}
-use Rattle.nntp_facts.specs.Inner.{Together.{AreSame}, Kept.{KeptArticle}}
+use Rattle.nntp_theory.specs.Inner.Together.{AreSame}
+use Rattle.nntp_facts.specs.Inner.Kept.{KeptArticle}
 
 -- ---- what is sent of an article
 

@@ -5,9 +5,10 @@ use Rattle.std.specs.FinMap.{FinMap, get, insert, entries}
 use Rattle.nntp_wire.specs.{Inner.Decided.{is_asked}, Decided.{matches_name}, Wildmat.{is_wildmat}}
 use Rattle.nntp_article.specs.{Article.Parts.{Id, Line}, Session.{Spool.{Name}, Machine.{is_same}}}
 use Rattle.nntp_said.specs.{Asks.{Ask}, Facts.{Fact}}
-use Rattle.nntp_facts.specs.{Given.{is_shown, asks_of, is_shown_group, first_given, id_in}, Together.{number_in, denies_group}, Inner.Together.{SaidOfArticle}}
-use Rattle.nntp_facts.specs.Inner.{Together.{said_of, said_nothing, Join}, Summary.{Summary, IsSummary, AreBounded}, ListedGroups.{WereListed}}
-use Rattle.nntp_facts.specs.declared.joins.Joins.{Joins, TheVariants.{Never}}
+use Rattle.nntp_theory.specs.{Given.{is_shown, asks_of, is_shown_group, first_given, id_in}, Together.{number_in, denies_group}, Inner.Together.{SaidOfArticle}}
+use Rattle.nntp_theory.specs.Inner.Together.{said_of, said_nothing, Join}
+use Rattle.nntp_numbers.specs.Inner.Summary.{Summary, IsSummary, AreBounded}
+use Rattle.nntp_facts.specs.{Inner.ListedGroups.{WereListed}, declared.joins.Joins.{Joins, TheVariants.{Never}}}
 
 -- ---- what is added
 

@@ -3,10 +3,11 @@ use Rattle.std.specs.{Prelude.{◌≡◌, ℕ, Bool, if◌then◌else◌, List, 
 use Rattle.std.specs.{Ordering.{nat_cmp}, Cmp.Lexicographic.{slice_cmp}, FinMap.{FinMap, get}}
 use Rattle.nntp_article.specs.{Article.Parts.{Id}, Session.Machine.{is_same, head_fits}}
 use Rattle.nntp_said.specs.{Asks.{Ask}, Facts.{Fact}}
-use Rattle.nntp_facts.specs.{Given.{asks_of, is_shown_group}, Inner.Together.{AsksStand, SaidOfArticle, said_of, said_nothing, join_said, JoinArticle}}
-use Rattle.nntp_facts.specs.Inner.{Part.{only_has}, Summary.{AddsNothing}, Saying.{OfGroup, OfArticle, Lacks, Exists, Sends, Saying, asked_id}}
-use Rattle.nntp_facts.specs.Inner.{Kept.{KeptGroup, told, MayShow, KeptArticle, said_kept, IsAddedIf}, Articles.{head_sent, body_sent, denied, unsent}}
-use Rattle.nntp_facts.specs.{Inner.Articles.{with_sent}, Together.{denies_group, shows_article}}
+use Rattle.nntp_theory.specs.{Given.{asks_of, is_shown_group}, Inner.Together.{AsksStand, SaidOfArticle, said_of, said_nothing, join_said, JoinArticle}}
+use Rattle.nntp_theory.specs.Together.{denies_group, shows_article}
+use Rattle.nntp_numbers.specs.Inner.{Part.{only_has}, Summary.{AddsNothing}}
+use Rattle.nntp_facts.specs.Inner.{Saying.{OfGroup, OfArticle, Lacks, Exists, Sends, Saying, asked_id}, Kept.{KeptGroup, told, MayShow, KeptArticle, said_kept}}
+use Rattle.nntp_facts.specs.Inner.{Kept.{IsAddedIf}, Articles.{head_sent, body_sent, denied, unsent, with_sent}}
 
 -- ---- of a group
 

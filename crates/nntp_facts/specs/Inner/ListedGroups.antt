@@ -4,7 +4,7 @@ use Rattle.std.specs.Option.{option_map_or}
 use Rattle.nntp_wire.specs.{Listing.{ActiveValue}, Decided.{matches_name}}
 use Rattle.nntp_article.specs.Session.{Spool.{Name}, Machine.{is_same, names_differ}}
 use Rattle.nntp_said.specs.{Asks.{Bounds}, Facts.{Fact, GroupsAre}}
-use Rattle.nntp_facts.specs.{Given.{asks_of, is_shown_group}, Inner.Together.{AsksStand}, Together.{denies_group}}
+use Rattle.nntp_theory.specs.{Given.{asks_of, is_shown_group}, Inner.Together.{AsksStand}, Together.{denies_group}}
 
 -- these lines may be listed: each group matches, and none stands twice
 pub record MayList (p : Option (List ℕ)) (lines : List ActiveValue) : Type 0 where

@@ -1,13 +1,13 @@
--- What is said with the words of `Noted.antt`, and needn't be believed.
-use Rattle.std.specs.Prelude.{◌≡◌, ℕ, ◌+◌, ◌<◌, ◌≤◌, ◌^◌, Bool, false, true, IsTrue, IsFalse, List, [], ◌∷◌, ◌++◌, length, map, Result, Ok, Err}
+-- What the facts hold of the exchanges that were noted, one session behind the other.
+use Rattle.std.specs.Prelude.{◌≡◌, ℕ, ◌+◌, ◌<◌, ◌≤◌, ◌^◌, Bool, false, true, IsTrue, IsFalse, List, [], ◌∷◌, ◌++◌, length, Result, Ok, Err}
 use Rattle.std.specs.List.{AllByRecursion}
 use Rattle.nntp_article.specs.{declared.session.profile.Profile.{Profile}, Session.{Machine.{Visible, start, fits, visible_after}, Limit.{profile_of}}}
 use Rattle.nntp_wire.specs.declared.{limit.Limit.{Limit}, marks.Marks.{Marks}}
 use Rattle.nntp_pair.specs.{Pairing.{Paired, asked_at, asked_of, responses_of}, Inner.Pairing.{lines_in}}
 use Rattle.nntp_said.specs.{declared.position.Position.{Position, TheVariants.{Nowhere}}, Facts.{Fact, facts_of}, Asks.{position_after}}
-use Rattle.nntp_facts.specs.{Given.{facts_of_session}, Classes.{visible_from, position_from}, Answered.{facts_of_all}, Inner.Kept.{Kept, IsKept}}
-use Rattle.nntp_facts.specs.declared.noted.{Noted.{Noted, TheVariants.{Consistent, OutOfPlace, Contradiction}}, FactsError.{FactsError, TheVariants.{Memory}}}
-use Rattle.nntp_facts.specs.Noted.{exchanged, ArePermittedBehind}
+use Rattle.nntp_theory.specs.{Classes.{visible_from, position_from}, declared.noted.Noted.{Noted, TheVariants.{Consistent, OutOfPlace, Contradiction}}}
+use Rattle.nntp_theory.specs.{Permitted.{ArePermittedBehind}, Inner.Exchanged.{said_behind, AreFew}}
+use Rattle.nntp_facts.specs.{Inner.Kept.{Kept, IsKept}, declared.facts_error.FactsError.{FactsError, TheVariants.{Memory}}}
 
 -- the limit and the marks, how many exchanges of the session were accepted, the visible state and the place in the selected group that they leave, what those of all sessions say, and whether memory
 -- was refused
@@ -23,19 +23,6 @@ pub record FactsKept : Type 0 where
 -- the profile by which the facts judge
 abbrev pub profile_kept : FactsKept → Profile
 profile_kept facts = profile_of facts.limit facts.marks
-
--- what the exchanges of a session say of the spool, where marks are read so
-abbrev pub said_by : Marks → List Paired → List Fact
-said_by how past = facts_of_session how (asked_of past) (responses_of past)
-
--- what they say behind those of earlier sessions
-abbrev pub said_behind : Marks → List (List Paired) → List Paired → List Fact
-said_behind how earlier past = facts_of_all how (map exchanged earlier) ++ said_by how past
-
--- there are fewer than 2^64 exchanges, each of fewer than 2^64 lines
-pub record AreFew (pairs : List Paired) : Type 0 where
-  pub lines : AllByRecursion (λ pair. lines_in pair.response < 2 ^ 64) pairs
-  pub few : length pairs < 2 ^ 64
 
 -- the facts are those of these exchanges of a session and of those of earlier sessions, which some spool permits; the visible state and the place in the group are of this session alone
 pub record HasNotedBehind (profile : Profile) (facts : FactsKept) (earlier : List (List Paired)) (past : List Paired) : Type 0 where

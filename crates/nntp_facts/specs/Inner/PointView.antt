@@ -1,6 +1,6 @@
 -- What a point means that code gives.
 use Rattle.nntp_facts.specs.declared.point.Point.{Point, TheVariants.{Step, Group, Number, Count, First, IdOf, PlaceOf, Article, HeadOf, BodyOf}}
-use Rattle.nntp_facts.specs.Conflict as points
+use Rattle.nntp_theory.specs.Conflict as points
 
 -- the point, without where its octets lie in memory
 abbrev pub point_of : Point → points.Point

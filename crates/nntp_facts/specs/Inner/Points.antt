@@ -5,9 +5,9 @@ use Rattle.nntp_article.specs.{Article.Parts.{Id}, Session.{Spool.{Name}, Machin
 use Rattle.nntp_article.specs.Inner.Misfit.{numbers_of}
 use Rattle.nntp_wire.specs.{Decided.{matches_name}, Listing.{ActiveValue}}
 use Rattle.nntp_said.specs.{Asks.{Ask, Bounds}, Facts.{Fact, group_of}}
-use Rattle.nntp_facts.specs.Inner.{Together.{IsWellFormed, AgreeWithin, Together}, Kept.{id_of, place_of, Kept, IsKept}, ListedGroups.{is_listed}}
-use Rattle.nntp_facts.specs.{Inner.{Saying.{Saying, Tells}, Conflict.{FitsThere}}, Conflict.{Placed, told, told_with, with_group, Point, Number, Count, First}}
-use Rattle.nntp_facts.specs.Conflict.{rank, ConflictAt}
+use Rattle.nntp_theory.specs.{Inner.{Together.{IsWellFormed, AgreeWithin, Together}, Conflict.{FitsThere}}, Conflict.{Placed, told, told_with, with_group}}
+use Rattle.nntp_theory.specs.Conflict.{Point, Number, Count, First, rank, ConflictAt}
+use Rattle.nntp_facts.specs.Inner.{Kept.{id_of, place_of, Kept, IsKept}, ListedGroups.{is_listed}, Saying.{Saying, Tells}}
 
 -- ---- what the last answer of a conflict says
 

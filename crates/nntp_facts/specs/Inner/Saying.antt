@@ -3,7 +3,8 @@ use Rattle.std.specs.Prelude.{◌≡◌, ℕ, true, IsTrue, List, [], ◌∷◌,
 use Rattle.nntp_article.specs.{Article.Parts.{Id, Line}, Session.{Spool.{Name}, Machine.{Visible, head_fits}}}
 use Rattle.nntp_wire.specs.{declared.command.What.{What}, Answer.{Response, numbers_are, sends}, Listing.{ActiveValue, listed_numbers}}
 use Rattle.nntp_said.specs.{Asks.{Ask, Has}, Facts.{Fact, ThereIs, ThereIsNo, Asks, IdAt, TextIs, NoArticle, GroupsAre, group_of}}
-use Rattle.nntp_facts.specs.{Given.{is_shown_group}, Inner.{Part.{Said, Says}, PartOf.{IsSmall, nothing_said, part_with}, Summary.{AreBounded}}}
+use Rattle.nntp_theory.specs.Given.{is_shown_group}
+use Rattle.nntp_numbers.specs.Inner.{Part.{Said, Says}, PartOf.{IsSmall, nothing_said, part_with}, Summary.{AreBounded}}
 use Rattle.nntp_facts.specs.Inner.ListedGroups.{MayList}
 
 -- what is said of one group: of its numbers, and the id at a number, if one is shown

@@ -2,8 +2,9 @@
 use Rattle.std.specs.Prelude.{ℕ, List, Option, option_map}
 use Rattle.nntp_wire.specs.Listing.{ActiveValue, active_groups}
 use Rattle.nntp_article.specs.Article.Parts.{Id}
-use Rattle.nntp_facts.specs.{Inner.PartView.{said}, declared.saying.{IdAt.{IdAt}, GroupPart.{GroupPart}, ArticlePart.{ArticlePart, TheVariants.{Lacks}}}}
-use Rattle.nntp_facts.specs.declared.saying.{ArticlePart.TheVariants.{Exists, Sends}, ActivePart.{ActivePart}, Saying.{Saying}}
+use Rattle.nntp_numbers.specs.Inner.PartView.{said}
+use Rattle.nntp_facts.specs.declared.saying.{IdAt.{IdAt}, GroupPart.{GroupPart}, ArticlePart.{ArticlePart, TheVariants.{Lacks, Exists, Sends}}}
+use Rattle.nntp_facts.specs.declared.saying.{ActivePart.{ActivePart}, Saying.{Saying}}
 use Rattle.nntp_facts.specs.Inner.Saying as said_of
 
 -- the id at a number

@@ -2,7 +2,8 @@
 use Rattle.std.specs.Prelude.{ℕ, ◌+◌, ◌*◌, ◌^◌, ◌≤◌, Bool, true, false, List, ◌++◌, length}
 use Rattle.nntp_article.specs.declared.session.profile.Profile.{Profile}
 use Rattle.nntp_said.specs.Facts.{Fact}
-use Rattle.nntp_facts.specs.{Inner.{Given.{size}, Together.{Together}, Kept.{Kept, IsKept}}, Conflict.{Placed, SomeHas, told_with}}
+use Rattle.nntp_theory.specs.{Inner.{Given.{size}, Together.{Together}}, Conflict.{Placed, SomeHas, told_with}}
+use Rattle.nntp_facts.specs.Inner.Kept.{Kept, IsKept}
 
 -- more facts, which are few, are kept beside those before, where all stands together; and else no spool has all of it
 abbrev pub AreTold : Profile → List Fact → List Fact → Kept → Bool → Type 0

@@ -3,7 +3,7 @@ ghost use Rattle.std.specs.Prelude.{◌≡◌, ◌↔◌, IsTrue, IfOk, OnOk, op
 ghost use Rattle.std.specs.Option.{option_or};
 ghost use Rattle.nntp_article.specs.Article.Parts.{Id};
 ghost use Rattle.nntp_article.specs.Session.Machine.{head_fits};
-ghost use Rattle.nntp_facts.specs.Inner.Together.{AreSame};
+ghost use Rattle.nntp_theory.specs.Inner.Together.{AreSame};
 ghost use Rattle.nntp_facts.specs.Inner.Articles.{head_sent, body_sent, MayBeSent, unsent, with_sent};
 ghost use Rattle.nntp_facts.specs.Inner.Kept.{IsAddedIf};
 ghost use Rattle.nntp_facts.specs.Inner.ArticleView.{known_article, lines_held};

@@ -9,10 +9,10 @@ ghost use Rattle.nntp_wire.specs.Inner.View.{active_value};
 ghost use Rattle.nntp_article.specs.Session.Spool.{Name};
 ghost use Rattle.nntp_article.specs.Session.Machine.{is_same};
 ghost use Rattle.nntp_said.specs.Facts.{Fact, GroupsAre};
-ghost use Rattle.nntp_facts.specs.Inner.Together.{Together};
-ghost use Rattle.nntp_facts.specs.Together.{denies_group};
+ghost use Rattle.nntp_theory.specs.Inner.Together.{Together};
+ghost use Rattle.nntp_theory.specs.Together.{denies_group};
 ghost use Rattle.nntp_wire.specs.Name.{IsGroupName};
-ghost use Rattle.nntp_facts.specs.Given.{is_shown_group};
+ghost use Rattle.nntp_theory.specs.Given.{is_shown_group};
 ghost use Rattle.nntp_facts.specs.Inner.Kept.{AreKeptGroups, asked_count};
 ghost use Rattle.nntp_facts.specs.Inner.ListedGroups.{is_listed, NoneIsMissing};
 

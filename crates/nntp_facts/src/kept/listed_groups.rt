@@ -3,8 +3,8 @@ ghost use Rattle.std.specs.Prelude.{◌≡◌, ◌↔◌, ◌++◌, ◌∷◌, [
 ghost use Rattle.std.specs.List.{AllByRecursion};
 ghost use Rattle.nntp_wire.specs.Inner.View.{active_value};
 ghost use Rattle.nntp_said.specs.Facts.{Fact, GroupsAre};
-ghost use Rattle.nntp_facts.specs.Inner.Together.{IsWellFormed, Together, Join};
-ghost use Rattle.nntp_facts.specs.Given.{is_shown_group};
+ghost use Rattle.nntp_theory.specs.Inner.Together.{IsWellFormed, Together, Join};
+ghost use Rattle.nntp_theory.specs.Given.{is_shown_group};
 ghost use Rattle.nntp_facts.specs.Inner.Kept.{IsKept, AreAdded, asked_count};
 ghost use Rattle.nntp_facts.specs.Inner.ListedGroups.{MayList, LineJoins, shown_lines};
 

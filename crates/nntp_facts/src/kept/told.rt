@@ -5,19 +5,19 @@ ghost use Rattle.nntp_wire.specs.Limit.{greatest};
 ghost use Rattle.nntp_article.specs.declared.session.profile.Profile.{Profile};
 ghost use Rattle.nntp_article.specs.Session.Limit.{profile_of};
 ghost use Rattle.nntp_said.specs.Facts.{Fact, group_of};
-ghost use Rattle.nntp_facts.specs.Inner.Together.{Together};
-ghost use Rattle.nntp_facts.specs.Conflict.{Placed as PlacedValue, a_group, the_group, told};
-ghost use Rattle.nntp_facts.specs.Inner.Conflict.{FitsThere};
+ghost use Rattle.nntp_theory.specs.Inner.Together.{Together};
+ghost use Rattle.nntp_theory.specs.Conflict.{Placed as PlacedValue, a_group, the_group, told};
+ghost use Rattle.nntp_theory.specs.Inner.Conflict.{FitsThere};
 ghost use Rattle.nntp_facts.specs.Inner.Kept.{IsKept, AreAdded};
 ghost use Rattle.nntp_facts.specs.Inner.Saying.{TellsThere};
 ghost use Rattle.nntp_facts.specs.Inner.SayingView.{saying_of};
 ghost use Rattle.nntp_facts.specs.Inner.Told.{AreTold, AreToldWith, PlacesTold};
 
 use crate::kept::Kept;
-use crate::numbers_part::NumbersPart;
 use crate::placed::Placed;
 use crate::saying::Saying;
 use nntp_article::{groups_listed, numbers_listed};
+use nntp_numbers::NumbersPart;
 use nntp_wire::{GroupName, Limit, Marks};
 use std::alloc::{AllocError, Allocator};
 

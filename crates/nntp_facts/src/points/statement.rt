@@ -2,8 +2,8 @@
 ghost use Rattle.std.specs.Prelude.{◌≡◌};
 ghost use Rattle.nntp_article.specs.declared.session.profile.Profile.{Profile};
 ghost use Rattle.nntp_article.specs.Inner.Misfit.{numbers_of};
-ghost use Rattle.nntp_facts.specs.Inner.Conflict.{FitsThere};
-ghost use Rattle.nntp_facts.specs.Conflict.{told};
+ghost use Rattle.nntp_theory.specs.Inner.Conflict.{FitsThere};
+ghost use Rattle.nntp_theory.specs.Conflict.{told};
 ghost use Rattle.nntp_facts.specs.Inner.Points.{TellsAlone};
 ghost use Rattle.nntp_facts.specs.Inner.StatementView.{statement_of};
 

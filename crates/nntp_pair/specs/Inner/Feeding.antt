@@ -1,9 +1,9 @@
--- What is said with the words of `Feeding.antt`, and needn't be believed.
+-- Both streams as they come, in pieces.
 use Rattle.std.specs.Prelude.{◌≡◌, ℕ, ◌+◌, ◌^◌, ◌<◌, ◌≤◌, Bool, true, false, nat_lt, List, [], ◌++◌, length}
-use Rattle.nntp_pair.specs.{Pairing.{Paired, Unpaired, IsNext, AreNext, Ends, end, bad, streams}, Inner.{Pairing.{IsLasting, places_from}, Sides.{given}}}
-use Rattle.nntp_pair.specs.{Inner.Sides.{count_of, counted}, declared.{side.Side.{Side, TheVariants.{Client, Server}}, octet_counts.OctetCounts.{OctetCounts}}}
-use Rattle.nntp_pair.specs.declared.{pair_error.PairError.{PairError, TheVariants.{Memory, Failed, TooLong}}, class.PairClass.{PairClass}, peek.Peek.{Peek}}
-use Rattle.nntp_pair.specs.{declared.ending.Ending.{Ending}, Feeding.{HasNext}}
+use Rattle.nntp_pair.specs.{Pairing.{Paired, Unpaired, IsNext, AreNext, Ends, end, bad, streams, HasNext}, Inner.Pairing.{IsLasting, places_from}}
+use Rattle.nntp_pair.specs.{Inner.Sides.{given, count_of, counted}, declared.side.Side.{Side, TheVariants.{Client, Server}}}
+use Rattle.nntp_pair.specs.declared.{octet_counts.OctetCounts.{OctetCounts}, pair_error.PairError.{PairError, TheVariants.{Memory, Failed, TooLong}}}
+use Rattle.nntp_pair.specs.declared.{class.PairClass.{PairClass}, peek.Peek.{Peek}, ending.Ending.{Ending}}
 use Rattle.nntp_pair.specs.declared.peek.Peek.TheVariants as peek
 use Rattle.nntp_pair.specs.declared.ending.Ending.TheVariants as ending
 

@@ -1,6 +1,6 @@
 -- What is said with the words of `Outcome.antt`, and needn't be believed.
 use Rattle.std.specs.Prelude.{Bool, true, false, [], ◌∷◌}
-use Rattle.nntp_facts.specs.Outcome.{Outcome, Yes, No}
+use Rattle.nntp_theory.specs.Outcome.{Outcome, Yes, No}
 use Rattle.nntp_several.specs.Outcome.{OutcomeOfAll, YesOfAll, NoOfAll}
 
 -- the outcome is a yes

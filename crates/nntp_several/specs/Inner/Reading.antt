@@ -2,7 +2,7 @@
 use Rattle.std.specs.Prelude.{◌≡◌, ◌⊎◌, List, ◌∷◌, ◌++◌, ℕ, length, map, Some}
 use Rattle.nntp_article.specs.declared.session.profile.Profile.{Profile}
 use Rattle.nntp_pair.specs.{declared.class.{PairClass.{PairClass}, Class.{Class}}, Pairing.{Paired, end, bad}, Classes.{class_of}}
-use Rattle.nntp_facts.specs.Reading.{Judged, Accepted, accepted_of, class_behind}
+use Rattle.nntp_theory.specs.Reading.{Judged, Accepted, accepted_of, class_behind}
 use Rattle.nntp_several.specs.Reading.{ReadSession}
 
 -- all answers of a session are accepted, and no octet is left

@@ -2,8 +2,9 @@
 use Rattle.std.specs.Prelude.{◌≡◌, ℕ, ◌+◌, ◌^◌, ◌<◌, Bool, true, false, List, [], ◌∷◌, ◌++◌, length, map, Option, None, Some}
 use Rattle.nntp_wire.specs.declared.{limit.Limit.{Limit}, marks.Marks.{Marks}}
 use Rattle.nntp_article.specs.{Session.Limit.{profile_of}, declared.session.profile.Profile.{Profile}}
-use Rattle.nntp_pair.specs.{Pairing.{Paired}, Inner.{Sides.{given, count_of}, Feeding.{Fed, IsFed, left_of}}, declared.octet_counts.OctetCounts.{OctetCounts}}
-use Rattle.nntp_pair.specs.{declared.{side.Side.{Side, TheVariants.{Client, Server}}, pair_error.PairError.{PairError}, class.Class.{Class}}, Feeding.{HasNext}}
+use Rattle.nntp_pair.specs.{Pairing.{Paired, HasNext}, Inner.{Sides.{given, count_of}, Feeding.{Fed, IsFed, left_of}}}
+use Rattle.nntp_pair.specs.declared.{octet_counts.OctetCounts.{OctetCounts}, side.Side.{Side, TheVariants.{Client, Server}}, pair_error.PairError.{PairError}}
+use Rattle.nntp_pair.specs.declared.class.Class.{Class}
 use Rattle.nntp_facts.specs.Inner.Noted.{FactsKept, HasNotedBehind, profile_kept}
 use Rattle.nntp_several.specs.{Inner.Paired.{ArePaired}, Sessions.{Recorded}, Told.{with_more, IsToldBadOfAll}}
 use Rattle.nntp_verdict.specs.{Judging.{IsVerdict, IsVerdictOfAll}, Inner.Judging.{IsVerdictFrom, IsNoForGood}, Verdict.{Judgement, JudgementOfAll}}

@@ -3,13 +3,14 @@ use Rattle.std.specs.Prelude.{◌≡◌, ◌⊎◌, ℕ, ◌<◌, Bool, true, fa
 use Rattle.nntp_wire.specs.declared.{limit.Limit.{Limit}, marks.Marks.{Marks}}
 use Rattle.nntp_pair.specs.{Pairing.{Paired, Unpaired, Ends, bad as pair_end, line_ahead}, declared.class.{PairClass.{PairClass}, Class.{Class}}}
 use Rattle.nntp_pair.specs.declared.class.Class.TheVariants.{Surplus, Cut, Malformed, OutOfPlace, Contradiction}
-use Rattle.nntp_facts.specs.{declared.noted.Noted.{Noted}, Inner.Noted.{FactsKept, HasNotedBehind}}
+use Rattle.nntp_theory.specs.declared.noted.Noted.{Noted}
+use Rattle.nntp_facts.specs.Inner.Noted.{FactsKept, HasNotedBehind}
 use Rattle.nntp_article.specs.declared.session.profile.Profile.{Profile}
 use Rattle.nntp_several.specs.{Inner.{Paired.{ArePaired}, Passing.{PassedOfAll}}, Sessions.{Recorded}}
 use Rattle.nntp_printing.specs.BadAnswer.{IsFirstLine}
 use Rattle.nntp_verdict.specs.{Verdict.{bad, JudgementOfAll, consistent_of_all, bad_of_all}, Judging.{IsVerdictOfAll}}
 use Rattle.nntp_pair.specs.declared.class.PairClass.TheVariants as pair
-use Rattle.nntp_facts.specs.declared.noted.Noted.TheVariants as noted
+use Rattle.nntp_theory.specs.declared.noted.Noted.TheVariants as noted
 
 -- the class of an answer that is noted, if it is bad
 abbrev pub class_noted : Noted → Option Class

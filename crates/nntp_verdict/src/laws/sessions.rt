@@ -1,8 +1,8 @@
 //! Laws of verdicts on several sessions of one spool.
 ghost use Rattle.std.specs.Prelude.{◌≡◌, ◌↔◌, ◌<◌, ◌^◌, ℕ, List, [], ◌∷◌, ◌++◌, length, map, Option, Ok, IsTrue};
 ghost use Rattle.nntp_article.specs.Session.Spool.{Spool};
-ghost use Rattle.nntp_facts.specs.Given.{IsGiven};
-ghost use Rattle.nntp_facts.specs.Inner.Given.{size};
+ghost use Rattle.nntp_theory.specs.Given.{IsGiven};
+ghost use Rattle.nntp_theory.specs.Inner.Given.{size};
 ghost use Rattle.nntp_pair.specs.declared.class.Class.{Class};
 ghost use Rattle.nntp_verdict.specs.Judging.{IsVerdict, IsVerdictOfAll, StopsAt};
 ghost use Rattle.nntp_spool.specs.Limited.{LimitedSpool};
@@ -12,11 +12,11 @@ ghost use Rattle.nntp_verdict.specs.Verdict.{Judgement, JudgementOfAll, consiste
 ghost use Rattle.nntp_verdict.specs.Inner.Verdict.{verdict_of_one};
 ghost use Rattle.nntp_wire.specs.declared.limit.Limit.{Limit};
 ghost use Rattle.nntp_article.specs.Session.Limit.{profile_of};
-ghost use Rattle.nntp_facts.specs.Noted.{exchanged};
+ghost use Rattle.nntp_theory.specs.Permitted.{exchanged};
 ghost use Rattle.nntp_pair.specs.Pairing.{Paired};
 ghost use Rattle.nntp_several.specs.Inner.Paired.{ArePaired};
 ghost use Rattle.nntp_wire.specs.declared.marks.Marks.{Marks};
-ghost use Rattle.nntp_facts.specs.Answered.{SomePermitsEach, facts_of_all};
+ghost use Rattle.nntp_theory.specs.Answered.{SomePermitsEach, facts_of_all};
 ghost use Rattle.nntp_several.specs.Sessions.{Recorded, ExplainsAll};
 ghost use Rattle.nntp_several.specs.Outcome.{NoOfAll, IsOutcomeOfAll};
 

@@ -5,8 +5,8 @@ use Rattle.std.specs.{Cmp.Lexicographic.{slice_cmp}, FinMap.{get}}
 use Rattle.nntp_wire.specs.declared.limit.Limit.{Limit}
 use Rattle.nntp_article.specs.{Article.Parts.{Id}, Session.{Machine.{is_same}, Spool.{Spool, Name, Numbers, Text, IsGroup, IsNumber, numbers}}}
 use Rattle.nntp_said.specs.Facts.{Fact}
-use Rattle.nntp_facts.specs.{Given.{id_shown, is_mentioned, plain_head, invented, AreInvented}, Inner.Readers.{ShownGroup, ShownArticle, HasShownNumbers}}
-use Rattle.nntp_facts.specs.{Inner.Readers.{IsShownArticle}, Together.{shows_article}}
+use Rattle.nntp_theory.specs.{Given.{id_shown, is_mentioned, plain_head, invented, AreInvented}, Together.{shows_article}}
+use Rattle.nntp_facts.specs.Inner.Readers.{ShownGroup, ShownArticle, HasShownNumbers, IsShownArticle}
 use Rattle.nntp_spool.specs.{Inner.Building.{Building}, declared.value.spool_fault.SpoolFault.{SpoolFault, TheVariants.{Memory}}}
 
 -- the outcome of making something: it is so, or memory was refused

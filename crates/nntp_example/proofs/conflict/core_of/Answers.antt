@@ -1,6 +1,6 @@
 use Rattle.std.proofs.Common.{List, length, sym, subst}
 use Rattle.nntp_article.specs.Session.Limit.{profile_of}
-use Rattle.nntp_facts.specs.Conflict.{Placed, SomeHas, told_with, below}
+use Rattle.nntp_theory.specs.Conflict.{Placed, SomeHas, told_with, below}
 use Rattle.nntp_example.proofs.conflict.core_of.Goals as goal
 
 pub find-requires-clause-conflict : goal.find-requires-clause-conflict

@@ -1,6 +1,7 @@
 use Rattle.std.{proofs.Common.{◌++◌, ◌∙◌, ap, subst, List}, specs.Prelude.{MatchOption}}
 use Rattle.nntp_wire.specs.declared.marks.Marks.{Marks}
-use Rattle.nntp_facts.specs.{Conflict.{Placed, IsFirstPoint, told_with, places_of}, Inner.PointView.{point_of}}
+use Rattle.nntp_theory.specs.Conflict.{Placed, IsFirstPoint, told_with, places_of}
+use Rattle.nntp_facts.specs.Inner.PointView.{point_of}
 use Rattle.nntp_explain.{specs.{Says.{conflict_lines}, Standing.{Cited}}, proofs.{ConflictLemmas.{tells}, SaysLemmas.{on_ok}}}
 use Rattle.nntp_explain.proofs.explainer.put_point_of.Goals as goal
 

@@ -1,6 +1,7 @@
 use Rattle.std.proofs.Common.{◌++◌, [], ◌∷◌, ◌+◌, ◌-◌, ◌≡◌, ◌<◌, arith, subst}
 use Rattle.nntp_article.specs.Session.Limit.{profile_of}
-use Rattle.nntp_facts.{specs.{Conflict.{below}, Inner.Told.{AreToldWith, PlacesTold}}, proofs.Keeping.CoresFound.{below_told, place_found, last_found}}
+use Rattle.nntp_theory.specs.Conflict.{below}
+use Rattle.nntp_facts.{specs.Inner.Told.{AreToldWith, PlacesTold}, proofs.Keeping.CoresFound.{below_told, place_found, last_found}}
 use Rattle.nntp_facts.proofs.conflict.search_refused.Goals as goal
 
 pub returns-then-not-branch-clause-found : goal.returns-then-not-branch-clause-found

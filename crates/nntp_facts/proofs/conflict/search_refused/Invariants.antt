@@ -1,6 +1,7 @@
 use Rattle.std.{proofs.Common.{List, ℕ, ◌++◌}, specs.List.{AllByRecursion}}
 use Rattle.nntp_article.specs.Session.Limit.{profile_of}
-use Rattle.nntp_facts.specs.{Conflict.{Placed, below}, Inner.{Conflict.{FitsThere}, Told.{AreToldWith}}}
+use Rattle.nntp_theory.specs.{Conflict.{Placed, below}, Inner.Conflict.{FitsThere}}
+use Rattle.nntp_facts.specs.Inner.Told.{AreToldWith}
 use Rattle.nntp_facts.proofs.conflict.search_refused.Given as goal
 
 abbrev pub invariant-loop-place : goal.invariant-loop-place

@@ -1,7 +1,7 @@
 use Rattle.std.proofs.Common.{[], ◌++◌, ◌∷◌, true, false, get_or, subst, take}
 use Rattle.nntp_article.specs.Session.Limit.{profile_of}
-use Rattle.nntp_facts.{specs.{Conflict.{told}, Inner.Told.{AreTold, PlacesTold}}, proofs.Keeping.CoresFound.{nothing_together, bad_told, more_conflict}}
-use Rattle.nntp_facts.proofs.Keeping.CoresFound.{next_told, next_conflict}
+use Rattle.nntp_theory.specs.Conflict.{told}
+use Rattle.nntp_facts.{specs.Inner.Told.{AreTold, PlacesTold}, proofs.Keeping.CoresFound.{nothing_together, bad_told, more_conflict, next_told, next_conflict}}
 use Rattle.nntp_facts.proofs.conflict.tell_all.Goals as goal
 
 pub returns-then-not-branch : goal.returns-then-not-branch

@@ -1,6 +1,7 @@
 use Rattle.std.{proofs.Common.{[], ◌∷◌, take}, specs.List.{AllByRecursion}}
 use Rattle.nntp_article.specs.Session.Limit.{profile_of}
-use Rattle.nntp_facts.specs.Inner.{Conflict.{FitsThere}, Kept.{IsKept}, Told.{AreToldWith}}
+use Rattle.nntp_theory.specs.Inner.Conflict.{FitsThere}
+use Rattle.nntp_facts.specs.Inner.{Kept.{IsKept}, Told.{AreToldWith}}
 use Rattle.nntp_facts.proofs.conflict.tell_all.Given as goal
 
 abbrev pub invariant-loop-place : goal.invariant-loop-place

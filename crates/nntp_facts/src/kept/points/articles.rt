@@ -3,9 +3,9 @@ ghost use Rattle.std.specs.Prelude.{◌≡◌, ◌++◌, if◌then◌else◌, fa
 ghost use Rattle.std.specs.Option.{option_map_or};
 ghost use Rattle.std.specs.FinMap.{get};
 ghost use Rattle.nntp_facts.specs.Inner.Articles.{is_there};
-ghost use Rattle.nntp_facts.specs.Conflict.{Article, HeadOf, BodyOf};
-ghost use Rattle.nntp_facts.specs.Given.{first_given, head_in, body_in};
-ghost use Rattle.nntp_facts.specs.Inner.Together.{AreSame};
+ghost use Rattle.nntp_theory.specs.Conflict.{Article, HeadOf, BodyOf};
+ghost use Rattle.nntp_theory.specs.Given.{first_given, head_in, body_in};
+ghost use Rattle.nntp_theory.specs.Inner.Together.{AreSame};
 ghost use Rattle.nntp_facts.specs.Inner.Kept.{IsKept};
 ghost use Rattle.nntp_article.specs.declared.session.profile.Profile.{Profile};
 ghost use Rattle.nntp_said.specs.Facts.{Fact};

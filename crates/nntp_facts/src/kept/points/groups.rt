@@ -1,13 +1,13 @@
 //! Groups that are shown and denied.
 ghost use Rattle.std.specs.Prelude.{◌≡◌, ◌++◌, ◌⊎◌, Some, None, List, IfOk, IfSome, option_map, MatchOption, IsTrue, IsFalse};
 ghost use Rattle.std.specs.List.{AllByRecursion, list_any};
-ghost use Rattle.nntp_facts.specs.Inner.Together.{Together};
-ghost use Rattle.nntp_facts.specs.Together.{denies_group};
+ghost use Rattle.nntp_theory.specs.Inner.Together.{Together};
+ghost use Rattle.nntp_theory.specs.Together.{denies_group};
 ghost use Rattle.nntp_facts.specs.Inner.Kept.{IsKept};
 ghost use Rattle.nntp_facts.specs.Inner.ListedGroups.{is_listed};
-ghost use Rattle.nntp_facts.specs.Conflict.{Group};
+ghost use Rattle.nntp_theory.specs.Conflict.{Group};
 ghost use Rattle.nntp_wire.specs.Listing.{active_groups};
-ghost use Rattle.nntp_facts.specs.Given.{is_shown_group};
+ghost use Rattle.nntp_theory.specs.Given.{is_shown_group};
 ghost use Rattle.nntp_article.specs.declared.session.profile.Profile.{Profile};
 ghost use Rattle.nntp_said.specs.Facts.{Fact};
 ghost use Rattle.nntp_facts.specs.Inner.Points.{IsBeside, IsPointOf, Statement as StatementValue};

@@ -1,6 +1,6 @@
 use Rattle.std.proofs.{Common.{◌≡◌, true, List, ℕ, ◌++◌, codes, rules}, lemmas.Bool.{and_parts}}
 use Rattle.nntp_wire.specs.{Octets.{is_clean}, Name.{IsMessageId}}
-use Rattle.nntp_facts.proofs.Ids.PlainHead.{plain_is_clean}
+use Rattle.nntp_theory.proofs.Ids.PlainHead.{plain_is_clean}
 use Rattle.nntp_witness.proofs.article.head_line.Goals as goal
 
 -- the line that says an id is clean

@@ -1,6 +1,6 @@
 use Rattle.std.proofs.Common.{ℕ, ◌≤◌, ◌<◌, IsTrue, List}
 use Rattle.nntp_said.specs.Facts.{Fact}
-use Rattle.nntp_facts.specs.Given.{invented, is_mentioned}
+use Rattle.nntp_theory.specs.Given.{invented, is_mentioned}
 use Rattle.nntp_witness.specs.Inner.Witness.{HaveArticles}
 use Rattle.nntp_witness.proofs.invented.invent.Given as goal
 

@@ -1,7 +1,7 @@
 use Rattle.std.{proofs.Common.{◌≡◌, ◌∷◌, ap, sym, subst, List, length, map}, specs.List.{AllByRecursion}}
 use Rattle.nntp_article.specs.{Session.Limit.{profile_of}, declared.session.profile.Profile.{Profile}}
-use Rattle.nntp_facts.specs.{Conflict.{Placed, SomeHas, IsFound, told_with, below, places_of}, Inner.{Conflict.{FitsThere, HasLast}, Noted.{profile_kept}}}
-use Rattle.nntp_facts.specs.Inner.{Points.{AreHeld}, StatementView.{held_of}}
+use Rattle.nntp_theory.specs.{Conflict.{Placed, SomeHas, IsFound, told_with, below, places_of}, Inner.Conflict.{FitsThere, HasLast}}
+use Rattle.nntp_facts.specs.Inner.{Noted.{profile_kept}, Points.{AreHeld}, StatementView.{held_of}}
 use Rattle.nntp_explain.{specs.Inner.ExplainingView.{cited_of}, proofs.{ConflictLemmas.{some_found}, SaysLemmas.{on_ok}}}
 use Rattle.nntp_explain.proofs.explainer.Explainer.put_found.Goals.{After-deref}
 use Rattle.nntp_explain.proofs.explainer.Explainer.put_found.Given as given

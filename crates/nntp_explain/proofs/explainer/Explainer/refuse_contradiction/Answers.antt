@@ -1,6 +1,7 @@
 use Rattle.std.{proofs.Common.{◌≡◌, ◌∙◌, ◌++◌, sym, ap, subst, refl, append-nil, true, false, ℕ, List, [], Option}, specs.Option.{option_map}}
 use Rattle.nntp_article.specs.Session.Spool.{Name}
-use Rattle.nntp_facts.specs.{Conflict.{Placed}, Inner.Noted.{profile_kept}}
+use Rattle.nntp_theory.specs.Conflict.{Placed}
+use Rattle.nntp_facts.specs.Inner.Noted.{profile_kept}
 use Rattle.nntp_pair.specs.{declared.class.Class.TheVariants.{Contradiction}, Pairing.{asked_at}}
 use Rattle.nntp_explain.specs.{Explaining.{front_lines, place_lines}, Inner.ExplainingView.{Kept, AreReasons, Contradicts, Fits, TellsConflict, refuses}}
 use Rattle.nntp_explain.{specs.Inner.ExplainingView.{kept_of, standing_of, placed_here, title_of}, proofs.{AnswerLemmas.{told_reason}, ExplainLemmas.{on_ok}}}

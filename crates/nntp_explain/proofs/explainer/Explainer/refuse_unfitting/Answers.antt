@@ -2,7 +2,7 @@ use Rattle.std.proofs.{Common.{◌≡◌, ◌∙◌, ◌++◌, sym, ap, true, fa
 use Rattle.std.{proofs.lemmas.List.{length-map}, specs.Option.{option_map, option_map_or}}
 use Rattle.nntp_wire.specs.Answer.{Response}
 use Rattle.nntp_article.specs.Session.Misfit.{Misfit}
-use Rattle.nntp_facts.specs.Conflict.{Placed}
+use Rattle.nntp_theory.specs.Conflict.{Placed}
 use Rattle.nntp_pair.specs.declared.class.Class.TheVariants.{OutOfPlace}
 use Rattle.nntp_explain.specs.{Explaining.{front_lines, place_lines}, Inner.ExplainingView.{Kept, kept_of, cited_of, standing_of, title_of, unfitting_told}}
 use Rattle.nntp_explain.{specs.{Reasons.{unfitting_lines}, Standing.{Cited}}, proofs.AnswerLemmas.{told_reason}}

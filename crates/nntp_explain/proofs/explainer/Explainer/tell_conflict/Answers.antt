@@ -1,5 +1,6 @@
 use Rattle.std.{proofs.Common.{◌∙◌, ◌++◌, ◌∷◌, [], refl, ap, subst, sym, List}, specs.Prelude.{⊤, Contains, MatchOption}}
-use Rattle.nntp_facts.{specs.Inner.Noted.{profile_kept}, proofs.Members.{all_at, all_both, in_contains}}
+use Rattle.nntp_facts.specs.Inner.Noted.{profile_kept}
+use Rattle.nntp_theory.proofs.Members.{all_at, all_both, in_contains}
 use Rattle.nntp_explain.{specs.Inner.{Explaining.{ToldContradiction}, ExplainingView.{AreReasons, TellsConflict, kept_of}}, proofs.ReasonsGoOn.{in_any_case}}
 use Rattle.nntp_explain.proofs.{ReasonsGoOn.{extended}, SaysLemmas.{on_ok}}
 use Rattle.nntp_explain.proofs.explainer.Explainer.tell_conflict.Goals as goal

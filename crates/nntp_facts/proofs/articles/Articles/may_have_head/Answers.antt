@@ -1,6 +1,6 @@
 use Rattle.std.proofs.Common.{refl, ap, sym, subst, ◌∙◌}
-use Rattle.nntp_facts.{specs.Inner.{Together.{SaidOfArticle, AreSame}, Kept.{said_kept}}, proofs.Keeping.KeptIds.{part_known, no_part_known}}
-use Rattle.nntp_facts.proofs.Keeping.KeptArticles.{same_as_none}
+use Rattle.nntp_theory.specs.Inner.Together.{SaidOfArticle, AreSame}
+use Rattle.nntp_facts.{specs.Inner.Kept.{said_kept}, proofs.Keeping.{KeptIds.{part_known, no_part_known}, KeptArticles.{same_as_none}}}
 use Rattle.nntp_facts.proofs.articles.Articles.may_have_head.Goals as goal
 
 pub returns-in-Some : goal.returns-in-Some

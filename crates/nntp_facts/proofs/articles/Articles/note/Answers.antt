@@ -1,6 +1,7 @@
 use Rattle.std.proofs.Common.{◌≡◌, ◌∙◌, Some, sym, ap, subst}
 use Rattle.nntp_facts.specs.{declared.joins.Joins.TheVariants.{Again}, Inner.{Saying.{Lacks, IsToExist}, ArticleView.{is_added}, KeptSaying.{IsThereAlready}}}
-use Rattle.nntp_facts.{specs.Inner.{KeptSaying.{MayBeSaid, IsArticleAdded}, SayingView.{article_said}}, proofs.OkResults.{if_ok}}
+use Rattle.nntp_facts.specs.Inner.{KeptSaying.{MayBeSaid, IsArticleAdded}, SayingView.{article_said}}
+use Rattle.nntp_theory.proofs.OkResults.{if_ok}
 use Rattle.nntp_facts.proofs.articles.Articles.note.Goals as goal
 
 pub returns-in-Exists-clause-added : goal.returns-in-Exists-clause-added

@@ -1,4 +1,5 @@
-use Rattle.nntp_facts.proofs.{Keeping.NotedArticles.{there_already}, OkResults.{if_ok}}
+use Rattle.nntp_facts.proofs.Keeping.NotedArticles.{there_already}
+use Rattle.nntp_theory.proofs.OkResults.{if_ok}
 use Rattle.nntp_facts.proofs.articles.Articles.note_there.Goals as goal
 
 pub returns-in-Again-clause-added : goal.returns-in-Again-clause-added

@@ -1,7 +1,8 @@
 use Rattle.std.{proofs.Common.{◌≡◌, Some, map, sym, ap, subst, ◌∙◌}, specs.Prelude.{unwrap_or}}
 use Rattle.nntp_facts.specs.Inner.{Articles.{MayBeSent, unsent, with_sent, with_denied}, ArticleView.{is_added, known_article, entries_value}, Kept.{IsAddedIf}}
 use Rattle.nntp_facts.{specs.Inner.{Kept.{AreKeptArticles}, Saying.{Sends}, KeptSaying.{IsArticleAdded}}, proofs.Keeping.KeptIds.{replaced_known}}
-use Rattle.nntp_facts.proofs.{Keeping.NotedArticles.{sent_noted}, OkResults.{if_ok}}
+use Rattle.nntp_facts.proofs.Keeping.NotedArticles.{sent_noted}
+use Rattle.nntp_theory.proofs.OkResults.{if_ok}
 use Rattle.std.specs.FinMap as finite
 use Rattle.nntp_facts.proofs.articles.Articles.send_again.Goals as goal
 

@@ -1,5 +1,5 @@
 use Rattle.std.{proofs.Common.{◌≡◌, ◌∙◌, ◌+◌, ◌++◌, ap, refl, add-one, arith, ℕ, [], ◌∷◌, List, Option, None, Some, unwrap_or}, specs.Option.{option_map_or}}
-use Rattle.nntp_facts.specs.Conflict.{below, places_of}
+use Rattle.nntp_theory.specs.Conflict.{below, places_of}
 use Rattle.nntp_facts.proofs.conflict.Core.all_places.Goals as goal
 
 one-more : (n : ℕ) → below n ++ (n ∷ []) ≡ below (n + 1)

@@ -1,7 +1,7 @@
 use Rattle.std.proofs.Common.{◌^◌, ◌<◌, ◌≤◌, length, arith, rules, subst, sym, ap}
 use Rattle.nntp_article.specs.Session.Limit.{profile_of}
-use Rattle.nntp_facts.{specs.Inner.Conflict.{IsPartOfCore}, proofs.{Conflicts.{core_start}, Keeping.CoresFound.{alone, some_left, whole_found, end_found}}}
-use Rattle.nntp_facts.proofs.Keeping.CoresFound.{kept_told, none_kept}
+use Rattle.nntp_theory.{specs.Inner.Conflict.{IsPartOfCore}, proofs.Conflicts.{core_start}}
+use Rattle.nntp_facts.proofs.Keeping.CoresFound.{alone, some_left, whole_found, end_found, kept_told, none_kept}
 use Rattle.nntp_facts.proofs.conflict.Core.find.Goals as goal
 
 pub loop-places-init : goal.loop-places-init

@@ -1,6 +1,6 @@
 use Rattle.std.proofs.Common.{◌≤◌, length}
 use Rattle.nntp_article.specs.Session.Limit.{profile_of}
-use Rattle.nntp_facts.specs.Inner.Conflict.{IsPartOfCore}
+use Rattle.nntp_theory.specs.Inner.Conflict.{IsPartOfCore}
 use Rattle.nntp_facts.proofs.conflict.Core.find.Given as goal
 
 abbrev pub invariant-loop-places : goal.invariant-loop-places

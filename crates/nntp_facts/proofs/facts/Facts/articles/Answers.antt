@@ -1,5 +1,6 @@
 use Rattle.std.proofs.Common.{sym, subst, ◌∙◌, ap}
-use Rattle.nntp_facts.{specs.Inner.{Noted.{said_behind}, Readers.{AreShownArticles, shown_articles}}, proofs.Keeping.ArticleReaders.{articles_shown}}
+use Rattle.nntp_theory.specs.Inner.Exchanged.{said_behind}
+use Rattle.nntp_facts.{specs.Inner.Readers.{AreShownArticles, shown_articles}, proofs.Keeping.ArticleReaders.{articles_shown}}
 use Rattle.nntp_facts.proofs.facts.Facts.articles.Goals as goal
 
 pub returns-clause-noted : goal.returns-clause-noted

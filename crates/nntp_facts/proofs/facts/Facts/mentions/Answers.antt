@@ -1,5 +1,6 @@
 use Rattle.std.proofs.Common.{sym, subst}
-use Rattle.nntp_facts.specs.Inner.{Noted.{said_behind}, Kept.{AreKeptArticles}}
+use Rattle.nntp_theory.specs.Inner.Exchanged.{said_behind}
+use Rattle.nntp_facts.specs.Inner.Kept.{AreKeptArticles}
 use Rattle.nntp_facts.proofs.facts.Facts.mentions.Goals as goal
 
 pub returns-clause-noted : goal.returns-clause-noted

@@ -1,6 +1,6 @@
 use Rattle.std.proofs.Common.{[], refl, arith}
 use Rattle.nntp_article.specs.Session.Limit.{profile_of}
-use Rattle.nntp_facts.{proofs.Given.{FirstBadAnswer.{none_permitted}, SessionsByFacts.{permits_alone}}, specs.Noted.{exchanged}}
+use Rattle.nntp_theory.{proofs.Given.{FirstBadAnswer.{none_permitted}, SessionsByFacts.{permits_alone}}, specs.Permitted.{exchanged}}
 use Rattle.nntp_facts.proofs.facts.Facts.new.Goals as goal
 
 pub returns-clause-stands : goal.returns-clause-stands

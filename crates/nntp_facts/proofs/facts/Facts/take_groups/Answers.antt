@@ -1,6 +1,6 @@
 use Rattle.std.proofs.Common.{sym, subst, ◌∙◌, ap}
-use Rattle.nntp_facts.{specs.Inner.{Noted.{said_behind}, Readers.{AreShownGroups, shown_groups}}, proofs.Keeping.GroupReaders.{groups_shown}}
-use Rattle.nntp_facts.proofs.Keeping.NotedExchange.{stand_together}
+use Rattle.nntp_theory.specs.Inner.Exchanged.{said_behind}
+use Rattle.nntp_facts.{specs.Inner.Readers.{AreShownGroups, shown_groups}, proofs.Keeping.{GroupReaders.{groups_shown}, NotedExchange.{stand_together}}}
 use Rattle.nntp_facts.proofs.facts.Facts.take_groups.Goals as goal
 
 pub returns-clause-groups : goal.returns-clause-groups

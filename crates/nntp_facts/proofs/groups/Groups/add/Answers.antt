@@ -2,7 +2,8 @@ use Rattle.std.{proofs.Common.{◌≡◌, Some, sym, subst, ap, ◌∙◌}, spec
 use Rattle.std.specs.Cmp.Lexicographic.{slice_cmp, nat_list_cmp_total}
 use Rattle.nntp_wire.proofs.ShownMaps.{replaced, missing}
 use Rattle.nntp_facts.{specs.Inner.{SayingView.{id_at}, Kept.{AreKept, MayHave, ids_with, places_with}}, proofs.Keeping.KeptGroups.{kept_of, part_kept}}
-use Rattle.nntp_facts.proofs.{Keeping.KeptGroups.{new_kept, may_have_told, empty_may_have, empty_agree, agree_kept}, OkResults.{on_ok, on_both}}
+use Rattle.nntp_facts.proofs.Keeping.KeptGroups.{new_kept, may_have_told, empty_may_have, empty_agree, agree_kept}
+use Rattle.nntp_theory.proofs.OkResults.{on_ok, on_both}
 use Rattle.std.specs.FinMap as map
 use Rattle.nntp_facts.proofs.groups.Groups.add.Goals as goal
 

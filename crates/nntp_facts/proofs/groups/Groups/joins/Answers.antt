@@ -1,7 +1,8 @@
 use Rattle.std.proofs.Common.{◌++◌, Some, None, refl, sym, subst, ◌∙◌}
-use Rattle.nntp_facts.{specs.Inner.{SayingView.{id_at, of_group}, Together.{AsksStand}, Kept.{MayHave}}, proofs.Keeping.KeptGroups.{kept_of, bounded_more}}
-use Rattle.nntp_facts.proofs.Keeping.{KeptGroups.{may_have_told, empty_may_have, untold_may_show, agree_kept, empty_agree}, MoreAsks.{none_stand}}
-use Rattle.nntp_facts.proofs.Keeping.SaidAgain.{joins_again, kept_again}
+use Rattle.nntp_facts.{specs.Inner.{SayingView.{id_at, of_group}, Kept.{MayHave}}, proofs.Keeping.KeptGroups.{kept_of, bounded_more, may_have_told}}
+use Rattle.nntp_facts.proofs.Keeping.{KeptGroups.{empty_may_have, untold_may_show, agree_kept, empty_agree}, SaidAgain.{joins_again, kept_again}}
+use Rattle.nntp_theory.specs.Inner.Together.{AsksStand}
+use Rattle.nntp_numbers.proofs.MoreAsks.{none_stand}
 use Rattle.std.specs.FinMap as map
 use Rattle.nntp_facts.proofs.groups.Groups.joins.Goals as goal
 

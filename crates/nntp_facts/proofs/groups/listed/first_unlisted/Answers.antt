@@ -2,7 +2,7 @@ use Rattle.std.proofs.{Common.{◌≡◌, ◌&&◌, not, true, false, inl, inr, 
 use Rattle.std.specs.{Prelude.{IsTrue, MatchOption}, List.{list_any}, Option.{option_map_or}, Cmp.Lexicographic.{same_text}}
 use Rattle.nntp_wire.specs.{Decided.{matches_name}, Name.{IsGroupName}}
 use Rattle.nntp_article.specs.Session.Machine.{is_same}
-use Rattle.nntp_facts.proofs.Together.FactsOfASpoolStand.{same_itself}
+use Rattle.nntp_theory.proofs.Together.FactsOfASpoolStand.{same_itself}
 use Rattle.nntp_facts.proofs.groups.listed.first_unlisted.Goals as goal
 
 pub returns-in-Some-group_unlisted : goal.returns-in-Some-group_unlisted

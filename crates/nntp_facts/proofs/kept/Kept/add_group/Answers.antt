@@ -1,6 +1,6 @@
 use Rattle.std.{proofs.Common.{sym, ap, subst, ◌∙◌}, specs.{Prelude.{option_map, IfSome}, Rc.{rc_str_bytes}}}
-use Rattle.nntp_facts.{specs.Inner.{KeptSaying.{IsTextOf}, SayingView.{of_group}, Kept.{AreKeptGroups}}, proofs.OkResults.{on_ok}}
-use Rattle.nntp_facts.proofs.Keeping.PartsJoin.{group_added, groups_alike}
+use Rattle.nntp_facts.{specs.Inner.{KeptSaying.{IsTextOf}, SayingView.{of_group}, Kept.{AreKeptGroups}}, proofs.Keeping.PartsJoin.{group_added, groups_alike}}
+use Rattle.nntp_theory.proofs.OkResults.{on_ok}
 use Rattle.nntp_facts.proofs.kept.Kept.add_group.Goals as goal
 
 pub returns-in-Some-clause-groups : goal.returns-in-Some-clause-groups

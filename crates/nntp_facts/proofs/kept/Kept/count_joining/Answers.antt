@@ -4,7 +4,8 @@ use mir.Val.{bool_byte}
 use Rattle.nntp_wire.specs.{Listing.{ActiveValue}, Inner.View.{active_value}}
 use Rattle.nntp_article.proofs.SessionLemmas.LinesLeft.{next_left, none_left}
 use Rattle.nntp_said.specs.Facts.{Fact}
-use Rattle.nntp_facts.specs.{Given.{is_shown_group}, Inner.{Kept.{IsKept, told}, ListedGroups.{LineJoins, shown_lines}}}
+use Rattle.nntp_theory.specs.Given.{is_shown_group}
+use Rattle.nntp_facts.specs.Inner.{Kept.{IsKept, told}, ListedGroups.{LineJoins, shown_lines}}
 use Rattle.nntp_facts.proofs.kept.Kept.count_joining.Goals as goal
 
 -- where the next line joins, all lines join if those do that are left

@@ -1,7 +1,7 @@
 use Rattle.std.{proofs.Common.{rules, ◌≡◌, cond, ap, refl, sym, ◌∙◌, None, Some}, specs.Prelude.{option_map}}
-use Rattle.nntp_facts.specs.{Conflict.{Article}, Inner.{Saying.{Lacks, Exists, Sends}, SayingView.{article_said}, PointView.{point_of}}}
-use Rattle.nntp_facts.{specs.Inner.StatementView.{statement_of}, proofs.{Keeping.KeptArticles.{shown_kept, denied_kept}, PointsFound.ArticlesBeside.{lacks}}}
-use Rattle.nntp_facts.proofs.PointsFound.ArticlesBeside.{has, no_article}
+use Rattle.nntp_theory.specs.Conflict.{Article}
+use Rattle.nntp_facts.specs.Inner.{Saying.{Lacks, Exists, Sends}, SayingView.{article_said}, PointView.{point_of}, StatementView.{statement_of}}
+use Rattle.nntp_facts.proofs.{Keeping.KeptArticles.{shown_kept, denied_kept}, PointsFound.ArticlesBeside.{lacks, has, no_article}}
 use Rattle.nntp_facts.proofs.kept.Kept.denied_article.Goals as goal
 
 pub returns-in-None : goal.returns-in-None

@@ -1,5 +1,6 @@
 use Rattle.std.{proofs.Common.{◌≡◌, Some, inl, subst}, specs.{Prelude.{MatchOption, IfSome, IsTrue, IsFalse}, List.{list_any}}}
-use Rattle.nntp_facts.{specs.{Together.{denies_group}, Inner.StatementView.{statement_of}}, proofs.PointsFound.KindsOfPoints.{named_group, missing_group}}
+use Rattle.nntp_theory.specs.Together.{denies_group}
+use Rattle.nntp_facts.{specs.Inner.StatementView.{statement_of}, proofs.PointsFound.KindsOfPoints.{named_group, missing_group}}
 use Rattle.nntp_facts.proofs.kept.Kept.denied_by_name.Goals as goal
 
 pub returns-in-Some : goal.returns-in-Some

@@ -1,6 +1,6 @@
 use Rattle.std.{proofs.Common.{sym, subst}, specs.{Prelude.{MatchOption, IsTrue, IsFalse}, List.{AllByRecursion, list_any}}}
-use Rattle.nntp_facts.{specs.{Together.{denies_group}, Inner.{ListedGroups.{is_listed}, SayingView.{active_said}, Kept.{IsKept}}}, proofs.OkResults.{if_ok}}
-use Rattle.nntp_facts.proofs.PointsFound.KindsOfPoints.{unlisted_group}
+use Rattle.nntp_theory.{specs.Together.{denies_group}, proofs.OkResults.{if_ok}}
+use Rattle.nntp_facts.{specs.Inner.{ListedGroups.{is_listed}, SayingView.{active_said}, Kept.{IsKept}}, proofs.PointsFound.KindsOfPoints.{unlisted_group}}
 use Rattle.nntp_facts.proofs.kept.Kept.denied_or_unlisted.Goals as goal
 
 pub returns-in-None : goal.returns-in-None

@@ -1,6 +1,7 @@
 use Rattle.std.{proofs.{Common.{inl, inr, sym, subst, ◌∙◌}, lemmas.Bool.{true≢false, cases_Bool}}, specs.{Prelude.{IsFalse}, List.{AllByRecursion, list_any}}}
 use Rattle.nntp_wire.specs.Inner.View.{active_value}
-use Rattle.nntp_facts.{specs.Together.{denies_group}, proofs.PointsFound.ListedBeside.{line_listed, rest_listed}}
+use Rattle.nntp_theory.specs.Together.{denies_group}
+use Rattle.nntp_facts.proofs.PointsFound.ListedBeside.{line_listed, rest_listed}
 use Rattle.nntp_facts.proofs.kept.Kept.first_denied.Goals as goal
 
 pub returns-then-not-may_be : goal.returns-then-not-may_be

@@ -2,7 +2,8 @@ use Rattle.std.specs.{Prelude.{IsTrue, IsFalse, List}, List.{AllByRecursion, lis
 use Rattle.nntp_wire.specs.Listing.{active_groups}
 use Rattle.nntp_article.specs.Session.Spool.{Name}
 use Rattle.nntp_said.specs.Facts.{Fact}
-use Rattle.nntp_facts.specs.{Inner.{Together.{Together}, Kept.{IsKept}, ListedGroups.{is_listed}}, Together.{denies_group}}
+use Rattle.nntp_theory.specs.{Inner.Together.{Together}, Together.{denies_group}}
+use Rattle.nntp_facts.specs.Inner.{Kept.{IsKept}, ListedGroups.{is_listed}}
 use Rattle.nntp_facts.proofs.kept.Kept.first_denied.Given as goal
 
 -- what is left is listed, and no group before it is denied

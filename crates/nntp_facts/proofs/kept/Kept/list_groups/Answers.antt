@@ -1,7 +1,8 @@
 use Rattle.std.proofs.{Common.{[], ◌∷◌, map, refl, sym, subst, ◌∙◌}, lemmas.List.{length-map}}
 use Rattle.nntp_wire.specs.Inner.View.{active_value}
 use Rattle.nntp_said.specs.Facts.{GroupsAre}
-use Rattle.nntp_facts.{specs.Inner.Kept.{IsKept}, proofs.{OkResults.{on_ok}, Keeping.SaidOfArticles.{articles_kept}}}
+use Rattle.nntp_facts.{specs.Inner.Kept.{IsKept}, proofs.Keeping.SaidOfArticles.{articles_kept}}
+use Rattle.nntp_theory.proofs.OkResults.{on_ok}
 use Rattle.nntp_facts.proofs.kept.Kept.list_groups.Goals as goal
 
 pub returns : goal.returns

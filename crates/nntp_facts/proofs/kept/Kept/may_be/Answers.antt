@@ -1,5 +1,6 @@
 use Rattle.std.{proofs.{Common.{◌≡◌, Bool, true, false, not, refl, sym, ap, subst, ◌∙◌}, lemmas.Bool.{true≢false}}, specs.Prelude.{◌↔◌, IsTrue, IsFalse}}
-use Rattle.nntp_facts.specs.{Given.{is_shown_group}, Inner.Kept.{IsKept, told}}
+use Rattle.nntp_theory.specs.Given.{is_shown_group}
+use Rattle.nntp_facts.specs.Inner.Kept.{IsKept, told}
 use Rattle.nntp_facts.proofs.kept.Kept.may_be.Goals as goal
 
 not_is : (b d : Bool) → b ≡ d → IsTrue (not b) ↔ IsFalse d

@@ -1,6 +1,7 @@
 use Rattle.std.{proofs.{Common.{◌≡◌, ℕ, Bool, true, false, List, Option, Bor, refl, sym, subst, ◌∙◌}, lemmas.Bool.{true≢false}}, specs.Prelude.{◌↔◌, IfSome}}
 use Rattle.std.specs.Prelude.{IsTrue, IsFalse, not, option_map}
-use Rattle.nntp_facts.specs.{Given.{is_shown_group}, Inner.Kept.{IsKept, told}}
+use Rattle.nntp_theory.specs.Given.{is_shown_group}
+use Rattle.nntp_facts.specs.Inner.Kept.{IsKept, told}
 use Rattle.nntp_facts.proofs.kept.Kept.may_be_missing.Goals as goal
 
 -- a test that has to fail

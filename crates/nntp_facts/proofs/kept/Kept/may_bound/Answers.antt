@@ -1,8 +1,8 @@
 use Rattle.std.{proofs.{Common.{[], ◌∷◌, ◌++◌, sym, subst, ◌∙◌}, lemmas.Bool.{not-true}}, specs.{Prelude.{IsFalse}, List.{list_any}}}
 use Rattle.nntp_wire.specs.{Listing.{ActiveValue}, Inner.View.{active_value}}
 use Rattle.nntp_said.specs.Asks.{Bounds}
-use Rattle.nntp_facts.specs.{Given.{asks_of}, Inner.{Together.{AsksStand}, Kept.{IsKept, told, Agree, IsShownAt, MayShow}}, Together.{denies_group}}
-use Rattle.nntp_facts.proofs.kept.Kept.may_bound.Goals.{then-is_shown, else-is_shown}
+use Rattle.nntp_theory.specs.{Given.{asks_of}, Inner.Together.{AsksStand}, Together.{denies_group}}
+use Rattle.nntp_facts.{specs.Inner.Kept.{IsKept, told, Agree, IsShownAt, MayShow}, proofs.kept.Kept.may_bound.Goals.{then-is_shown, else-is_shown}}
 use Rattle.nntp_facts.proofs.kept.Kept.may_bound.Goals as goal
 
 pub returns-then-not-denies : goal.returns-then-not-denies

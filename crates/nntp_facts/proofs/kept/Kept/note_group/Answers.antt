@@ -1,6 +1,6 @@
 use Rattle.std.proofs.Common.{[], sym, subst}
-use Rattle.nntp_facts.{specs.{Conflict.{a_group}, Inner.{Saying.{AreListed}, SayingView.{saying_of}}}, proofs.OkResults.{if_ok}}
-use Rattle.nntp_facts.proofs.Keeping.ToldAnswers.{widest_told}
+use Rattle.nntp_theory.{specs.Conflict.{a_group}, proofs.OkResults.{if_ok}}
+use Rattle.nntp_facts.{specs.Inner.{Saying.{AreListed}, SayingView.{saying_of}}, proofs.Keeping.ToldAnswers.{widest_told}}
 use Rattle.nntp_facts.proofs.kept.Kept.note_group.Goals as goal
 
 pub returns : goal.returns

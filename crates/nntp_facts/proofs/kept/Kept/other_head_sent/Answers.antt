@@ -1,5 +1,6 @@
 use Rattle.std.proofs.{Common.{ap, sym, subst, ◌∙◌}, lemmas.Bool.{true≢false}}
-use Rattle.nntp_facts.specs.{Conflict.{HeadOf}, Inner.Kept.{IsKept}}
+use Rattle.nntp_theory.specs.Conflict.{HeadOf}
+use Rattle.nntp_facts.specs.Inner.Kept.{IsKept}
 use Rattle.nntp_facts.proofs.kept.Kept.other_head_sent.Goals as goal
 
 pub returns-then-may_have_head : goal.returns-then-may_have_head

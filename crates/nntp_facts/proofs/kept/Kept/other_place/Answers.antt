@@ -1,6 +1,7 @@
 use Rattle.std.{proofs.{Common.{ℕ, Option, ◌≡◌, ◌++◌, ap, refl, sym, subst, ◌∙◌}, lemmas.Bool.{true≢false}}, specs.Prelude.{IfSome, option_map}}
-use Rattle.nntp_facts.specs.{Together.{GiveOne, number_in}, Inner.{Kept.{IsKept, told}, Points.{IsPointOf}, PointView.{point_of}, SayingView.{of_group, id_at}}}
-use Rattle.nntp_facts.{specs.Inner.StatementView.{statement_of}, proofs.PointsFound.KindsOfPoints.{no_places, no_place, other_place, same_place}}
+use Rattle.nntp_theory.specs.Together.{GiveOne, number_in}
+use Rattle.nntp_facts.specs.Inner.{Kept.{IsKept, told}, Points.{IsPointOf}, PointView.{point_of}, SayingView.{of_group, id_at}, StatementView.{statement_of}}
+use Rattle.nntp_facts.proofs.PointsFound.KindsOfPoints.{no_places, no_place, other_place, same_place}
 use Rattle.nntp_facts.proofs.kept.Kept.other_place.Goals as goal
 
 pub returns-in_default : goal.returns-in_default

@@ -1,5 +1,6 @@
 use Rattle.std.{proofs.Common.{◌++◌, sym, subst}, specs.Prelude.{option_map}}
-use Rattle.nntp_facts.{specs.Inner.{PointView.{point_of}, Points.{IsPointOf, NoneBefore}, StatementView.{rank_of}}, proofs.OkResults.{if_ok}}
+use Rattle.nntp_facts.specs.Inner.{PointView.{point_of}, Points.{IsPointOf, NoneBefore}, StatementView.{rank_of}}
+use Rattle.nntp_theory.proofs.OkResults.{if_ok}
 use Rattle.nntp_facts.proofs.kept.Kept.point.Goals as goal
 
 pub returns-in-Step : goal.returns-in-Step

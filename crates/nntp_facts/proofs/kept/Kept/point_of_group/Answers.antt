@@ -1,8 +1,9 @@
 use Rattle.std.proofs.Common.{◌++◌, ◌∷◌, [], sym, subst, ◌∙◌, append_assoc}
 use Rattle.nntp_wire.specs.declared.marks.Marks.TheVariants.{Lenient}
 use Rattle.nntp_said.specs.Asks.{Estimates}
-use Rattle.nntp_facts.specs.{Given.{asks_of}, Conflict.{widest}, Inner.{Kept.{IsKept, told}, Summary.{IsSummary, AreBounded}}}
-use Rattle.nntp_facts.proofs.PointsFound.NumbersBeside.{bounded_behind, bounded_widest}
+use Rattle.nntp_theory.specs.{Given.{asks_of}, Conflict.{widest}}
+use Rattle.nntp_facts.{specs.Inner.Kept.{IsKept, told}, proofs.PointsFound.NumbersBeside.{bounded_behind, bounded_widest}}
+use Rattle.nntp_numbers.specs.Inner.Summary.{IsSummary, AreBounded}
 use Rattle.nntp_facts.proofs.kept.Kept.point_of_group.Goals as goal
 
 pub returns : goal.returns

@@ -1,7 +1,9 @@
 use Rattle.std.{proofs.Common.{◌≡◌, ◌++◌, ◌∷◌, [], sym, subst, ◌∙◌}, specs.Prelude.{option_map}}
 use Rattle.nntp_said.specs.Asks.{Bounds}
-use Rattle.nntp_facts.specs.{Given.{asks_of}, Inner.{Kept.{IsKept, told}, Summary.{IsSummary, AreBounded}, Points.{IsPointIn}, PointView.{point_of}}}
-use Rattle.nntp_facts.{specs.Inner.StatementView.{rank_of_numbers}, proofs.PointsFound.NumbersBeside.{bounded_behind}}
+use Rattle.nntp_theory.specs.Given.{asks_of}
+use Rattle.nntp_facts.specs.Inner.{Kept.{IsKept, told}, Points.{IsPointIn}, PointView.{point_of}, StatementView.{rank_of_numbers}}
+use Rattle.nntp_facts.proofs.PointsFound.NumbersBeside.{bounded_behind}
+use Rattle.nntp_numbers.specs.Inner.Summary.{IsSummary, AreBounded}
 use Rattle.nntp_facts.proofs.kept.Kept.point_of_line.Goals as goal
 
 pub returns : goal.returns

@@ -1,8 +1,8 @@
 use Rattle.std.{proofs.Common.{◌≡◌, ◌++◌, ◌∷◌, [], sym, subst}, specs.{Prelude.{option_map}, List.{AllByRecursion}}}
 use Rattle.nntp_wire.specs.Inner.View.{active_value}
 use Rattle.nntp_said.specs.Asks.{Bounds}
-use Rattle.nntp_facts.specs.{Given.{asks_of}, Conflict.{Point, rank, ConflictAt}, Inner.{Points.{IsAbout, IsPointIn}, PointView.{point_of}}}
-use Rattle.nntp_facts.specs.Inner.StatementView.{rank_of_numbers}
+use Rattle.nntp_theory.specs.{Given.{asks_of}, Conflict.{Point, rank, ConflictAt}}
+use Rattle.nntp_facts.specs.Inner.{Points.{IsAbout, IsPointIn}, PointView.{point_of}, StatementView.{rank_of_numbers}}
 use Rattle.nntp_facts.proofs.kept.Kept.point_of_listed.Goals as goal
 
 pub returns-in-Some-2 : goal.returns-in-Some-2

@@ -1,6 +1,7 @@
 use Rattle.std.{proofs.Common.{◌++◌, ap, refl}, specs.Prelude.{option_map}}
-use Rattle.nntp_facts.{specs.Inner.{SayingView.{of_group}, PointView.{point_of}, StatementView.{statement_of, rank_of_numbers}}, proofs.OkResults.{if_ok}}
+use Rattle.nntp_facts.specs.Inner.{SayingView.{of_group}, PointView.{point_of}, StatementView.{statement_of, rank_of_numbers}}
 use Rattle.nntp_facts.proofs.PointsFound.{KindsOfPoints.{group_point}, NumbersBeside.{above_one, below_five}}
+use Rattle.nntp_theory.proofs.OkResults.{if_ok}
 use Rattle.nntp_facts.proofs.kept.Kept.point_of_numbers.Goals as goal
 
 pub returns-in-Some : goal.returns-in-Some

@@ -1,6 +1,7 @@
 use Rattle.std.{proofs.{Common.{◌≡◌, inl, inr, sym, subst, ◌∙◌}, lemmas.Bool.{cases_Bool}}, specs.Prelude.{MatchOption, SomeIff, IsTrue, IsFalse}}
 use Rattle.nntp_wire.specs.Name.{IsGroupName}
-use Rattle.nntp_facts.{specs.{Given.{is_shown_group}, Inner.Kept.{IsKept, told}}, proofs.Keeping.ShownNames.{shown_named}}
+use Rattle.nntp_theory.{specs.Given.{is_shown_group}, proofs.Given.ShownNames.{shown_named}}
+use Rattle.nntp_facts.specs.Inner.Kept.{IsKept, told}
 use Rattle.nntp_facts.proofs.kept.Kept.shown_named.Goals as goal
 
 pub returns-in_err-group : goal.returns-in_err-group

@@ -2,8 +2,9 @@ use Rattle.std.proofs.Common.{map, ap, sym, subst, ◌∙◌, refl}
 use Rattle.nntp_wire.specs.Inner.View.{active_value}
 use Rattle.nntp_article.specs.Session.{Limit.{profile_of}, Machine.{start}}
 use Rattle.nntp_said.specs.Facts.{group_of}
-use Rattle.nntp_facts.{specs.{Conflict.{said, the_group}, Inner.{Kept.{AreAdded}, Saying.{TellsThere}, SayingView.{saying_of}}}, proofs.OkResults.{if_ok}}
-use Rattle.nntp_facts.proofs.Keeping.ToldAnswers.{there_told, group_refused, answer_told}
+use Rattle.nntp_theory.{specs.Conflict.{said, the_group}, proofs.OkResults.{if_ok}}
+use Rattle.nntp_facts.{specs.Inner.{Kept.{AreAdded}, Saying.{TellsThere}, SayingView.{saying_of}}, proofs.Keeping.ToldAnswers.{there_told, group_refused}}
+use Rattle.nntp_facts.proofs.Keeping.ToldAnswers.{answer_told}
 use Rattle.nntp_facts.proofs.kept.Kept.tell.Goals as goal
 
 pub returns-then-not-branch : goal.returns-then-not-branch

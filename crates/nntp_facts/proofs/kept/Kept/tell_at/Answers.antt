@@ -1,6 +1,7 @@
 use Rattle.std.{proofs.{Common.{◌≡◌, ◌<◌, ◌∙◌, length, None, Some, sym, ap, rules}, lemmas.Option.{slice_get-get_or}}, specs.Prelude.{slice_get}}
 use Rattle.nntp_article.specs.Session.Limit.{profile_of}
-use Rattle.nntp_facts.{specs.Conflict.{told_with}, proofs.{OkResults.{if_ok}, Keeping.ToldAnswers.{place_told, nothing_told, no_answer, fits_at}}}
+use Rattle.nntp_theory.{specs.Conflict.{told_with}, proofs.OkResults.{if_ok}}
+use Rattle.nntp_facts.proofs.Keeping.ToldAnswers.{place_told, nothing_told, no_answer, fits_at}
 use Rattle.nntp_facts.proofs.kept.Kept.tell_at.Goals as goal
 
 pub returns-in-Some : goal.returns-in-Some

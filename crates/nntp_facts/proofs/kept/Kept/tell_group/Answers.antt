@@ -1,5 +1,6 @@
 use Rattle.std.{proofs.Common.{true, sym, ap, subst, ◌∙◌}, specs.Prelude.{option_map}}
-use Rattle.nntp_facts.{specs.{Conflict.{the_group}, Inner.Kept.{AreAdded}}, proofs.{OkResults.{if_ok}, Keeping.ToldAnswers.{nothing_added}}}
+use Rattle.nntp_theory.{specs.Conflict.{the_group}, proofs.OkResults.{if_ok}}
+use Rattle.nntp_facts.{specs.Inner.Kept.{AreAdded}, proofs.Keeping.ToldAnswers.{nothing_added}}
 use Rattle.nntp_facts.proofs.kept.Kept.tell_group.Goals as goal
 
 pub returns-in-Some : goal.returns-in-Some

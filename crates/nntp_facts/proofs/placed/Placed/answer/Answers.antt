@@ -1,5 +1,5 @@
 use Rattle.std.{proofs.Common.{subst}, specs.List.{AllByRecursion}}
-use Rattle.nntp_facts.{specs.{Conflict.{Placed}, Inner.Together.{IsWellFormed}}, proofs.Together.WellFormed.{spelled_formed}}
+use Rattle.nntp_theory.{specs.{Conflict.{Placed}, Inner.Together.{IsWellFormed}}, proofs.Together.WellFormed.{spelled_formed}}
 use Rattle.nntp_said.specs.Facts.{facts_of}
 use Rattle.nntp_facts.proofs.placed.Placed.answer.Goals as goal
 

@@ -1,8 +1,8 @@
 use Rattle.std.proofs.{Common.{rules, ◌≡◌, ◌<◌, ◌^◌, ◌++◌, ◌∷◌, [], length, Some, sym, ap, subst, ◌∙◌, arith, length-append}, lemmas.Option.{slice_get-get_or}}
 use Rattle.nntp_article.specs.Session.Limit.{profile_of}
-use Rattle.nntp_facts.specs.{Inner.{Kept.{IsKept}, Points.{Answers, AreHeld}, StatementView.{held_of}, Told.{AreToldWith}}, Conflict.{SomeHas, places_of}}
-use Rattle.nntp_facts.{specs.Conflict.{told_with}, proofs.Keeping.HeldAnswers.{no_places, core_conflicts, held_alone, held_behind, last_there, others_stand}}
-use Rattle.nntp_facts.proofs.{Keeping.HeldAnswers.{told_front}, OkResults.{if_two}}
+use Rattle.nntp_facts.specs.Inner.{Kept.{IsKept}, Points.{Answers, AreHeld}, StatementView.{held_of}, Told.{AreToldWith}}
+use Rattle.nntp_facts.proofs.Keeping.HeldAnswers.{no_places, core_conflicts, held_alone, held_behind, last_there, others_stand, told_front}
+use Rattle.nntp_theory.{specs.Conflict.{SomeHas, places_of, told_with}, proofs.OkResults.{if_two}}
 use Rattle.nntp_facts.proofs.points.Conflict.of.Goals as goal
 
 pub returns-in_default : goal.returns-in_default

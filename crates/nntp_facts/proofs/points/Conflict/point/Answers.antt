@@ -1,6 +1,7 @@
 use Rattle.std.proofs.Common.{◌++◌, ℕ, List, sym, ap, subst, ◌∙◌}
-use Rattle.nntp_facts.specs.{Conflict.{Placed, told, told_with}, Inner.{Conflict.{FitsThere}, Points.{TellsAlone}, StatementView.{held_of, statement_of}}}
-use Rattle.nntp_facts.proofs.PointsFound.PointsChained.{beside, all_formed, kind_ranked, moved_before, given_there, none_there, none_at_all}
+use Rattle.nntp_theory.specs.{Conflict.{Placed, told, told_with}, Inner.Conflict.{FitsThere}}
+use Rattle.nntp_facts.{specs.Inner.{Points.{TellsAlone}, StatementView.{held_of, statement_of}}, proofs.PointsFound.PointsChained.{beside, all_formed}}
+use Rattle.nntp_facts.proofs.PointsFound.PointsChained.{kind_ranked, moved_before, given_there, none_there, none_at_all}
 use Rattle.nntp_article.specs.Inner.Misfit.{numbers_of}
 use Rattle.nntp_facts.proofs.points.Conflict.point.Goals as goal
 

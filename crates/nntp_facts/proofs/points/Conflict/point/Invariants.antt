@@ -1,6 +1,7 @@
 use Rattle.std.{proofs.Common.{◌∷◌, List, ℕ}, specs.List.{AllByRecursion}}
 use Rattle.nntp_article.specs.declared.session.profile.Profile.{Profile}
-use Rattle.nntp_facts.specs.{Conflict.{Placed, told_with}, Inner.{Conflict.{FitsThere}, Points.{AreHeld, NoneBefore}, StatementView.{held_of}}}
+use Rattle.nntp_theory.specs.{Conflict.{Placed, told_with}, Inner.Conflict.{FitsThere}}
+use Rattle.nntp_facts.specs.Inner.{Points.{AreHeld, NoneBefore}, StatementView.{held_of}}
 use Rattle.nntp_facts.proofs.points.Conflict.point.Given as goal
 
 -- at no point of the kinds so far the answers conflict

@@ -1,8 +1,7 @@
 use Rattle.std.{proofs.Common.{◌∙◌, ◌+◌, ◌*◌, ◌≤◌, length, drop, MatchOption, refl, sym, ap, subst, arith}, specs.{Prelude.{⊤, nat_lt}, Option.{option_copied}}}
 use Rattle.nntp_wire.specs.{Answer.{Response, Spells}, Frame.{frame_octets}}
-use Rattle.nntp_pair.specs.{Pairing.{IsNext, asked_at}, Inner.{Feeding.{Fed, IsFed, left_of}, Searching.{left_from, BeginsWithPlace, IsForNext}}}
-use Rattle.nntp_pair.{specs.Feeding.{HasNext}, proofs.FeedLemmas.{search-there, in-step, behind-place, next-frame, frame-shorter, next-behind, next-here}}
-use Rattle.nntp_pair.proofs.FeedLemmas.{fed-push}
+use Rattle.nntp_pair.specs.{Pairing.{IsNext, asked_at, HasNext}, Inner.{Feeding.{Fed, IsFed, left_of}, Searching.{left_from, BeginsWithPlace, IsForNext}}}
+use Rattle.nntp_pair.proofs.FeedLemmas.{search-there, in-step, behind-place, next-frame, frame-shorter, next-behind, next-here, fed-push}
 use Rattle.nntp_pair.proofs.feed.Feed.advance.Goals as goal
 
 pub unreachable-requires-in_default-frame : goal.unreachable-requires-in_default-frame

@@ -1,6 +1,6 @@
 use Rattle.std.{proofs.Common.{◌≢◌, ◌∙◌, length, ℕ, List, [], Option, MatchOption, refl, sym, ap, subst}, specs.Prelude.{⊤, nat_lt}}
 use Rattle.nntp_wire.specs.{Lines.{lines_of_stream}, Inner.Search.{IsFrameThrough}}
-use Rattle.nntp_pair.specs.{Pairing.{Awaits, IsBad}, Inner.{Feeding.{IsEnding, EndsForGood, left_of}, Searching.{left_from, IsForNext}}, Feeding.{HasNext}}
+use Rattle.nntp_pair.specs.{Pairing.{Awaits, IsBad, HasNext}, Inner.{Feeding.{IsEnding, EndsForGood, left_of}, Searching.{left_from, IsForNext}}}
 use Rattle.nntp_pair.{specs.declared.class.PairClass.{PairClass}, proofs.{FeedLemmas.{is-empty, not-empty, cut-left, surplus-left}, PairLemmas.{lines-count}}}
 use Rattle.nntp_pair.proofs.feed.Feed.end.Goals.{in-Some, in-None}
 use Rattle.nntp_pair.specs.declared.ending.Ending.TheVariants as ending

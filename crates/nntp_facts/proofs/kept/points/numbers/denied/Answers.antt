@@ -1,5 +1,6 @@
 use Rattle.std.{proofs.Common.{refl, subst}, specs.Prelude.{MatchOption, IsTrue}}
-use Rattle.nntp_facts.{specs.{Given.{asks_of, is_known, is_denied}, Inner.Conflict.{AreApart}}, proofs.PointsFound.NumbersBeside.{number_free}}
+use Rattle.nntp_theory.specs.{Given.{asks_of, is_known, is_denied}, Inner.Conflict.{AreApart}}
+use Rattle.nntp_facts.proofs.PointsFound.NumbersBeside.{number_free}
 use Rattle.nntp_facts.proofs.kept.points.numbers.denied.Goals as goal
 
 pub returns-in-Some : goal.returns-in-Some

@@ -1,9 +1,0 @@
-pub mod LeastNumber
-pub mod FirstFreeNumber
-pub mod MetNumbersStand
-pub mod GivenNumbersMeet
-pub mod AskedOfAGroup
-pub mod JoinedDemands
-pub mod CountOfGivenNumbers
-pub mod StrictMarks
-pub mod AsksDecided

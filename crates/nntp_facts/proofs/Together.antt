@@ -1,4 +1,0 @@
-pub mod FactsOfASpoolStand
-pub mod TwoListsOfFacts
-pub mod FactsJoin
-pub mod WellFormed

@@ -1,5 +1,0 @@
-use Rattle.nntp_facts.proofs.Session.OneMoreAnswer.{facts_grow, fitting_grows, visible_grows, position_grows}
-use Rattle.nntp_facts.proofs.laws.answers_add_up.Goals as goal
-
-pub returns : goal.returns
-returns c = record { facts = facts_grow; fitting = fitting_grows; visible = visible_grows; position = position_grows }

@@ -1,6 +1,0 @@
-use Rattle.nntp_facts.proofs.{GivenNumbers.JoinedDemands.{demand_append}, Together.FactsJoin.{together_more, answer_agrees}}
-use Rattle.nntp_facts.proofs.Keeping.NotedSessions.{permitted_more}
-use Rattle.nntp_facts.proofs.laws.next_answer_is_permitted_where_it_joins.Goals as goal
-
-pub returns : goal.returns
-returns c = record { demand = demand_append; facts = together_more; within = answer_agrees; answer = permitted_more }

@@ -1,6 +1,0 @@
-use Rattle.std.proofs.Common.{[]}
-use Rattle.nntp_facts.proofs.Given.FirstBadAnswer.{none_permitted}
-use Rattle.nntp_facts.proofs.laws.no_answers_are_permitted.Goals as goal
-
-pub returns : goal.returns
-returns c = λ profile ps. none_permitted profile ps []

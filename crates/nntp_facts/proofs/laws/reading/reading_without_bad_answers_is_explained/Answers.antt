@@ -1,5 +1,0 @@
-use Rattle.nntp_facts.proofs.Reading.FirstBadOfAReading.{good_exactly}
-use Rattle.nntp_facts.proofs.laws.reading.reading_without_bad_answers_is_explained.Goals as goal
-
-pub returns : goal.returns
-returns c = good_exactly

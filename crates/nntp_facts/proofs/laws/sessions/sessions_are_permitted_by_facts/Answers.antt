@@ -1,5 +1,0 @@
-use Rattle.nntp_facts.proofs.Given.SessionsByFacts.{permitted_by_all_facts}
-use Rattle.nntp_facts.proofs.laws.sessions.sessions_are_permitted_by_facts.Goals as goal
-
-pub returns : goal.returns
-returns c = permitted_by_all_facts

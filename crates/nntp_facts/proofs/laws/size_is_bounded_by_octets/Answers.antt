@@ -1,5 +1,0 @@
-use Rattle.nntp_facts.proofs.Session.OneMoreAnswer.{size_by_octets, size_by_pairs}
-use Rattle.nntp_facts.proofs.laws.size_is_bounded_by_octets.Goals as goal
-
-pub returns : goal.returns
-returns c = record { spelled = size_by_octets; paired = size_by_pairs }

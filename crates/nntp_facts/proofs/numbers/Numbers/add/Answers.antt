@@ -1,7 +1,0 @@
-use Rattle.nntp_facts.{specs.Inner.PartView.{said}, proofs.Keeping.MoreAsks.{added}}
-use Rattle.nntp_facts.proofs.numbers.Numbers.add.Goals as goal
-
-pub returns : goal.returns
-returns g c =
-    added c.args.self.now _ (said c.args.part.now) _ c.self.view_is c.in_ok-show.ensures.shown c.in_ok-show.ensures.ascends c.in_ok-deny.ensures c.least-self-inside.ensures c.join-self-inside.ensures
-    c.join-self-inside-2.ensures

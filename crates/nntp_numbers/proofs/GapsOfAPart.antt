@@ -1,0 +1,186 @@
+-- The intervals that the numbers of a part leave of its own.
+use Rattle.std.proofs.Common.{◌≡◌, ℕ, ◌+◌, ◌-◌, ◌^◌, ◌<◌, ◌≤◌, Bool, true, false, cond, not, ◌&&◌, ◌||◌, ◌==◌, IsTrue, List, [], ◌∷◌, None, Some, inl, inr}
+use Rattle.std.proofs.{Common.{refl, sym, ap, subst, ◌∙◌, arith}, Math.Bool.{or-false, and-true}, lemmas.Bool.{true≢false, not-true, and_parts, and_from}}
+use Rattle.std.proofs.lemmas.Bool.{or_parts, or_from, or_left, or_right, or_cases, cases_lt, cases_order, false_from_ne_true, le-ltb, le-leb, leb-true, lt-ltb}
+use Rattle.std.{proofs.lemmas.Bool.{ltb-true, ltb-false, eq-eqb, eqb-true, ne_eqb}, specs.{Prelude.{◌↔◌, nat_lt, nat_le}, List.{list_all}, Cmp.{both_ways}}}
+use Rattle.nntp_intervals.specs.Inner.Intervals.{holds, is_between}
+use Rattle.nntp_article.specs.Session.Machine.{is_ascending}
+use Rattle.nntp_numbers.specs.Inner.{Part.{Said, IsRegular, part_denies, is_one_of}, Summary.{has, AgreesWith, denied_after, is_open, gaps, number_behind}}
+
+-- the numbers are from a start to an end, from 1 on
+abbrev pub AreWithin : (start last : ℕ) → List ℕ → Type 0
+AreWithin start last ns = (n : ℕ) → is_one_of ns n ≡ true → (1 ≤ n) × (start ≤ n) × (n ≤ last)
+
+-- a number below the first of ascending ones isn't one of them
+pub not_above : (m : ℕ) (xs : List ℕ) (n : ℕ) → list_all (λ k. nat_lt n k) xs ≡ true → m < n → is_one_of xs m ≡ true → ⊥
+not_above m [] n up l t = cc
+not_above m (x ∷ xs) n up l t =
+    let p = and_parts (nat_lt n x) (list_all (λ k. nat_lt n k) xs) up in
+    elim (or_cases (m == x) (is_one_of xs m) t) [ inl e ↦ (let a = ltb-true n x p.0 in let b = eqb-true m x e in absurd (omega arith)) | inr r ↦ not_above m xs n p.1 l r ]
+
+-- ---- the intervals
+
+behind_is : (n : ℕ) → n + 1 < 2 ^ 64 → number_behind n ≡ Some (n + 1)
+behind_is n l = ap (λ b. cond b (Some (n + 1)) None) (lt-ltb (n + 1) (2 ^ 64) l)
+
+pub listed_later : (n : ℕ) (ns : List ℕ) (m : ℕ) → is_one_of ns m ≡ true → is_one_of (n ∷ ns) m ≡ true
+listed_later n ns m t = or_right (m == n) (is_one_of ns m) t
+
+listed_above : (n : ℕ) (ns : List ℕ) (m : ℕ) → list_all (λ k. nat_lt n k) ns ≡ true → is_one_of ns m ≡ true → n < m
+listed_above n ns m up t = elim (cases_order n m) [
+  | inl e ↦ absurd (not_itself m ns (subst (λ n. list_all (λ k. nat_lt n k) ns ≡ true) e up) t)
+  | inr (inl l) ↦ l
+  | inr (inr g) ↦ absurd (not_above m ns n up g t)
+]
+  where
+    not_itself : (m : ℕ) (xs : List ℕ) → list_all (λ k. nat_lt m k) xs ≡ true → is_one_of xs m ≡ true → ⊥
+    not_itself m [] up t = cc
+    not_itself m (x ∷ xs) up t =
+        let p = and_parts (nat_lt m x) (list_all (λ k. nat_lt m k) xs) up in
+        elim (or_cases (m == x) (is_one_of xs m) t) [ inl e ↦ (let a = ltb-true m x p.0 in let b = eqb-true m x e in absurd (omega arith)) | inr r ↦ not_itself m xs p.1 r ]
+
+not_one : (n : ℕ) (ns : List ℕ) (m : ℕ) → (m ≡ n → ⊥) → is_one_of ns m ≡ false → is_one_of (n ∷ ns) m ≡ false
+not_one n ns m ne none = or_from (m == n) (is_one_of ns m) (ne_eqb m n ne) none
+
+between : (a b n : ℕ) → a ≤ n → n ≤ b → is_between a b n ≡ true
+between a b n l h = and_from (nat_le a n) (nat_le n b) (le-leb a n l) (le-leb n b h)
+
+between_is : (a b n : ℕ) → is_between a b n ≡ true → (a ≤ n) × (n ≤ b)
+between_is a b n t = let p = and_parts (nat_le a n) (nat_le n b) t in (leb-true a n p.0, leb-true n b p.1)
+
+within_later : (start last n : ℕ) (ns : List ℕ) → IsTrue (is_ascending (n ∷ ns)) → AreWithin start last (n ∷ ns) → AreWithin (n + 1) last ns
+within_later start last n ns up within k t =
+    let w = within k (listed_later n ns k t) in
+    let l = listed_above n ns k (and_parts (list_all (λ k. nat_lt n k) ns) (is_ascending ns) up).0 t in
+    (w.0, omega arith, w.2)
+
+module _ (start last n : ℕ) (ns : List ℕ) (up : IsTrue (is_ascending (n ∷ ns))) (within : AreWithin start last (n ∷ ns)) (m : ℕ) (small : m < 2 ^ 64)
+    (later : holds (gaps (Some (n + 1)) last ns) m ≡ (is_between (n + 1) last m && not (is_one_of ns m))) where
+  here : (1 ≤ n) × (start ≤ n) × (n ≤ last)
+  here = within n (or_left (n == n) (is_one_of ns n) (eq-eqb n n refl))
+
+  above : list_all (λ k. nat_lt n k) ns ≡ true
+  above = (and_parts (list_all (λ k. nat_lt n k) ns) (is_ascending ns) up).0
+
+  rest : n + 1 < 2 ^ 64 → holds (gaps (number_behind n) last ns) m ≡ (is_between (n + 1) last m && not (is_one_of ns m))
+  rest l = ap (λ s. holds (gaps s last ns) m) (behind_is n l) ∙ later
+
+  full : 2 ^ 64 ≤ n + 1 → holds (gaps (number_behind n) last ns) m ≡ false
+  full l = ap (λ b. holds (gaps (cond b (Some (n + 1)) None) last ns) m) (false_from_ne_true (nat_lt (n + 1) (2 ^ 64)) (λ t. let a = ltb-true (n + 1) (2 ^ 64) t in absurd (omega arith)))
+
+  forth : holds (gaps (Some start) last (n ∷ ns)) m ≡ true → (is_between start last m && not (is_one_of (n ∷ ns) m)) ≡ true
+  forth t = elim (or_cases (is_between start (n - 1) m) (holds (gaps (number_behind n) last ns) m) t) [
+    | inl a ↦
+        let b = between_is start (n - 1) m a in
+        let h = here in
+        let below : m < n = omega arith in
+        and_from (is_between start last m) (not (is_one_of (n ∷ ns) m)) (between start last m b.0 (omega arith))
+        (ap not (not_one n ns m (λ e. absurd (omega arith)) (false_from_ne_true (is_one_of ns m) (λ u. not_above m ns n above below u))))
+    | inr a ↦ elim (cases_lt (n + 1) (2 ^ 64)) [
+      | inl l ↦
+          let p = and_parts (is_between (n + 1) last m) (not (is_one_of ns m)) (sym (rest l) ∙ a) in
+          let b = between_is (n + 1) last m p.0 in
+          let h = here in
+          and_from (is_between start last m) (not (is_one_of (n ∷ ns) m)) (between start last m (omega arith) b.1) (ap not (not_one n ns m (λ e. absurd (omega arith)) (not-true (is_one_of ns m) p.1)))
+      | inr g ↦ absurd (true≢false (sym a ∙ full g))
+    ]
+  ]
+
+  back : (is_between start last m && not (is_one_of (n ∷ ns) m)) ≡ true → holds (gaps (Some start) last (n ∷ ns)) m ≡ true
+  back t =
+      let p = and_parts (is_between start last m) (not (is_one_of (n ∷ ns) m)) t in
+      let b = between_is start last m p.0 in
+      let none = not-true (is_one_of (n ∷ ns) m) p.1 in
+      elim (cases_order m n) [
+        | inl e ↦ absurd (true≢false (sym (or_left (m == n) (is_one_of ns m) (eq-eqb m n e)) ∙ none))
+        | inr (inl l) ↦ or_left (is_between start (n - 1) m) (holds (gaps (number_behind n) last ns) m) (between start (n - 1) m b.0 (omega arith))
+        | inr (inr g) ↦
+            or_right (is_between start (n - 1) m) (holds (gaps (number_behind n) last ns) m)
+            (rest (omega arith) ∙ and_from (is_between (n + 1) last m) (not (is_one_of ns m))
+            (between (n + 1) last m (omega arith) b.1)
+            (ap not (false_from_ne_true (is_one_of ns m) (λ u. true≢false (sym (listed_later n ns m u) ∙ none)))))
+      ]
+
+  gaps_more : holds (gaps (Some start) last (n ∷ ns)) m ≡ (is_between start last m && not (is_one_of (n ∷ ns) m))
+  gaps_more = both_ways (holds (gaps (Some start) last (n ∷ ns)) m) (is_between start last m && not (is_one_of (n ∷ ns) m)) forth back
+
+-- a number that isn't listed is in an interval, and no other
+pub gaps_hold : (start last : ℕ) (ns : List ℕ) → IsTrue (is_ascending ns) → AreWithin start last ns → (m : ℕ) → m < 2 ^ 64
+    → holds (gaps (Some start) last ns) m ≡ (is_between start last m && not (is_one_of ns m))
+gaps_hold start last [] up within m small = or-false (is_between start last m) ∙ sym (and-true (is_between start last m))
+gaps_hold start last (n ∷ ns) up within m small =
+    gaps_more start last n ns up within m small (gaps_hold (n + 1) last ns (and_parts (list_all (λ k. nat_lt n k) ns) (is_ascending ns) up).1 (within_later start last n ns up within) m small)
+
+-- ---- what is said
+
+module _ (p : Said) (regular : IsRegular p) where
+  -- what is denied, as the code has it
+  pub denies_by_gaps : (n : ℕ) → n < 2 ^ 64 → ((nat_lt n p.low || nat_lt p.high n) || holds (gaps (Some p.first) p.last p.numbers) n) ≡ part_denies p n
+  denies_by_gaps n l = ap (λ b. (nat_lt n p.low || nat_lt p.high n) || b) (gaps_hold p.first p.last p.numbers regular.ascends regular.within n l)
+
+  -- where no shown number is outside the marks, none is denied exactly if none is in an interval
+  pub none_denied : (shown : List ℕ) (is : List (ℕ × ℕ)) (b : Bool) → is ≡ gaps (Some p.first) p.last p.numbers
+      → ((n : ℕ) → has shown n ≡ true → (nat_lt n p.low || nat_lt p.high n) ≡ false) → (IsTrue b ↔ ((n : ℕ) → has shown n ≡ true → holds is n ≡ false))
+      → IsTrue b ↔ ((n : ℕ) → has shown n ≡ true → part_denies p n ≡ false)
+  none_denied shown is b same inside none = (
+    λ t n s. sym (denied n s) ∙ or_from (nat_lt n p.low || nat_lt p.high n) (holds is n) (inside n s) (none.0 t n s),
+    λ free. none.1 (λ n s. (or_parts (nat_lt n p.low || nat_lt p.high n) (holds is n) (denied n s ∙ free n s)).1),
+  )
+    where
+      below : (n : ℕ) → has shown n ≡ true → n < 2 ^ 64
+      below n s =
+          let o = or_parts (nat_lt n p.low) (nat_lt p.high n) (inside n s) in
+          let l = ltb-false p.high n o.1 in
+          let h = regular.high in
+          omega arith
+
+      denied : (n : ℕ) → has shown n ≡ true → ((nat_lt n p.low || nat_lt p.high n) || holds is n) ≡ part_denies p n
+      denied n s = ap (λ is. (nat_lt n p.low || nat_lt p.high n) || holds is n) same ∙ denies_by_gaps n (below n s)
+
+-- ---- the numbers of a part that are open
+
+pub open_parts : (denied : List (ℕ × ℕ)) (p : Said) (n : ℕ) → is_open denied p n ≡ true → (p.low ≤ n) × (n ≤ p.high) × (holds denied n ≡ false)
+open_parts denied p n t =
+    let o = and_parts (nat_le p.low n && nat_le n p.high) (not (holds denied n)) t in
+    let q = and_parts (nat_le p.low n) (nat_le n p.high) o.0 in
+    (leb-true p.low n q.0, leb-true n p.high q.1, not-true (holds denied n) o.1)
+
+pub all_open : (denied : List (ℕ × ℕ)) (p : Said) (ks : List ℕ) → list_all (is_open denied p) ks ≡ true → (n : ℕ) → is_one_of ks n ≡ true → is_open denied p n ≡ true
+all_open denied p [] all n t = cc
+all_open denied p (k ∷ ks) all n t =
+    let a = and_parts (is_open denied p k) (list_all (is_open denied p) ks) all in
+    elim (or_cases (n == k) (is_one_of ks n) t) [ inl e ↦ ap (is_open denied p) (eqb-true n k e) ∙ a.0 | inr u ↦ all_open denied p ks a.1 n u ]
+
+open_all : (denied : List (ℕ × ℕ)) (p : Said) (ks : List ℕ) → ((n : ℕ) → is_one_of ks n ≡ true → is_open denied p n ≡ true) → list_all (is_open denied p) ks ≡ true
+open_all denied p [] each = refl
+open_all denied p (k ∷ ks) each =
+    and_from (is_open denied p k) (list_all (is_open denied p) ks) (each k (or_left (k == k) (is_one_of ks k) (eq-eqb k k refl))) (open_all denied p ks (λ n t. each n (listed_later k ks n t)))
+
+module _ (shown : List ℕ) (denied : List (ℕ × ℕ)) (p : Said) where
+  -- a number of the part is open exactly if it isn't denied after it
+  open_free : (n : ℕ) → is_one_of p.numbers n ≡ true → is_open denied p n ≡ true → denied_after denied p n ≡ false
+  open_free n t is_so =
+      let o = open_parts denied p n is_so in
+      or_from (holds denied n) (part_denies p n) o.2
+      (or_from (nat_lt n p.low || nat_lt p.high n) (is_between p.first p.last n && not (is_one_of p.numbers n))
+      (or_from (nat_lt n p.low) (nat_lt p.high n) (le-ltb n p.low o.0) (le-ltb p.high n o.1))
+      (false_from_ne_true (is_between p.first p.last n && not (is_one_of p.numbers n))
+      (λ u. true≢false (sym t ∙ not-true (is_one_of p.numbers n)
+      (and_parts (is_between p.first p.last n) (not (is_one_of p.numbers n)) u).1))))
+
+  free_open : (n : ℕ) → denied_after denied p n ≡ false → is_open denied p n ≡ true
+  free_open n free =
+      let both = or_parts (holds denied n) (part_denies p n) free in
+      let outside = or_parts (nat_lt n p.low || nat_lt p.high n) (is_between p.first p.last n && not (is_one_of p.numbers n)) both.1 in
+      let low = or_parts (nat_lt n p.low) (nat_lt p.high n) outside.0 in
+      and_from (nat_le p.low n && nat_le n p.high) (not (holds denied n))
+      (and_from (nat_le p.low n) (nat_le n p.high) (le-leb p.low n (ltb-false n p.low low.0)) (le-leb n p.high (ltb-false p.high n low.1)))
+      (ap not both.0)
+
+  -- nothing is both shown and denied
+  pub part_agrees : IsTrue p.possible → ((n : ℕ) → has shown n ≡ true → part_denies p n ≡ false) → IsTrue (list_all (is_open denied p) p.numbers) → AgreesWith shown denied p
+  part_agrees can none all = record { can_be = can; before = none; after = λ n t. open_free n t (all_open denied p p.numbers all n t) }
+
+  -- and back
+  pub agrees_open : AgreesWith shown denied p → IsTrue (list_all (is_open denied p) p.numbers)
+  agrees_open agrees = open_all denied p p.numbers (λ n t. free_open n (agrees.after n t))

@@ -1,0 +1,70 @@
+-- What a part says that one ask made.
+use Rattle.std.{proofs.Common.{◌≡◌, ℕ, ◌+◌, ◌-◌, ◌^◌, ◌<◌, ◌≤◌, Bool, true, false, cond, List, [], ◌∷◌, refl, rules}, specs.Prelude.{nat_lt}}
+use Rattle.nntp_wire.specs.declared.{marks.Marks.{Marks}, water_marks.WaterMarks.{WaterMarks}}
+use Rattle.nntp_said.specs.{declared.position.Position.{Position, TheVariants.{Nowhere, First, Known}}, Asks.{Ask, Estimates, Has, Lacks, StandsAt}}
+use Rattle.nntp_said.specs.Asks.{StandsNowhere, StepsUp, StepsDown, IsTop, IsBottom}
+use Rattle.nntp_numbers.specs.Inner.{Part.{Said, Says}, PartOf.{IsSmall, impossible, listing, nothing_said, part_with}, Summary.{AreBounded}}
+
+-- the part that an ask makes, whose answer shows these numbers
+abbrev of_ask : List ℕ → Ask → Said
+of_ask shown ask = part_with shown ask nothing_said
+
+-- the number is there
+abbrev has : ℕ → Said
+has n = listing n n (n ∷ []) nothing_said
+
+pub says_marks : (shown : List ℕ) (how : Marks) (m : WaterMarks) → m.high < 2 ^ 64 → Says (of_ask shown (Estimates how m)) (Estimates how m ∷ [])
+says_marks shown how m small = search rules
+
+pub marks_bounded : (how : Marks) (m : WaterMarks) → m.high < 2 ^ 64 → AreBounded (Estimates how m ∷ [])
+marks_bounded how m small = search rules
+
+pub says_has : (n : ℕ) → n < 2 ^ 64 → 1 ≤ n → Says (of_ask (n ∷ []) (Has n)) (Has n ∷ [])
+says_has n small some = search rules
+
+pub says_lacks : (shown : List ℕ) (n : ℕ) → n < 2 ^ 64 → Says (of_ask shown (Lacks n)) (Lacks n ∷ [])
+says_lacks shown n small = search rules
+
+pub says_stands : (at : Position) (n : ℕ) → IsSmall (of_ask (n ∷ []) (StandsAt at n)) → 1 ≤ n → Says (of_ask (n ∷ []) (StandsAt at n)) (StandsAt at n ∷ Has n ∷ [])
+says_stands Nowhere n small some = search rules
+says_stands First n small some = search rules
+says_stands (Known c) n small some = search rules
+
+pub says_nowhere : (shown : List ℕ) (at : Position) → Says (of_ask shown (StandsNowhere at)) (StandsNowhere at ∷ [])
+says_nowhere shown Nowhere = search rules
+says_nowhere shown First = search rules
+says_nowhere shown (Known c) = search rules
+
+pub says_up : (at : Position) (n : ℕ) → IsSmall (of_ask (n ∷ []) (StepsUp at n)) → 1 ≤ n → Says (of_ask (n ∷ []) (StepsUp at n)) (StepsUp at n ∷ Has n ∷ [])
+says_up Nowhere n small some = search rules
+says_up First n small some = search rules
+says_up (Known c) n small some = by (nat_lt c n) refl small
+  where
+    stepped : Bool → Said
+    stepped b = cond b (record (has n) { first = c + 1 }) (impossible (has n))
+
+    by : (b : Bool) → nat_lt c n ≡ b → IsSmall (stepped b) → Says (stepped b) (StepsUp (Known c) n ∷ Has n ∷ [])
+    by true e small = search rules
+    by false e small = search rules
+
+pub says_down : (at : Position) (n : ℕ) → IsSmall (of_ask (n ∷ []) (StepsDown at n)) → 1 ≤ n → Says (of_ask (n ∷ []) (StepsDown at n)) (StepsDown at n ∷ Has n ∷ [])
+says_down Nowhere n small some = search rules
+says_down First n small some = search rules
+says_down (Known c) n small some = by (nat_lt n c) refl small
+  where
+    stepped : Bool → Said
+    stepped b = cond b (record (has n) { last = c - 1 }) (impossible (has n))
+
+    by : (b : Bool) → nat_lt n c ≡ b → IsSmall (stepped b) → Says (stepped b) (StepsDown (Known c) n ∷ Has n ∷ [])
+    by true e small = search rules
+    by false e small = search rules
+
+pub says_top : (shown : List ℕ) (at : Position) → (of_ask shown (IsTop at)).high < 2 ^ 64 → Says (of_ask shown (IsTop at)) (IsTop at ∷ [])
+says_top shown Nowhere small = search rules
+says_top shown First small = search rules
+says_top shown (Known c) small = search rules
+
+pub says_bottom : (shown : List ℕ) (at : Position) → Says (of_ask shown (IsBottom at)) (IsBottom at ∷ [])
+says_bottom shown Nowhere = search rules
+says_bottom shown First = search rules
+says_bottom shown (Known c) = search rules

@@ -1,0 +1,7 @@
+use Rattle.nntp_numbers.{specs.Inner.PartView.{said}, proofs.MoreAsks.{added}}
+use Rattle.nntp_numbers.proofs.numbers.Numbers.add.Goals as goal
+
+pub returns : goal.returns
+returns g c =
+    added c.args.self.now _ (said c.args.part.now) _ c.self.view_is c.in_ok-show.ensures.shown c.in_ok-show.ensures.ascends c.in_ok-deny.ensures c.least-self-inside.ensures c.join-self-inside.ensures
+    c.join-self-inside-2.ensures

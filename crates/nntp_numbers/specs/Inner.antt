@@ -1,0 +1,7 @@
+pub mod Between
+pub mod Part
+pub mod PartOf
+pub mod PartView
+pub mod Summary
+pub mod SummaryView
+pub mod Unseen

@@ -1,0 +1,14 @@
+//! What is kept of the numbers of one group, and whether what an answer says of them stands with it.
+#![tactic(auto)]
+
+mod agreement;
+mod ends;
+mod free;
+mod gaps;
+mod numbers;
+mod numbers_part;
+mod shown;
+mod tally;
+
+pub use numbers::Numbers;
+pub use numbers_part::NumbersPart;

@@ -1,0 +1,277 @@
+//! What an answer says of the numbers of one group (RFC 3977, section 6.1).
+ghost use Rattle.std.specs.Prelude.{◌≡◌, ◌<◌, [], ◌∷◌, ◌↔◌, IsTrue};
+ghost use Rattle.nntp_wire.specs.Limit.{greatest};
+ghost use Rattle.nntp_wire.specs.declared.marks.Marks.TheVariants.{Lenient};
+ghost use Rattle.nntp_article.specs.declared.session.profile.Profile.{Profile};
+ghost use Rattle.nntp_theory.specs.Conflict.{widest};
+ghost use Rattle.nntp_said.specs.Asks.{Estimates, Bounds};
+ghost use Rattle.nntp_said.specs.Inner.FactView.{ask_of};
+ghost use Rattle.nntp_numbers.specs.Inner.Part.{Says, only_has};
+ghost use Rattle.nntp_numbers.specs.Inner.PartOf.{IsSmall, impossible, listing, none_above, none_below, nothing_said, part_with, standing_at, standing_nowhere};
+ghost use Rattle.nntp_numbers.specs.Inner.PartOf.{stepping_down, stepping_up};
+ghost use Rattle.nntp_numbers.specs.Inner.PartView.{said};
+ghost use Rattle.nntp_numbers.specs.Inner.Summary.{AreBounded};
+
+use crate::ends::Ends;
+use nntp_said::{Ask, Position};
+use nntp_theory::Demand;
+use nntp_wire::{Limit, Marks, WaterMarks};
+
+/// What one answer says at once of the numbers of a group.
+#[derive(Drop)]
+pub struct NumbersPart<'s> {
+    /// Whether any numbers can be as the answer says.
+    pub is_possible: bool,
+    /// The low end: no number of the group is below it.
+    pub(crate) low: u64,
+    /// The high end: no number of the group is above it.
+    pub(crate) high: u64,
+    /// The first number of an interval in which the group has those of `numbers`, and no others.
+    pub(crate) first: u64,
+    /// The last number of that interval, which is empty where this is below `first`.
+    pub(crate) last: u64,
+    /// The numbers that are there, ascending.
+    pub(crate) numbers: &'s [u64],
+    /// The greatest number of numbers that there may be.
+    pub(crate) estimate: Option<u64>,
+    /// The strict marks, both of which are numbers if there is any number.
+    pub(crate) ends: Option<Ends>,
+    /// What is said of the first number, where it isn't shown.
+    pub(crate) demand: Demand,
+}
+
+impl<'s> NumbersPart<'s> {
+    /// Says nothing of the numbers.
+    pub fn nothing() -> NumbersPart<'s>
+        ensures value { said result ≡ nothing_said }
+        ensures says { Says (said result) [] }
+    {
+        NumbersPart {
+            is_possible: true,
+            low: 0,
+            high: u64::MAX,
+            first: 1,
+            last: 0,
+            numbers: &[],
+            estimate: None,
+            ends: None,
+            demand: Demand::NoDemand,
+        }
+    }
+
+    /// Tells whether the part says that the number is there, and no more.
+    pub fn says_only(&self, number: u64) -> bool
+        ensures { IsTrue result ↔ (said self.now ≡ only_has number) }
+    {
+        self.is_possible
+            && self.low == 0
+            && self.high == u64::MAX
+            && self.first == number
+            && self.last == number
+            && is_alone(self.numbers, number)
+            && self.estimate.is_none()
+            && self.ends.is_none()
+            && !self.demand.is_some()
+    }
+
+    /// Tells whether the part can be, and says nothing of the numbers between its marks.
+    pub(crate) fn is_of_marks(&self) -> bool
+        ensures { IsTrue result ↔ (IsTrue self.now.is_possible × (self.now.numbers.now ≡ []) × (self.now.last < self.now.first)) }
+    {
+        self.is_possible && self.numbers.is_empty() && self.last < self.first
+    }
+
+    /// Says what a 211 to GROUP reports: there are at most so many numbers, between the marks.
+    pub fn of_marks(how: Marks, marks: WaterMarks) -> NumbersPart<'s>
+        ensures says { Says (said result) (Estimates how marks ∷ []) }
+        ensures bounded { AreBounded (Estimates how marks ∷ []) }
+    {
+        NumbersPart::nothing().with_marks(how, marks)
+    }
+
+    /// Says what holds of the numbers of each group: they are within the widest marks.
+    pub fn of_widest(limit: Limit) -> NumbersPart<'s>
+        ensures says { (profile : Profile) → profile.limit ≡ greatest limit → Says (said result) (Estimates Lenient (widest profile) ∷ []) }
+        ensures bounded { (profile : Profile) → profile.limit ≡ greatest limit → AreBounded (Estimates Lenient (widest profile) ∷ []) }
+    {
+        let widest = WaterMarks {
+            estimate: limit.value(),
+            low: 1,
+            high: limit.value(),
+        };
+        NumbersPart::of_marks(Marks::Lenient, widest)
+    }
+
+    /// Says that all numbers are between the marks.
+    pub fn of_bounds(low: u64, high: u64) -> NumbersPart<'s>
+        ensures { Says (said result) (Bounds low high ∷ []) }
+    {
+        NumbersPart {
+            low,
+            high,
+            ..NumbersPart::nothing()
+        }
+    }
+
+    /// Says this too; `shown` are the numbers that its answer shows.
+    pub fn with(self, ask: Ask<'_>, shown: &'s [u64]) -> NumbersPart<'s>
+        ensures says { said result ≡ part_with shown.now (ask_of ask.entry) (said self.entry) }
+        ensures small { IsSmall (said result) }
+    {
+        match ask {
+            Ask::Estimates { how, marks } => self.with_marks(how, marks),
+            Ask::Bounds { low, high } => NumbersPart { low, high, ..self },
+            Ask::Lists { range, .. } => {
+                self.listing(range.first, range.last.unwrap_or(u64::MAX), shown)
+            }
+            Ask::Lacks(number) => self.listing(number, number, &[]),
+            Ask::StandsAt(at, number) => {
+                self.listing(number, number, shown).stands_at(at, number)
+            }
+            Ask::StandsNowhere(at) => self.stands_nowhere(at),
+            Ask::StepsUp(at, number) => self.listing(number, number, shown).steps_up(at, number),
+            Ask::StepsDown(at, number) => {
+                self.listing(number, number, shown).steps_down(at, number)
+            }
+            Ask::IsTop(at) => self.is_top(at),
+            Ask::IsBottom(at) => self.is_bottom(at),
+        }
+    }
+
+    /// Says too that there are at most so many numbers, between the marks, which are read so.
+    fn with_marks(self, how: Marks, marks: WaterMarks) -> NumbersPart<'s>
+        ensures { said result ≡ part_with [] (Estimates how marks) (said self.entry) }
+    {
+        NumbersPart {
+            low: marks.low,
+            high: marks.high,
+            estimate: Some(marks.estimate),
+            ends: Ends::of_marks(how, marks),
+            ..self
+        }
+    }
+
+    /// Says too that from the first number to the last one these are there, and no others.
+    pub fn listing(self, first: u64, last: u64, numbers: &'s [u64]) -> NumbersPart<'s>
+        ensures { said result ≡ listing first last numbers.now (said self.entry) }
+    {
+        NumbersPart {
+            first,
+            last,
+            numbers,
+            ..self
+        }
+    }
+
+    /// Says too that this can't be.
+    fn impossible(self) -> NumbersPart<'s>
+        ensures { said result ≡ impossible (said self.entry) }
+    {
+        NumbersPart {
+            is_possible: false,
+            ..self
+        }
+    }
+
+    /// Says too that the number at the position is this.
+    fn stands_at(self, at: Position, number: u64) -> NumbersPart<'s>
+        ensures { said result ≡ standing_at at number (said self.entry) }
+    {
+        match at {
+            Position::Nowhere => self.impossible(),
+            Position::First => NumbersPart {
+                low: number,
+                ..self
+            },
+            Position::Known(current) => NumbersPart {
+                is_possible: current == number,
+                ..self
+            },
+        }
+    }
+
+    /// Says too that there is no number at the position.
+    fn stands_nowhere(self, at: Position) -> NumbersPart<'s>
+        ensures { said result ≡ standing_nowhere at (said self.entry) }
+    {
+        match at {
+            Position::Nowhere => self,
+            Position::First => self.listing(0, u64::MAX, &[]),
+            Position::Known(_) => self.impossible(),
+        }
+    }
+
+    /// Says too that the next number above the position is this.
+    fn steps_up(self, at: Position, number: u64) -> NumbersPart<'s>
+        ensures { said result ≡ stepping_up at number (said self.entry) }
+    {
+        match at {
+            Position::First => NumbersPart {
+                demand: Demand::SecondIs(number),
+                ..self
+            },
+            Position::Known(current) if current < number => NumbersPart {
+                first: current + 1,
+                ..self
+            },
+            _ => self.impossible(),
+        }
+    }
+
+    /// Says too that the next number below the position is this.
+    fn steps_down(self, at: Position, number: u64) -> NumbersPart<'s>
+        ensures { said result ≡ stepping_down at number (said self.entry) }
+    {
+        match at {
+            Position::Known(current) if number < current => NumbersPart {
+                last: current - 1,
+                ..self
+            },
+            _ => self.impossible(),
+        }
+    }
+
+    /// Says too that no number is above the position.
+    fn is_top(self, at: Position) -> NumbersPart<'s>
+        ensures { said result ≡ none_above at (said self.entry) }
+    {
+        match at {
+            Position::Nowhere => self.impossible(),
+            Position::First => NumbersPart {
+                demand: Demand::OnlyOne,
+                ..self
+            },
+            Position::Known(current) => NumbersPart {
+                high: current,
+                ..self
+            },
+        }
+    }
+
+    /// Says too that no number is below the position.
+    fn is_bottom(self, at: Position) -> NumbersPart<'s>
+        ensures { said result ≡ none_below at (said self.entry) }
+    {
+        match at {
+            Position::Nowhere => self.impossible(),
+            Position::First => NumbersPart {
+                demand: Demand::NotEmpty,
+                ..self
+            },
+            Position::Known(current) => NumbersPart {
+                low: current,
+                ..self
+            },
+        }
+    }
+}
+
+/// Tells whether the number is the only one of these.
+fn is_alone(numbers: &[u64], number: u64) -> bool
+    ensures { IsTrue result ↔ (numbers.now ≡ number ∷ []) }
+{
+    match numbers {
+        [only] => *only == number,
+        _ => false,
+    }
+}

@@ -1,0 +1,436 @@
+-- With which earlier answers a bad answer conflicts.
+use Rattle.std.proofs.Common.{map, length-append, ◌≡◌, ℕ, zero, suc, ◌+◌, ◌<◌, ◌≤◌, ◌^◌, ◌⊎◌, ◌↔◌, IsTrue, List, [], ◌∷◌, ◌++◌, length, Option, None, Some, inl}
+use Rattle.std.proofs.{Common.{inr, refl, sym, ap, subst, ◌∙◌, arith, true, false}, lemmas.{Bool.{cases_lt, cases_eq, true≢false, not-true}, List.{length-map}}}
+use Rattle.std.specs.{Prelude.{not, Contains}, List.{AllByRecursion, flat_map}, Cmp.{nat_cmp_total}, FinMap.{len, len-entries}}
+use Rattle.nntp_said.specs.{declared.position.Position.{Position, TheVariants.{Nowhere}}, Asks.{position_after}, Facts.{Fact, Holds, ThereIs, Asks, IdAt}}
+use Rattle.nntp_said.{specs.{Facts.{facts_of, facts_from, group_of}, Inner.Facts.{FitsAll}}, proofs.{CurrentArticle.{run_from}, FactsHold.{run_of_facts}}}
+use Rattle.nntp_theory.specs.{Classes.{visible_from, position_from, asked_next}, Inner.{Permits.{SomePermits}, Given.{size}, Together.{Together}}}
+use Rattle.nntp_theory.specs.{Inner.Conflict.{FitsThere, AreFound, IsPartOfCore}, Given.{asks_of}, Together.{is_possible}, Conflict.{Placed, placed_from}}
+use Rattle.nntp_theory.specs.Conflict.{widest, said as said_there, a_group, the_group, with_group, told, SomeHas, told_at, told_with, below, IsCore, Point}
+use Rattle.nntp_theory.specs.Conflict.{Step, Group, Number, Count, First, IdOf, PlaceOf, Article, HeadOf, BodyOf, ConflictAt, AreAmong, IsEndOfCore}
+use Rattle.nntp_theory.proofs.{Maps.{keys_among}, Given.{GivenPermits.{said}, ConstructedSpool.{made}, GivenHasFacts.{given_of_facts, given_has}}}
+use Rattle.nntp_theory.proofs.Session.{OneMoreAnswer.{facts_grow}, NumbersOfShownGroups.{Placed as IsPlaced, Among, selectable, session_placed}}
+use Rattle.nntp_theory.proofs.{Session.{GroupOfAnAnswer.{IsOf, one_group, same_selected}, FittingFacts.{IsFitting, answer_fitting}}, Members.{In, all_at}}
+use Rattle.nntp_theory.proofs.Members.{all_from, all_both, all_front, all_back, in_front, in_back, in_cases, in_map, found_in, to_flat, from_flat, contains_in}
+use Rattle.nntp_theory.proofs.{Members.{in_contains}, Together.FactsOfASpoolStand.{stand}}
+use Rattle.nntp_wire.specs.{Answer.{Asked, Response}, declared.marks.Marks.{Marks, TheVariants.{Lenient}}}
+use Rattle.nntp_article.specs.Session.{Spool.{Spool, IsSpool, IsGroup, IsNumber, numbers, Name}, Machine.{Visible, visible_after, start, fits}}
+use Rattle.nntp_article.specs.declared.session.profile.Profile.{Profile}
+
+-- ---- what fits, is placed and stands together is had by some spool
+
+pub some_has : (profile : Profile) (facts : List Fact) → AllByRecursion (IsFitting profile) facts
+    → AllByRecursion (IsPlaced Lenient facts) facts → size facts < 2 ^ 210 → Together facts → SomeHas profile facts
+some_has profile facts fitting placed small together =
+    let G = made profile.limit (10 ^ 64) facts in
+    let has = given_has profile Lenient G facts fitting placed together small (given_of_facts profile Lenient facts fitting placed small) in
+    (G, has.0, has.1)
+
+-- ---- what answers say, where each fits
+
+-- that there is such a group fits
+group_fitting : (profile : Profile) (group : Option Name) → AllByRecursion (IsFitting profile) (the_group profile group)
+group_fitting profile None = tt
+group_fitting profile (Some name) = (tt, ((omega arith, λ e. absurd (omega arith)), tt))
+
+-- the group is placed, where it is among all facts
+group_placed : (profile : Profile) (all : List Fact) (group : Option Name) → AllByRecursion (Among all) (the_group profile group) → AllByRecursion (IsPlaced Lenient all) (the_group profile group)
+group_placed profile all None h = tt
+group_placed profile all (Some name) h = let s = selectable Lenient all name (widest profile) h in (s, (s, tt))
+
+-- and what speaks of it is too
+of_placed : (profile : Profile) (all : List Fact) (group : Option Name) → AllByRecursion (Among all) (the_group profile group) → (fact : Fact) → IsOf group fact → IsPlaced Lenient all fact
+of_placed profile all group h (ThereIs name) e = selectable Lenient all name (widest profile) (subst (λ g. AllByRecursion (Among all) (the_group profile g)) e h)
+of_placed profile all group h (Asks name ask) e = selectable Lenient all name (widest profile) (subst (λ g. AllByRecursion (Among all) (the_group profile g)) e h)
+of_placed profile all group h (IdAt name n id) e = selectable Lenient all name (widest profile) (subst (λ g. AllByRecursion (Among all) (the_group profile g)) e h)
+of_placed profile all group h fact e = tt
+
+-- it says the same in each visible state in which that group is selected
+pub there_said : (how : Marks) (a : Placed) (v : Visible) → v.selected ≡ a.selected → facts_of how v a.position a.asked a.response ≡ said_there how a
+there_said how a v e = same_selected how v (record start.visible { selected = a.selected }) e a.position a.asked a.response
+
+-- what an answer says fits
+pub told_fitting : (profile : Profile) (a : Placed) → FitsThere profile a → AllByRecursion (IsFitting profile) (told profile a)
+told_fitting profile a f =
+    let own = said_there profile.marks a in
+    all_both (IsFitting profile) (the_group profile (group_of own)) own
+    (group_fitting profile (group_of own))
+    (subst (AllByRecursion (IsFitting profile)) (there_said profile.marks a f.0 f.1) (answer_fitting profile f.0 a.position a.asked a.response f.2))
+
+-- and is placed among all facts that it is among
+pub told_placed : (profile : Profile) (all : List Fact) (a : Placed) → AllByRecursion (Among all) (told profile a) → AllByRecursion (IsPlaced Lenient all) (told profile a)
+told_placed profile all a h =
+    let own = said_there profile.marks a in
+    let group = all_front (Among all) (the_group profile (group_of own)) own h in
+    let one = one_group profile.marks (record start.visible { selected = a.selected }) a.position a.asked a.response in
+    all_both (IsPlaced Lenient all) (the_group profile (group_of own)) own
+    (group_placed profile all (group_of own) group)
+    (all_from (IsPlaced Lenient all) own (λ fact i. of_placed profile all (group_of own) group fact (all_at (IsOf (group_of own)) fact own one i)))
+
+-- where it holds, the facts of the answer do
+pub told_own : (profile : Profile) (S : Spool) (facts : List Fact) → AllByRecursion (Holds S) (with_group profile facts) → AllByRecursion (Holds S) facts
+told_own profile S facts h = all_back (Holds S) (the_group profile (group_of facts)) facts h
+
+-- facts that come from answers that fit
+pub record AreTold (profile : Profile) (facts : List Fact) : Type 0 where
+  pub source : (fact : Fact) → In fact facts → (a : Placed) × FitsThere profile a × In fact (told profile a) × AllByRecursion (Among facts) (told profile a)
+
+-- some spool has them exactly if they stand together
+pub told_together : (profile : Profile) (facts : List Fact) → AreTold profile facts → size facts < 2 ^ 210 → SomeHas profile facts ↔ Together facts
+told_together profile facts t small = (
+  λ h. stand profile.limit h.0 facts h.1 h.2,
+  λ together. some_has profile facts
+      (all_from (IsFitting profile) facts (λ fact i. let s = t.source fact i in all_at (IsFitting profile) fact (told profile s.0) (told_fitting profile s.0 s.1) s.2))
+      (all_from (IsPlaced Lenient facts) facts (λ fact i. let s = t.source fact i in all_at (IsPlaced Lenient facts) fact (told profile s.0) (told_placed profile facts s.0 s.3) s.2))
+      small together,
+)
+
+-- what is told by answers
+pub all_told : (profile : Profile) (answers : List Placed) → AllByRecursion (FitsThere profile) answers → AreTold profile (flat_map (told profile) answers)
+all_told profile answers fits = record {
+  source = λ fact i.
+      let f = from_flat (told profile) fact answers i in
+      (f.0, all_at (FitsThere profile) f.0 answers fits f.1, f.2, all_from (Among (flat_map (told profile) answers)) (told profile f.0) (λ other j. to_flat (told profile) f.0 other answers f.1 j));
+}
+
+-- what is told at a place is told by an answer
+told_there : (profile : Profile) (answers : List Placed) (k : ℕ) (fact : Fact) → AllByRecursion (FitsThere profile) answers → In fact (told_at profile answers k)
+    → (a : Placed) × FitsThere profile a × (told_at profile answers k ≡ told profile a)
+told_there profile [] k fact fits i = absurd i
+told_there profile (a ∷ answers) zero fact fits i = (a, fits.0, refl)
+told_there profile (a ∷ answers) (suc k) fact fits i = told_there profile answers k fact fits.1 i
+
+-- what is told by an answer with those at the places
+pub with_told : (profile : Profile) (bad : Placed) (answers : List Placed) (places : List ℕ) → FitsThere profile bad
+    → AllByRecursion (FitsThere profile) answers → AreTold profile (told_with profile bad answers places)
+with_told profile bad answers places fit fits = record { source = λ fact i. by fact (in_cases fact (told profile bad) others i) }
+  where
+    others : List Fact
+    others = flat_map (told_at profile answers) places
+
+    all : List Fact
+    all = told profile bad ++ others
+
+    Source : Fact → Type 0
+    Source fact = (a : Placed) × FitsThere profile a × In fact (told profile a) × AllByRecursion (Among all) (told profile a)
+
+    by : (fact : Fact) → In fact (told profile bad) ⊎ In fact others → Source fact
+    by fact (inl j) = (bad, fit, j, all_from (Among all) (told profile bad) (λ other l. in_front other (told profile bad) others l))
+    by fact (inr j) =
+        let f = from_flat (told_at profile answers) fact places j in
+        let a = told_there profile answers f.0 fact fits f.2 in (
+          a.0,
+          a.1,
+          subst (λ facts. In fact facts) a.2 f.2,
+          all_from (Among all) (told profile a.0)
+              (λ other l. in_back other (told profile bad) others
+              (to_flat (told_at profile answers) f.0 other places f.1 (subst (λ facts. In other facts) (sym a.2) l))),
+        )
+
+-- the answers of a session that fits fit where they stand
+pub session_fits : (profile : Profile) (v : Visible) (at : Position) (ps : List Asked) (answers : List Response)
+    → FitsAll profile v ps answers → AllByRecursion (FitsThere profile) (placed_from v at ps answers)
+session_fits profile v at [] answers f = tt
+session_fits profile v at (p ∷ ps) [] f = tt
+session_fits profile v at (p ∷ ps) (a ∷ more) f = ((v, refl, f.1), session_fits profile (visible_after v p a) (position_after at p a) ps more f.2)
+
+-- and what is told of them has what they say
+pub session_told : (profile : Profile) (S : Spool) (v : Visible) (at : Position) (ps : List Asked) (answers : List Response)
+    → AllByRecursion (Holds S) (flat_map (told profile) (placed_from v at ps answers)) → AllByRecursion (Holds S) (facts_from profile.marks v at ps answers)
+session_told profile S v at [] answers h = tt
+session_told profile S v at (p ∷ ps) [] h = tt
+session_told profile S v at (p ∷ ps) (a ∷ more) h =
+    let rest = flat_map (told profile) (placed_from (visible_after v p a) (position_after at p a) ps more) in
+    let here : Placed = record { selected = v.selected; position = at; asked = p; response = a } in
+    let own = said_there profile.marks here in
+    all_both (Holds S) (facts_of profile.marks v at p a) (facts_from profile.marks (visible_after v p a) (position_after at p a) ps more)
+    (subst (AllByRecursion (Holds S)) (sym (there_said profile.marks here v refl)) (told_own profile S own (all_front (Holds S) (with_group profile own) rest h)))
+    (session_told profile S (visible_after v p a) (position_after at p a) ps more (all_back (Holds S) (with_group profile own) rest h))
+
+-- ---- fewer facts
+
+pub fewer : (profile : Profile) (facts more : List Fact) → ((fact : Fact) → In fact facts → In fact more) → SomeHas profile more → SomeHas profile facts
+fewer profile facts more sub h = (h.0, h.1, all_from (Holds h.0) facts (λ fact i. all_at (Holds h.0) fact more h.2 (sub fact i)))
+
+-- ---- finding a core
+
+module _ (profile : Profile) (bad : Placed) (answers : List Placed) where
+  -- more places tell more
+  pub told_more : (xs ys : List ℕ) → ((k : ℕ) → In k xs → In k ys) → (fact : Fact) → In fact (told_with profile bad answers xs) → In fact (told_with profile bad answers ys)
+  told_more xs ys sub fact i = elim (in_cases fact (told profile bad) (flat_map (told_at profile answers) xs) i) [
+    | inl j ↦ in_front fact (told profile bad) (flat_map (told_at profile answers) ys) j
+    | inr j ↦ (let f = from_flat (told_at profile answers) fact xs j in
+        in_back fact (told profile bad) (flat_map (told_at profile answers) ys) (to_flat (told_at profile answers) f.0 fact ys (sub f.0 f.1) f.2))
+  ]
+
+  -- fewer places
+  pub fewer_places : (xs ys : List ℕ) → ((k : ℕ) → In k xs → In k ys) → SomeHas profile (told_with profile bad answers ys) → SomeHas profile (told_with profile bad answers xs)
+  fewer_places xs ys sub h = fewer profile (told_with profile bad answers xs) (told_with profile bad answers ys) (told_more xs ys sub) h
+
+-- what stands at places with the bad answer
+abbrev StandsWith : Profile → Placed → List Placed → List ℕ → Type 0
+StandsWith profile bad answers places = SomeHas profile (told_with profile bad answers places)
+
+-- a place below the bound is one of those
+in_below : (k bound : ℕ) → k < bound → In k (below bound)
+in_below k zero l = absurd (omega arith)
+in_below k (suc bound) l = elim (cases_lt k bound) [
+  | inl lt ↦ in_front k (below bound) (bound ∷ []) (in_below k bound lt)
+  | inr le ↦ in_back k (below bound) (bound ∷ []) (inl (let e : bound ≡ k = omega arith in e))
+]
+
+-- and back
+pub from_below : (k bound : ℕ) → In k (below bound) → k < bound
+from_below k zero i = absurd i
+from_below k (suc bound) i = elim (in_cases k (below bound) (bound ∷ []) i) [
+  | inl j ↦ (let l = from_below k bound j in omega arith)
+  | inr j ↦ elim j [ inl e ↦ omega arith | inr none ↦ absurd none ]
+]
+
+-- what is found from a bound on is found from a lower one on
+lower : (Stand : List ℕ → Type 0) (bound low : ℕ) (places : List ℕ) → low ≤ bound → AreFound Stand bound places → AreFound Stand low places
+lower Stand bound low [] l f = tt
+lower Stand bound low (k ∷ places) l f = (let b = f.0 in omega arith, f.1, f.2)
+
+-- one of those that are found: those before it are below it, and it stands with those behind it and all below it
+split : (Stand : List ℕ → Type 0) (bound : ℕ) (front back : List ℕ) (k : ℕ) → AreFound Stand bound (front ++ k ∷ back)
+    → AllByRecursion (λ j. j < k) front × (bound ≤ k) × Stand (below k ++ back)
+split Stand bound [] back k f = (tt, f.0, f.1)
+split Stand bound (j ∷ front) back k f =
+    let r = split Stand (j + 1) front back k f.2 in
+    let b = f.0 in
+    let l = r.1 in
+    ((omega arith, r.0), omega arith, r.2)
+
+pub core_start : (profile : Profile) (bad : Placed) (answers : List Placed)
+    → (SomeHas profile (told_with profile bad answers (below (length answers))) → ⊥)
+    → IsPartOfCore profile bad answers (length answers) []
+core_start profile bad answers none = record {
+  there = tt;
+  conflict = λ h. none (fewer_places profile bad answers (below (length answers)) (below (length answers) ++ []) (λ k i. in_front k (below (length answers)) [] i) h);
+  found = tt;
+}
+
+pub core_step : (profile : Profile) (bad : Placed) (answers : List Placed) (bound k : ℕ) (places : List ℕ)
+    → IsPartOfCore profile bad answers bound places → k < bound → bound ≤ length answers
+    → SomeHas profile (told_with profile bad answers (below k ++ places))
+    → (SomeHas profile (told_with profile bad answers (below (k + 1) ++ places)) → ⊥) → IsPartOfCore profile bad answers k (k ∷ places)
+core_step profile bad answers bound k places p l within stands none = record {
+  there = (omega arith, p.there);
+  conflict = λ h. none (fewer_places profile bad answers (below (k + 1) ++ places) (below k ++ k ∷ places) sub h);
+  found = (omega arith, stands, lower (StandsWith profile bad answers) bound (k + 1) places (omega arith) p.found);
+}
+  where
+    sub : (j : ℕ) → In j (below (k + 1) ++ places) → In j (below k ++ k ∷ places)
+    sub j i = elim (in_cases j (below (k + 1)) places i) [
+      | inl low ↦ (let lt = from_below j (k + 1) low in elim (cases_lt j k) [
+        | inl less ↦ in_front j (below k) (k ∷ places) (in_below j k less)
+        | inr le ↦ in_back j (below k) (k ∷ places) (inl (let e : k ≡ j = omega arith in e))
+      ])
+      | inr high ↦ in_back j (below k) (k ∷ places) (inr high)
+    ]
+
+pub core_done : (profile : Profile) (bad : Placed) (answers : List Placed) (bound : ℕ) (places : List ℕ)
+    → IsPartOfCore profile bad answers bound places → (SomeHas profile (told_with profile bad answers places) → ⊥) → IsCore profile bad answers places
+core_done profile bad answers bound places p none = record { there = p.there; conflict = none; needed = needed }
+  where
+    needed : (front back : List ℕ) (k : ℕ) → places ≡ front ++ k ∷ back → SomeHas profile (told_with profile bad answers (front ++ back))
+    needed front back k e =
+        let s = split (StandsWith profile bad answers) bound front back k (subst (AreFound (StandsWith profile bad answers) bound) e p.found) in
+        fewer_places profile bad answers (front ++ back) (below k ++ back)
+        (λ j i. elim (in_cases j front back i) [
+          | inl f ↦ in_front j (below k) back (in_below j k (all_at (λ j. j < k) j front s.0 f))
+          | inr b ↦ in_back j (below k) back b
+        ]) s.2
+
+-- ---- sessions
+
+-- there are so many places below a bound
+length-below : (n : ℕ) → length (map suc (below n)) ≡ n
+length-below zero = refl
+length-below (suc n) = omega (arith, length-map (below n ++ n ∷ []) suc, length-append (below n) (n ∷ []), length-map (below n) suc, length-below n)
+
+-- a number from 1 to a limit is one behind a place below it
+one_behind : (limit q : ℕ) → 1 ≤ q → q ≤ limit → In q (map suc (below limit))
+one_behind limit zero one le = absurd (omega arith)
+one_behind limit (suc p) one le = in_map suc p (below limit) (in_below p limit (omega arith))
+
+-- that there is such a group says no more of a spool that has it
+pub group_holds : (profile : Profile) (S : Spool) (name : Name) → IsSpool profile.limit S → IsGroup S name → AllByRecursion (Holds S) (a_group profile name)
+group_holds profile S name spool group =
+    let in_limit : (n : ℕ) → IsNumber (numbers S name) n → (1 ≤ n) × (n ≤ profile.limit) = λ n i. spool.numbers_in_limit name n i in
+    let few = keys_among nat_cmp_total (numbers S name) (map suc (below profile.limit)) (λ q i. let l = in_limit q i in one_behind profile.limit q l.0 l.1) in
+    let count : len (numbers S name) ≤ profile.limit = omega (arith, few, len-entries (numbers S name), length-below profile.limit) in
+    (group, ((count, in_limit, tt), tt))
+
+-- that there is the group of which facts speak says no more of a spool that has them
+with_holds : (profile : Profile) (S : Spool) (all : List Fact) → IsSpool profile.limit S → AllByRecursion (Holds S) all
+    → (facts : List Fact) → AllByRecursion (IsPlaced profile.marks all) facts → AllByRecursion (Holds S) (the_group profile (group_of facts))
+with_holds profile S all spool holds [] p = tt
+with_holds profile S all spool holds (ThereIs name ∷ facts) p = group_holds profile S name spool (all_at (Holds S) (ThereIs name) all holds p.0.there)
+with_holds profile S all spool holds (Asks name ask ∷ facts) p = group_holds profile S name spool (all_at (Holds S) (ThereIs name) all holds p.0.there)
+with_holds profile S all spool holds (IdAt name n id ∷ facts) p = group_holds profile S name spool (all_at (Holds S) (ThereIs name) all holds p.0.there)
+with_holds profile S all spool holds (fact ∷ facts) p = with_holds profile S all spool holds facts p.1
+
+-- what is told of a session holds where all that it says does
+told_holds : (profile : Profile) (S : Spool) (all : List Fact) → IsSpool profile.limit S → AllByRecursion (Holds S) all
+    → (v : Visible) (at : Position) (ps : List Asked) (answers : List Response)
+    → AllByRecursion (Holds S) (facts_from profile.marks v at ps answers)
+    → AllByRecursion (IsPlaced profile.marks all) (facts_from profile.marks v at ps answers)
+    → AllByRecursion (Holds S) (flat_map (told profile) (placed_from v at ps answers))
+told_holds profile S all spool holds v at [] answers h p = tt
+told_holds profile S all spool holds v at (q ∷ ps) [] h p = tt
+told_holds profile S all spool holds v at (q ∷ ps) (a ∷ more) h p =
+    let here : Placed = record { selected = v.selected; position = at; asked = q; response = a } in
+    let own = said_there profile.marks here in
+    let same = there_said profile.marks here v refl in
+    let rest = facts_from profile.marks (visible_after v q a) (position_after at q a) ps more in
+    let own_hold = subst (AllByRecursion (Holds S)) same (all_front (Holds S) (facts_of profile.marks v at q a) rest h) in
+    let own_placed = subst (AllByRecursion (IsPlaced profile.marks all)) same (all_front (IsPlaced profile.marks all) (facts_of profile.marks v at q a) rest p) in
+    all_both (Holds S) (with_group profile own) (flat_map (told profile) (placed_from (visible_after v q a) (position_after at q a) ps more))
+    (all_both (Holds S) (the_group profile (group_of own)) own (with_holds profile S all spool holds own own_placed) own_hold)
+    (told_holds profile S all spool holds (visible_after v q a) (position_after at q a) ps more
+    (all_back (Holds S) (facts_of profile.marks v at q a) rest h)
+    (all_back (IsPlaced profile.marks all) (facts_of profile.marks v at q a) rest p))
+
+-- a session that fits is permitted exactly if some spool has what is told of it
+pub session_had : (profile : Profile) (ps : List Asked) (answers : List Response) → FitsAll profile start.visible ps answers
+    → SomePermits profile ps answers ↔ SomeHas profile (flat_map (told profile) (placed_from start.visible Nowhere ps answers))
+session_had profile ps answers fits = (
+  λ h. (let says = said profile h.0 ps answers h.2 in
+      (h.0, h.1, told_holds profile h.0 (facts_from profile.marks start.visible Nowhere ps answers) h.1 says.1 start.visible Nowhere ps answers says.1 (session_placed profile ps answers fits))),
+  λ h. (
+    h.0,
+    h.1,
+    run_from profile h.0 start.visible Nowhere ps answers
+        (run_of_facts profile h.0 start.visible Nowhere ps answers fits
+        (session_told profile h.0 start.visible Nowhere ps answers h.2)),
+  ),
+)
+
+-- each answer has its place
+in_places : (profile : Profile) (answers : List Placed) (a : Placed) → In a answers → (k : ℕ) × (k < length answers) × (told_at profile answers k ≡ told profile a)
+in_places profile [] a i = absurd i
+in_places profile (b ∷ answers) a (inl e) = (0, omega arith, ap (told profile) e)
+in_places profile (b ∷ answers) a (inr i) = let r = in_places profile answers a i in (suc r.0, (let l = r.1 in omega arith), r.2)
+
+-- what is told at all places is told of all answers
+pub all_places : (profile : Profile) (S : Spool) (answers : List Placed)
+    → AllByRecursion (Holds S) (flat_map (told_at profile answers) (below (length answers)))
+    → AllByRecursion (Holds S) (flat_map (told profile) answers)
+all_places profile S answers h = all_from (Holds S) (flat_map (told profile) answers) (λ fact i.
+    let f = from_flat (told profile) fact answers i in
+    let p = in_places profile answers f.0 f.1 in
+    all_at (Holds S) fact (flat_map (told_at profile answers) (below (length answers))) h
+    (to_flat (told_at profile answers) p.0 fact (below (length answers)) (in_below p.0 (length answers) p.1) (subst (λ facts. In fact facts) (sym p.2) f.2)))
+
+-- a contradiction conflicts with the answers before it
+pub contradicts : (profile : Profile) (ps : List Asked) (answers : List Response) (asked : Asked) (response : Response) → asked_next ps answers ≡ Some asked
+    → FitsAll profile start.visible ps (answers ++ response ∷ [])
+    → (SomePermits profile ps (answers ++ response ∷ []) → ⊥)
+    → SomeHas profile (told_with profile (record {
+      selected = (visible_from start.visible ps answers).selected;
+      position = position_from Nowhere ps answers;
+      asked = asked;
+      response = response;
+    })
+    (placed_from start.visible Nowhere ps answers) (below (length (placed_from start.visible Nowhere ps answers)))) → ⊥
+contradicts profile ps answers asked response comes fits none (S, spool, holds) =
+    let v = visible_from start.visible ps answers in
+    let at = position_from Nowhere ps answers in
+    let bad : Placed = record { selected = v.selected; position = at; asked = asked; response = response } in
+    let placed = placed_from start.visible Nowhere ps answers in
+    let others = flat_map (told_at profile placed) (below (length placed)) in
+    let own = subst (AllByRecursion (Holds S)) (sym (there_said profile.marks bad v refl)) (told_own profile S (said_there profile.marks bad) (all_front (Holds S) (told profile bad) others holds)) in
+    let before = session_told profile S start.visible Nowhere ps answers (all_places profile S placed (all_back (Holds S) (told profile bad) others holds)) in
+    let all = subst (AllByRecursion (Holds S))
+    (sym (facts_grow profile.marks start.visible Nowhere ps answers asked response comes))
+    (all_both (Holds S) (facts_from profile.marks start.visible Nowhere ps answers)
+    (facts_of profile.marks v at asked response) before own) in
+    none (S, spool, run_from profile S start.visible Nowhere ps (answers ++ response ∷ []) (run_of_facts profile S start.visible Nowhere ps (answers ++ response ∷ []) fits all))
+
+-- ---- what is found is in each conflict
+
+-- a place is one of some, or isn't
+in_or_not : (k : ℕ) (xs : List ℕ) → In k xs ⊎ (In k xs → ⊥)
+in_or_not k [] = inr (λ i. i)
+in_or_not k (x ∷ xs) = elim (cases_eq x k) [
+  | inl e ↦ inl (inl e)
+  | inr n ↦ elim (in_or_not k xs) [ inl i ↦ inl (inr i) | inr m ↦ inr (λ i. elim i [ inl e ↦ n e | inr j ↦ m j ]) ]
+]
+
+-- an element splits the list
+pub split_at : (k : ℕ) (xs : List ℕ) → In k xs → (front : List ℕ) × (back : List ℕ) × (xs ≡ front ++ k ∷ back)
+split_at k [] i = absurd i
+split_at k (x ∷ xs) (inl e) = ([], xs, ap (λ x. x ∷ xs) e)
+split_at k (x ∷ xs) (inr i) = let r = split_at k xs i in (x ∷ r.0, r.1, ap (λ ys. x ∷ ys) r.2)
+
+-- each conflict among the places that are left and found has all that are found
+pub found_in_each : (profile : Profile) (bad : Placed) (answers : List Placed) (bound : ℕ) (places some : List ℕ) (k : ℕ)
+    → IsPartOfCore profile bad answers bound places → ((j : ℕ) → In j some → In j (below bound ++ places))
+    → (SomeHas profile (told_with profile bad answers some) → ⊥) → In k places → In k some
+found_in_each profile bad answers bound places some k p among none i = elim (in_or_not k some) [ inl there ↦ there | inr out ↦ absurd (none (stands out)) ]
+  where
+    at : (front : List ℕ) × (back : List ℕ) × (places ≡ front ++ k ∷ back)
+    at = split_at k places i
+
+    cut : AllByRecursion (λ j. j < k) at.0 × (bound ≤ k) × StandsWith profile bad answers (below k ++ at.1)
+    cut = split (StandsWith profile bad answers) bound at.0 at.1 k (subst (AreFound (StandsWith profile bad answers) bound) at.2 p.found)
+
+    within : (In k some → ⊥) → (j : ℕ) → In j some → In j (below k ++ at.1)
+    within out j t = elim (in_cases j (below bound) places (among j t)) [
+      | inl low ↦ (let l = from_below j bound low in let b = cut.1 in in_front j (below k) at.1 (in_below j k (omega arith)))
+      | inr high ↦ elim (in_cases j at.0 (k ∷ at.1) (subst (In j) at.2 high)) [
+        | inl front ↦ in_front j (below k) at.1 (in_below j k (all_at (λ j. j < k) j at.0 cut.0 front))
+        | inr rest ↦ elim rest [ inl e ↦ absurd (out (subst (λ j. In j some) (sym e) t)) | inr back ↦ in_back j (below k) at.1 back ]
+      ]
+    ]
+
+    stands : (In k some → ⊥) → SomeHas profile (told_with profile bad answers some)
+    stands out = fewer_places profile bad answers some (below k ++ at.1) (within out) cut.2
+
+-- ---- where facts conflict
+
+-- what conflicts somewhere doesn't stand together
+pub at_point : (facts : List Fact) (point : Point) → ConflictAt facts point → Together facts → ⊥
+at_point facts (Step name) h t =
+    let f = found_in (λ ask. not (is_possible ask)) (asks_of name facts) h in
+    true≢false (sym (all_at (λ ask. IsTrue (is_possible ask)) f.0 (asks_of name facts) (t.numbers name).possible f.1) ∙ not-true _ f.2)
+at_point facts (Group name) h t = true≢false (sym h.1 ∙ t.groups name h.0)
+at_point facts (Number name n) h t = true≢false (sym h.1 ∙ (t.numbers name).not_denied n (inl h.0))
+at_point facts (Count name) h t = h.2 ((t.numbers name).few h.0 h.1)
+at_point facts (First name) h t = h (t.numbers name).demand_met
+at_point facts (IdOf name n) h t = h (t.ids name n)
+at_point facts (PlaceOf name id) h t = h (t.ids_once name id)
+at_point facts (Article id) h t = true≢false (sym h.1 ∙ t.articles id h.0)
+at_point facts (HeadOf id) h t = h (t.heads id)
+at_point facts (BodyOf id) h t = h (t.bodies id)
+
+-- so no spool has it
+pub none_at_point : (profile : Profile) (facts : List Fact) (point : Point) → ConflictAt facts point → SomeHas profile facts → ⊥
+none_at_point profile facts point h s = at_point facts point h (stand profile.limit s.0 facts s.1 s.2)
+
+-- one of the places is below the bound, or none is
+low_or_not : (bound : ℕ) (places : List ℕ) → ((k : ℕ) × (k < bound) × In k places) ⊎ ((k : ℕ) → In k places → bound ≤ k)
+low_or_not bound [] = inr (λ k i. absurd i)
+low_or_not bound (j ∷ places) = elim (cases_lt j bound) [
+  | inl l ↦ inl (j, l, inl refl)
+  | inr le ↦ elim (low_or_not bound places) [
+    | inl there ↦ inl (there.0, there.1, inr there.2)
+    | inr none ↦ inr (λ k i. elim i [ inl e ↦ omega (arith, le, e) | inr more ↦ none k more ])
+  ]
+]
+
+-- each conflict among those below the bound and those at the places has one below the bound
+pub one_below : (profile : Profile) (bad : Placed) (answers : List Placed) (bound : ℕ) (places some : List ℕ) → IsEndOfCore profile bad answers bound places
+    → AreAmong some (below bound ++ places) → (SomeHas profile (told_with profile bad answers some) → ⊥) → (k : ℕ) × (k < bound) × Contains some k
+one_below profile bad answers bound places some e among none = elim (low_or_not bound some) [
+  | inl there ↦ (there.0, there.1, contains_in there.0 some there.2)
+  | inr high ↦ absurd (none (fewer_places profile bad answers some places (sub high) e.stand))
+]
+  where
+    sub : ((k : ℕ) → In k some → bound ≤ k) → (k : ℕ) → In k some → In k places
+    sub high k i = elim (in_cases k (below bound) places (in_contains k (below bound ++ places) (among k (contains_in k some i)))) [
+      | inl low ↦ (let l = from_below k bound low in let le = high k i in absurd (omega (arith, l, le)))
+      | inr there ↦ there
+    ]

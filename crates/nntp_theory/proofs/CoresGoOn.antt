@@ -1,0 +1,103 @@
+-- What was found of a core stays so behind further answers.
+use Rattle.std.proofs.Common.{◌≡◌, ◌∙◌, ℕ, zero, suc, ◌+◌, ◌<◌, ◌≤◌, List, [], ◌∷◌, ◌++◌, Option, None, Some, length, length-append, slice_get, arith, refl}
+use Rattle.std.{proofs.Common.{sym, ap, subst}, specs.{Prelude.{⊤, MatchOption}, List.{AllByRecursion, flat_map}, Option.{option_map_or}}}
+use Rattle.nntp_article.specs.declared.session.profile.Profile.{Profile}
+use Rattle.nntp_theory.specs.Conflict.{Placed, SomeHas, IsCore, IsEndOfCore, IsFound, Core, places_of, below, told, told_at, told_with}
+use Rattle.nntp_theory.{specs.Inner.Conflict.{HasLast}, proofs.{Conflicts.{from_below}, Members.{all_at, all_both, all_from, all_front, all_back, contains_in}}}
+use Rattle.nntp_theory.proofs.Members.{in_contains}
+
+-- the front of a list has its places
+pub in_front_of : {A : Type 0} (xs more : List A) (k : ℕ) → k < length xs → slice_get (xs ++ more) k ≡ slice_get xs k
+in_front_of [] more k l = absurd (omega (arith, l))
+in_front_of (x ∷ xs) more zero l = refl
+in_front_of (x ∷ xs) more (suc k) l = in_front_of xs more k (omega (arith, l))
+
+-- places at which answers stand
+abbrev pub AreThere : {A : Type 0} → List A → List ℕ → Type 0
+AreThere answers places = AllByRecursion (λ k. k < length answers) places
+
+-- those below the last of them are such too
+below_there : {A : Type 0} (answers : List A) (bound k : ℕ) → bound < k + 1 → k < length answers → AreThere answers (below bound)
+below_there answers bound k le l = all_from (λ j. j < length answers) (below bound) (λ j i. let low = from_below j bound i in omega (arith, low, le, l))
+
+module _ (profile : Profile) (bad : Placed) (answers more : List Placed) where
+  told_there : (places : List ℕ) → AreThere answers places → flat_map (told_at profile (answers ++ more)) places ≡ flat_map (told_at profile answers) places
+  told_there [] there = refl
+  told_there (k ∷ places) there =
+      ap (λ o. option_map_or (told profile) o [] ++ flat_map (told_at profile (answers ++ more)) places) (in_front_of answers more k there.0)
+      ∙ ap (λ facts. told_at profile answers k ++ facts) (told_there places there.1)
+
+  -- they say the same
+  pub told_still : (places : List ℕ) → AreThere answers places → told_with profile bad (answers ++ more) places ≡ told_with profile bad answers places
+  told_still places there = ap (λ facts. told profile bad ++ facts) (told_there places there)
+
+  -- so they stand or conflict as before
+  still : (places : List ℕ) → AreThere answers places → SomeHas profile (told_with profile bad answers places) → SomeHas profile (told_with profile bad (answers ++ more) places)
+  still places there h = subst (SomeHas profile) (sym (told_still places there)) h
+
+  before : (places : List ℕ) → AreThere answers places → SomeHas profile (told_with profile bad (answers ++ more) places) → SomeHas profile (told_with profile bad answers places)
+  before places there h = subst (SomeHas profile) (told_still places there) h
+
+  -- and stand at places of all answers
+  longer : (k : ℕ) → k < length answers → k < length (answers ++ more)
+  longer k l = let both = length-append answers more in omega (arith, l, both)
+
+  core_still : (places : List ℕ) → IsCore profile bad answers places → IsCore profile bad (answers ++ more) places
+  core_still places core = record {
+    there = all_from (λ k. k < length (answers ++ more)) places (λ k i. longer k (all_at (λ k. k < length answers) k places core.there i));
+    conflict = λ h. core.conflict (before places core.there h);
+    needed = λ front back k e.
+        let all = subst (AreThere answers) e core.there in
+        still (front ++ back) (all_both (λ k. k < length answers) front back (all_front (λ k. k < length answers) front (k ∷ back) all) (all_back (λ k. k < length answers) front (k ∷ back) all).1)
+        (core.needed front back k e);
+  }
+
+  module _ (bound : ℕ) (places : List ℕ) (some : 0 < length places) (end : IsEndOfCore profile bad answers bound places) where
+    those : AreThere answers places
+    those = all_from (λ k. k < length answers) places (λ k i. (all_at (λ k. (bound ≤ k) × (k < length answers)) k places end.there i).1)
+
+    pub all_there : AreThere answers (below bound ++ places)
+    all_there = all_both (λ k. k < length answers) (below bound) places (low places some end.there) those
+      where
+        low : (places : List ℕ) → 0 < length places → AllByRecursion (λ k. (bound ≤ k) × (k < length answers)) places → AreThere answers (below bound)
+        low [] some there = absurd (omega (arith, some))
+        low (k ∷ places) some there = let le = there.0.0 in below_there answers bound k (omega (arith, le)) there.0.1
+
+    -- the bound is at a place of these
+    pub bound_there : bound < length answers
+    bound_there = by places some end.there
+      where
+        by : (places : List ℕ) → 0 < length places → AllByRecursion (λ k. (bound ≤ k) × (k < length answers)) places → bound < length answers
+        by [] some there = absurd (omega (arith, some))
+        by (k ∷ places) some there = let le = there.0.0 in let l = there.0.1 in omega (arith, le, l)
+
+    end_still : IsEndOfCore profile bad (answers ++ more) bound places
+    end_still = record {
+      there = all_from (λ k. (bound ≤ k) × (k < length (answers ++ more))) places
+          (λ k i. let here = all_at (λ k. (bound ≤ k) × (k < length answers)) k places end.there i in (here.0, longer k here.1));
+      conflict = λ h. end.conflict (before (below bound ++ places) all_there h);
+      stand = still places those end.stand;
+      in_each = λ these among none.
+          let there = all_from (λ k. k < length answers) these (λ k i. all_at (λ k. k < length answers) k (below bound ++ places) all_there
+          (in_contains k (below bound ++ places) (among k (contains_in k these i)))) in
+          end.in_each these among (λ h. none (still these there h));
+    }
+
+  found_still : (rest : Option ℕ) (places : List ℕ) → MatchOption rest ⊤ (λ bound. 0 < length places)
+      → MatchOption rest (IsCore profile bad answers places) (λ bound. IsEndOfCore profile bad answers bound places)
+      → MatchOption rest (IsCore profile bad (answers ++ more) places) (λ bound. IsEndOfCore profile bad (answers ++ more) bound places)
+  found_still None places some core = core_still places core
+  found_still (Some bound) places some end = end_still bound places some end
+
+  pub core_goes_on : (core : Core) → HasLast core → IsFound profile bad answers core → IsFound profile bad (answers ++ more) core
+  core_goes_on core some is = record { ascending = is.ascending; found = found_still core.rest core.places some is.found }
+
+  all_of : (rest : Option ℕ) (places : List ℕ) → MatchOption rest ⊤ (λ bound. 0 < length places)
+      → MatchOption rest (IsCore profile bad answers places) (λ bound. IsEndOfCore profile bad answers bound places)
+      → AreThere answers (option_map_or (λ bound. below bound ++ places) rest places)
+  all_of None places some core = core.there
+  all_of (Some bound) places some end = all_there bound places some end
+
+  -- answers stand at all its places
+  pub places_there : (core : Core) → HasLast core → IsFound profile bad answers core → AreThere answers (places_of core)
+  places_there core some is = all_of core.rest core.places some is.found

@@ -1,0 +1,12 @@
+pub mod ConstructedSpool
+pub mod FirstBadAnswer
+pub mod GivenHasFacts
+pub mod GivenHolds
+pub mod GivenIsSpool
+pub mod GivenPermits
+pub mod GivenSpoolExists
+pub mod OneGivenSpool
+pub mod SessionsByFacts
+pub mod SessionsGoOn
+pub mod ShownNames
+pub mod SpoolsDecided

@@ -1,0 +1,122 @@
+-- Some spool permits a session, or exactly one answer is the first that none does.
+use Rattle.nntp_wire.specs.{declared.marks.Marks.{Marks}, Answer.{Asked, Response}}
+use Rattle.std.proofs.Common.{◌≡◌, ℕ, zero, suc, ◌+◌, ◌<◌, ◌≤◌, ◌^◌, ◌⊎◌, List, [], ◌∷◌, ◌++◌, length, take, Option, None, Some, is_some, inl, inr, sym, ap}
+use Rattle.std.{proofs.{Common.{subst, ◌∙◌, arith}, Math.Seq.{take-length}, lemmas.Bool.{cases_order, true≢false}}, specs.Prelude.{unwrap_or}}
+use Rattle.std.specs.{Ordering.{nat_cmp}, Cmp.Lexicographic.{slice_cmp}, FinMap.{get, empty, get-empty}}
+use Rattle.nntp_article.specs.Session.{Spool.{Spool, Numbers, IsSpool, numbers, Name}, Machine.{State, Visible, Run, start, visible_after}}
+use Rattle.nntp_article.specs.{declared.session.profile.Profile.{Profile}, Article.Parts.{Id}}
+use Rattle.nntp_said.specs.{Asks.{position_after}, declared.position.Position.{Position, TheVariants.{Nowhere}}, Facts.{Fact, facts_of, facts_from}}
+use Rattle.nntp_theory.specs.{Given.{facts_of_session}, Inner.{Given.{size}, Permits.{SomePermits, IsFirstUnpermitted}}}
+use Rattle.nntp_theory.proofs.Given.GivenSpoolExists.{some_or_none}
+
+-- ---- fewer answers
+
+-- a run with fewer answers
+pub run_fewer : (profile : Profile) (S : Spool) (s : State) (ps : List Asked) (answers : List Response) (n m : ℕ) → n ≤ m → Run profile S s ps (take m answers) → Run profile S s ps (take n answers)
+run_fewer profile S s ps answers zero m le r = tt
+run_fewer profile S s ps answers (suc n) zero le r = absurd (omega arith)
+run_fewer profile S s ps [] (suc n) (suc m) le r = r
+run_fewer profile S s [] (a ∷ more) (suc n) (suc m) le r = r
+run_fewer profile S s (p ∷ ps) (a ∷ more) (suc n) (suc m) le r = (r.0, r.1, run_fewer profile S r.0 ps more n m (omega arith) r.2)
+
+-- a spool that permits a session permits its front
+pub fewer_permitted : (profile : Profile) (ps : List Asked) (answers : List Response) (n m : ℕ) → n ≤ m → SomePermits profile ps (take m answers) → SomePermits profile ps (take n answers)
+fewer_permitted profile ps answers n m le h = (h.0, h.1, run_fewer profile h.0 start ps answers n m le h.2)
+
+-- the size of two lists
+pub size-append : (xs ys : List Fact) → size (xs ++ ys) ≡ size xs + size ys
+size-append [] ys = omega arith
+size-append (x ∷ xs) ys = let rest = size-append xs ys in omega arith
+
+-- fewer answers say less
+size_fewer : (how : Marks) (v : Visible) (at : Position) (ps : List Asked) (answers : List Response) (n : ℕ) → size (facts_from how v at ps (take n answers)) ≤ size (facts_from how v at ps answers)
+size_fewer how v at [] answers n = omega arith
+size_fewer how v at (p ∷ ps) [] zero = omega arith
+size_fewer how v at (p ∷ ps) [] (suc n) = omega arith
+size_fewer how v at (p ∷ ps) (a ∷ more) zero = omega arith
+size_fewer how v at (p ∷ ps) (a ∷ more) (suc n) =
+    let rest = size_fewer how (visible_after v p a) (position_after at p a) ps more n in
+    let all = size-append (facts_of how v at p a) (facts_from how (visible_after v p a) (position_after at p a) ps more) in
+    let few = size-append (facts_of how v at p a) (facts_from how (visible_after v p a) (position_after at p a) ps (take n more)) in
+    omega arith
+
+-- ---- no answers
+
+-- no groups and no articles
+no_spool : Spool
+no_spool = record { groups = empty; articles = empty }
+
+-- it has no group
+no_group : (name : Name) → get no_spool.groups name ≡ None
+unfolding no_spool
+no_group name = get-empty (slice_cmp nat_cmp) name
+
+-- and no article
+no_article : (id : Id) → get no_spool.articles id ≡ None
+unfolding no_spool
+no_article id = get-empty (slice_cmp nat_cmp) id
+
+-- and no number
+no_number : (name : Name) (n : ℕ) → get (numbers no_spool name) n ≡ None
+no_number name n = ap (λ (o : Option Numbers). get (unwrap_or o empty) n) (no_group name) ∙ get-empty nat_cmp n
+
+-- nothing at all is a spool
+empty_is_spool : (profile : Profile) → IsSpool profile.limit no_spool
+empty_is_spool profile = record {
+  names = λ name i. absurd (true≢false (sym i ∙ ap is_some (no_group name)));
+  numbers_in_limit = λ name n i. absurd (true≢false (sym i ∙ ap is_some (no_number name n)));
+  one_to_one = λ name n m id e f. (let bad : None ≡ Some id = sym (no_number name n) ∙ e in cc);
+  ids_have_articles = λ name n id e. (let bad : None ≡ Some id = sym (no_number name n) ∙ e in cc);
+  ids = λ id i. absurd (true≢false (sym i ∙ ap is_some (no_article id)));
+  heads = λ id t e. absurd (true≢false (sym (ap is_some e) ∙ ap is_some (no_article id)));
+  own_ids = λ id said t e says. (let bad : None ≡ Some t = sym (no_article id) ∙ e in cc);
+}
+
+-- some spool permits no answers
+pub none_permitted : (profile : Profile) (ps : List Asked) (answers : List Response) → SomePermits profile ps (take 0 answers)
+none_permitted profile ps answers = (no_spool, empty_is_spool profile, tt)
+
+-- ---- the first bad answer
+
+-- Q holds of k, which is below m, and not of the next
+abbrev pub EndsAt : (ℕ → Type 0) → ℕ → ℕ → Type 0
+EndsAt Q m k = (k < m) × Q k × (Q (k + 1) → ⊥)
+
+-- what holds of 0 holds of m, or ends below
+pub holds_or_ends : (Q : ℕ → Type 0) (m : ℕ) → Q 0 → ((n : ℕ) → n ≤ m → Q n ⊎ (Q n → ⊥)) → Q m ⊎ ((k : ℕ) × EndsAt Q m k)
+holds_or_ends Q zero base decided = inl base
+holds_or_ends Q (suc m) base decided = elim (holds_or_ends Q m base (λ n le. decided n (omega arith))) [
+  | inr (k, (less, good, none)) ↦ inr (k, (omega arith, good, none))
+  | inl good ↦ elim (decided (suc m) (omega arith)) [
+    | inl more ↦ inl more
+    | inr none ↦ (let next : suc m ≡ m + 1 = omega arith in inr (m, (omega arith, good, subst (λ n. Q n → ⊥) next none)))
+  ]
+]
+
+-- some spool permits the session, or an answer is bad
+pub permitted_or_bad : (profile : Profile) (ps : List Asked) (answers : List Response)
+    → size (facts_of_session profile.marks ps answers) < 2 ^ 210 → SomePermits profile ps answers
+    ⊎ ((k : ℕ) × IsFirstUnpermitted profile ps answers k)
+permitted_or_bad profile ps answers small = subst
+    (λ all. SomePermits profile ps all ⊎ ((k : ℕ) × IsFirstUnpermitted profile ps answers k)) (take-length answers)
+    (holds_or_ends (λ n. SomePermits profile ps (take n answers)) (length answers) (none_permitted profile ps answers) decided)
+  where
+    decided : (n : ℕ) → n ≤ length answers → SomePermits profile ps (take n answers) ⊎ (SomePermits profile ps (take n answers) → ⊥)
+    decided n le =
+        let few = size_fewer profile.marks start.visible Nowhere ps answers n in
+        elim (some_or_none profile ps (take n answers) (omega arith)) [ inl some ↦ inl some | inr none ↦ inr (λ h. none h.0 h.1 h.2) ]
+
+-- and never both
+pub never_both : (profile : Profile) (ps : List Asked) (answers : List Response) (k : ℕ) → SomePermits profile ps answers → IsFirstUnpermitted profile ps answers k → ⊥
+never_both profile ps answers k h bad =
+    let l = bad.0 in
+    bad.2 (fewer_permitted profile ps answers (k + 1) (length answers) (omega arith) (subst (λ all. SomePermits profile ps all) (sym (take-length answers)) h))
+
+-- one answer is bad at most
+pub one_bad : (profile : Profile) (ps : List Asked) (answers : List Response) (k j : ℕ) → IsFirstUnpermitted profile ps answers k → IsFirstUnpermitted profile ps answers j → k ≡ j
+one_bad profile ps answers k j bad other =
+    elim (cases_order k j) [
+      | inl same ↦ same
+      | inr (inl l) ↦ absurd (bad.2 (fewer_permitted profile ps answers (k + 1) j (omega arith) other.1))
+      | inr (inr g) ↦ absurd (other.2 (fewer_permitted profile ps answers (j + 1) k (omega arith) bad.1))
+    ]

@@ -1,0 +1,179 @@
+-- The spool that is given is a spool.
+use Rattle.std.specs.{Ordering.{nat_cmp}, Prelude.{unwrap_or}, List.{AllByRecursion, list_any}, Option.{option_map_or}, FinMap.{get, len, empty_of_len}}
+use Rattle.std.{specs.{FinMap.{get-empty}, Cmp.Lexicographic.{same_text}}, proofs.Common.{◌≡◌, ℕ, ◌≤◌, Bool, true, false, cond, ◌&&◌, IsTrue, List, [], ◌∷◌}}
+use Rattle.std.proofs.{Common.{◌++◌, Option, None, Some, is_some, IsSome, inl, inr, refl, sym, ap, subst, ◌∙◌, arith}, lemmas.Bool.{true≢false, and_parts}}
+use Rattle.std.proofs.lemmas.{Bool.{or_cases, cases_eq}, List.Elements.{All-from_recursion}}
+use Rattle.nntp_theory.proofs.{GivenNumbers.LeastNumber.{not_number}, Together.FewEnough.{within_one}, Given.{ShownNames.{shown_named}, GivenHolds.{Setting}}}
+use Rattle.nntp_theory.proofs.{Given.GivenHolds.{one_given, group_of_number, id_cases, shown_at, unshown_once}, Members.{In, all_at, all_both, any_in}}
+use Rattle.nntp_theory.proofs.{Members.{found_in, first_found}, Ids.PlainHead.{plain_says, plain_is_head, plain_is_clean}, Session.FittingFacts.{IsFitting}}
+use Rattle.nntp_theory.{proofs.Session.NumbersWithinLimit.{free_in_limit, shown_in_limit, end_in_limit}, specs.Given.{mentions, is_mentioned, gives_article}}
+use Rattle.nntp_theory.specs.Given.{id_shown, first_given, head_in, body_in, plain_head, asks_of, is_shown, is_given_end, says_some}
+use Rattle.nntp_theory.specs.{Inner.Together.{IsWellFormed}, Together.{number_in, IsFewFor}}
+use Rattle.nntp_article.specs.{Article.Parts.{is_empty, is_head, said_id, head_part, body_part, Id, Line}, Session.Spool.{Spool, Text, IsNumber, IsGroup}}
+use Rattle.nntp_article.specs.Session.{Spool.{numbers, IsSpool, Name, is_line, Numbers}, Machine.{is_same, says_own_id}}
+use Rattle.nntp_article.specs.declared.session.profile.Profile.{Profile}
+use Rattle.nntp_said.specs.Facts.{Fact, TextIs}
+use Rattle.nntp_wire.specs.{Name.{IsGroupName, IsMessageId}, declared.command.What.TheVariants.{Article, Head, Body}}
+
+-- a head for an id, without lines that hold NUL, CR or LF, and it says no other id
+record IsHeadOf (id : Id) (head : List Line) : Type 0 where
+  is_a_head : IsTrue (is_head head)
+  is_clean : AllByRecursion (λ line. IsTrue (is_line line)) head
+  own : (said : Id) → said_id head ≡ Some said → said ≡ id
+
+-- what holds of lines holds of those of the head
+head_lines : (P : Line → Type 0) (lines : List Line) → AllByRecursion P lines → AllByRecursion P (head_part lines)
+head_lines P [] h = tt
+head_lines P ([] ∷ lines) h = tt
+head_lines P ((c ∷ cs) ∷ lines) h = (h.0, head_lines P lines h.1)
+
+-- and of the body
+body_lines : (P : Line → Type 0) (lines : List Line) → AllByRecursion P lines → AllByRecursion P (body_part lines)
+body_lines P [] h = tt
+body_lines P ([] ∷ lines) h = h.1
+body_lines P ((c ∷ cs) ∷ lines) h = body_lines P lines h.1
+
+-- a head that says its own id, or none, says no other
+own_id : (id : Id) (head : List Line) → says_own_id id head ≡ true → (said : Id) → said_id head ≡ Some said → said ≡ id
+own_id id head t said e = same_text said id (sym (subst (λ o. option_map_or (λ said. is_same said id) o true ≡ true) e t))
+
+-- where there is a number, one is counted
+some_counted : (N : Numbers) (n : ℕ) → IsNumber N n → 1 ≤ len N
+some_counted N n i = elim (cases_eq (len N) 0) [ inl e ↦ absurd (not_number N n (ap (λ m. get m n) (empty_of_len N e) ∙ get-empty nat_cmp n) i) | inr ne ↦ omega arith ]
+
+module _ (profile : Profile) (B : ℕ) (G : Spool) (facts : List Fact) (s : Setting profile B G facts) where
+  -- a fact fits and is well formed
+  fitting : (fact : Fact) → In fact facts → IsFitting profile fact
+  fitting fact i = all_at (IsFitting profile) fact facts s.fitting i
+
+  formed : (fact : Fact) → In fact facts → IsWellFormed fact
+  formed fact i = all_at IsWellFormed fact facts s.together.well_formed i
+
+  -- names of groups are such
+  name_is : (name : Name) → IsGroup G name → IsGroupName name
+  name_is name i = shown_named facts name s.together.well_formed ((s.given.groups name).0 i)
+
+  -- the numbers are within the limit
+  in_limit : (name : Name) (n : ℕ) → IsNumber (numbers G name) n → (1 ≤ n) × (n ≤ profile.limit)
+  in_limit name n i =
+      let g = group_of_number G name n i in
+      let group : IsGroup G name = ap is_some g.1 in
+      elim ((s.given.numbers_given name group n).0 i) [
+        | inl known ↦ elim (or_cases (is_shown (asks_of name facts) n) (is_given_end (asks_of name facts) n) known) [
+          | inl shown ↦ shown_in_limit profile facts s.how s.fitting s.placed name n shown
+          | inr end ↦
+              let stand = s.together.numbers name in
+              let few = stand.few (numbers G name) (s.given.numbers_given name group) in
+              end_in_limit profile facts s.how s.fitting s.placed name n (len (numbers G name)) (and_parts (list_any says_some (asks_of name facts)) _ end).1
+              (λ ask i. within_one (numbers G name) ask (all_at (IsFewFor (numbers G name)) ask (asks_of name facts) few i)) (some_counted (numbers G name) n i) (stand.not_denied n (inl known))
+        ]
+        | inr more ↦ (more.first.0, free_in_limit profile facts s.how s.fitting s.placed name ((s.given.groups name).0 group) n more.first.1)
+      ]
+
+  -- an id that is shown is mentioned
+  shown_mentioned : (name : Name) (n : ℕ) (id : Id) → id_shown facts name n ≡ Some id → IsTrue (is_mentioned facts id)
+  shown_mentioned name n id e = let at = shown_at profile B G facts s name n id e in any_in (mentions id) at.fact facts at.there at.mentioned
+
+  -- within a group an id has one number
+  one_number : (name : Name) (n m : ℕ) (id : Id) → get (numbers G name) n ≡ Some id → get (numbers G name) m ≡ Some id → n ≡ m
+  one_number name n m id e f =
+      elim (id_cases profile B G facts s name n id e) [
+        | inl a ↦ elim (id_cases profile B G facts s name m id f) [
+          | inl b ↦
+              let at = shown_at profile B G facts s name n id a in
+              let too = shown_at profile B G facts s name m id b in
+              let one = one_given (number_in name id) facts (s.together.ids_once name id) in
+              let same : Some n ≡ Some m = sym (one at.fact at.there n at.number) ∙ one too.fact too.there m too.number in
+              cc
+          | inr b ↦ absurd (true≢false (sym (shown_mentioned name n id a) ∙ b.1.3))
+        ]
+        | inr a ↦ elim (id_cases profile B G facts s name m id f) [
+          | inl b ↦ absurd (true≢false (sym (shown_mentioned name m id b) ∙ a.1.3))
+          | inr b ↦ unshown_once profile B G facts s name n m id e f a.0 b.0
+        ]
+      ]
+
+  -- ids of articles are message ids
+  is_id : (id : Id) → IsSome (get G.articles id) → IsMessageId id
+  is_id id i =
+      elim ((s.given.articles id).0 i) [
+        | inl used ↦ elim (id_cases profile B G facts s used.0 used.1 id used.2) [
+          | inl shown ↦ (let at = shown_at profile B G facts s used.0 used.1 id shown in at.formed (formed at.fact at.there))
+          | inr new ↦ subst (λ id. IsMessageId id) (sym new.1.2) (s.ids new.1.0 new.1.1)
+        ]
+        | inr sent ↦ (let f = found_in (gives_article id) facts sent in by f.0 (formed f.0 f.1) f.2)
+      ]
+    where
+      by : (fact : Fact) → IsWellFormed fact → gives_article id fact ≡ true → IsMessageId id
+      by (TextIs what other lines) h t = subst IsMessageId (same_text other id (sym t)) h.0
+      by fact h t = cc
+
+  -- a head that was sent is one
+  sent_head : (id : Id) (lines : List Line) (fact : Fact) → IsFitting profile fact → IsWellFormed fact → head_in id fact ≡ Some lines → IsHeadOf id lines
+  sent_head id lines (TextIs Article other (Some ls)) f h e = by (is_same other id) refl e
+    where
+      whole : IsHeadOf other (head_part ls)
+      whole =
+          let p = and_parts (list_any is_empty ls && is_head (head_part ls)) _ f in
+          record { is_a_head = (and_parts (list_any is_empty ls) _ p.0).1; is_clean = head_lines (λ line. IsTrue (is_line line)) ls h.1; own = own_id other (head_part ls) p.1 }
+
+      by : (b : Bool) → is_same other id ≡ b → cond b (Some (head_part ls)) None ≡ Some lines → IsHeadOf id lines
+      by true is e = subst (λ id. IsHeadOf id lines) (same_text other id (sym is)) (subst (IsHeadOf other) (let q : head_part ls ≡ lines = cc in q) whole)
+      by false is e = cc
+  sent_head id lines (TextIs Head other (Some ls)) f h e = by (is_same other id) refl e
+    where
+      whole : IsHeadOf other ls
+      whole = let p = and_parts (is_head ls) _ f in record { is_a_head = p.0; is_clean = h.1; own = own_id other ls p.1 }
+
+      by : (b : Bool) → is_same other id ≡ b → cond b (Some ls) None ≡ Some lines → IsHeadOf id lines
+      by true is e = subst (λ id. IsHeadOf id lines) (same_text other id (sym is)) (subst (IsHeadOf other) (let q : ls ≡ lines = cc in q) whole)
+      by false is e = cc
+  sent_head id lines fact f h e = cc
+
+  -- and a body that was sent has lines
+  sent_body : (id : Id) (lines : List Line) (fact : Fact) → IsWellFormed fact → body_in id fact ≡ Some lines → AllByRecursion (λ line. IsTrue (is_line line)) lines
+  sent_body id lines (TextIs Article other (Some ls)) h e = by (is_same other id) e
+    where
+      by : (b : Bool) → cond b (Some (body_part ls)) None ≡ Some lines → AllByRecursion (λ line. IsTrue (is_line line)) lines
+      by true e = subst (AllByRecursion (λ line. IsTrue (is_line line))) (let q : body_part ls ≡ lines = cc in q) (body_lines (λ line. IsTrue (is_line line)) ls h.1)
+      by false e = cc
+  sent_body id lines (TextIs Body other (Some ls)) h e = by (is_same other id) e
+    where
+      by : (b : Bool) → cond b (Some ls) None ≡ Some lines → AllByRecursion (λ line. IsTrue (is_line line)) lines
+      by true e = subst (AllByRecursion (λ line. IsTrue (is_line line))) (let q : ls ≡ lines = cc in q) h.1
+      by false e = cc
+  sent_body id lines fact h e = cc
+
+  -- the head of an id is one
+  head_is : (id : Id) (t : Text) → get G.articles id ≡ Some t → IsHeadOf id t.head
+  head_is id t e = subst (IsHeadOf id) (sym (s.given.heads id t e)) (by (first_given (head_in id) facts) refl)
+    where
+      by : (o : Option (List Line)) → first_given (head_in id) facts ≡ o → IsHeadOf id (unwrap_or o (plain_head id))
+      by None is =
+          let good = is_id id (ap is_some e) in
+          record { is_a_head = plain_is_head id; is_clean = plain_is_clean id good; own = λ said says. let same : Some said ≡ Some id = sym says ∙ plain_says id good in cc }
+      by (Some lines) is = let f = first_found (head_in id) facts lines is in sent_head id lines f.0 (fitting f.0 f.1) (formed f.0 f.1) f.2
+
+  -- a body that was sent, or none
+  body_is : (id : Id) (t : Text) → get G.articles id ≡ Some t → AllByRecursion (λ line. IsTrue (is_line line)) t.body
+  body_is id t e = subst (AllByRecursion (λ line. IsTrue (is_line line))) (sym (s.given.bodies id t e)) (by (first_given (body_in id) facts) refl)
+    where
+      by : (o : Option (List Line)) → first_given (body_in id) facts ≡ o → AllByRecursion (λ line. IsTrue (is_line line)) (unwrap_or o [])
+      by None is = tt
+      by (Some lines) is = let f = first_found (body_in id) facts lines is in sent_body id lines f.0 (formed f.0 f.1) f.2
+
+  -- the given spool is a spool
+  pub given_is_spool : IsSpool profile.limit G
+  given_is_spool = record {
+    names = name_is;
+    numbers_in_limit = in_limit;
+    one_to_one = one_number;
+    ids_have_articles = λ name n id e. (s.given.articles id).1 (inl (name, n, e));
+    ids = is_id;
+    heads = λ id t e. (
+      (head_is id t e).is_a_head,
+      All-from_recursion (λ line. IsTrue (is_line line)) (t.head ++ t.body)
+          (all_both (λ line. IsTrue (is_line line)) t.head t.body (head_is id t e).is_clean (body_is id t e)),
+    );
+    own_ids = λ id said t e says. (head_is id t e).own said says;
+  }

@@ -1,0 +1,122 @@
+-- Several sessions by what they say: a spool permits each of them exactly if they fit and it has all their facts; so some spool permits them exactly if they fit and all of it stands together.
+use Rattle.std.{proofs.Common.{◌<◌, ◌^◌, ◌⊎◌, ◌↔◌, List, [], ◌∷◌, inl, inr}, specs.List.{AllByRecursion}}
+use Rattle.nntp_article.{proofs.SessionLemmas.{FiniteMapsDecided.{Dec, dec_both}, AgreementDecided.{dec_run}}, specs.Session.Spool.{Spool, IsSpool}}
+use Rattle.nntp_article.specs.{Session.Machine.{start}, declared.session.profile.Profile.{Profile}}
+use Rattle.nntp_said.{specs.{declared.position.Position.TheVariants.{Nowhere}, Facts.{Fact, Holds}}, proofs.CurrentArticle.{run_from}}
+use Rattle.nntp_said.proofs.FactsHold.{run_of_facts}
+use Rattle.nntp_theory.specs.{Given.{IsGiven, HasAtLeast}, Inner.{Given.{size}, Permits.{SomePermits}, Together.{Together}, Answered.{FitEach}}}
+use Rattle.nntp_theory.{specs.Answered.{Answered, PermitsEach, SomePermitsEach, facts_in, facts_of_all}, proofs.Members.{all_from, all_both, all_front}}
+use Rattle.nntp_theory.proofs.{Members.{all_back}, Session.{FittingFacts.{IsFitting, session_fitting}, NumbersOfShownGroups.{Among, Placed, placed_among}}}
+use Rattle.nntp_theory.proofs.{Together.FactsOfASpoolStand.{stand}, Given.{GivenHasFacts.{given_of_facts, given_has, least_of_facts}, GivenPermits.{said}}}
+use Rattle.nntp_theory.proofs.Given.{ConstructedSpool.{made}, SpoolsDecided.{dec_spool}}
+
+-- ---- a spool permits sessions exactly if they fit and it has their facts
+
+-- what permitted sessions say holds
+pub said_each : (profile : Profile) (S : Spool) (sessions : List Answered) → PermitsEach profile S sessions
+    → FitEach profile sessions × AllByRecursion (Holds S) (facts_of_all profile.marks sessions)
+said_each profile S [] h = (tt, tt)
+said_each profile S (s ∷ more) h =
+    let one = said profile S s.prompts s.answers h.0 in
+    let rest = said_each profile S more h.1 in
+    ((one.0, rest.0), all_both (Holds S) (facts_in profile.marks s) (facts_of_all profile.marks more) one.1 rest.1)
+
+-- and back
+pub permits_each : (profile : Profile) (S : Spool) (sessions : List Answered) → FitEach profile sessions
+    → AllByRecursion (Holds S) (facts_of_all profile.marks sessions) → PermitsEach profile S sessions
+permits_each profile S [] f h = tt
+permits_each profile S (s ∷ more) f h =
+    let own = facts_in profile.marks s in
+    let rest = facts_of_all profile.marks more in (
+      run_from profile S start.visible Nowhere s.prompts s.answers
+          (run_of_facts profile S start.visible Nowhere s.prompts s.answers f.0 (all_front (Holds S) own rest h)),
+      permits_each profile S more f.1 (all_back (Holds S) own rest h),
+    )
+
+pub permitted_by_all_facts : (profile : Profile) (S : Spool) (sessions : List Answered)
+    → PermitsEach profile S sessions ↔ (FitEach profile sessions × AllByRecursion (Holds S) (facts_of_all profile.marks sessions))
+permitted_by_all_facts profile S sessions = (said_each profile S sessions, λ h. permits_each profile S sessions h.0 h.1)
+
+-- ---- what sessions that fit say
+
+-- it fits
+all_fitting : (profile : Profile) (sessions : List Answered) → FitEach profile sessions → AllByRecursion (IsFitting profile) (facts_of_all profile.marks sessions)
+all_fitting profile [] f = tt
+all_fitting profile (s ∷ more) f = all_both (IsFitting profile) (facts_in profile.marks s) (facts_of_all profile.marks more)
+    (session_fitting profile s.prompts s.answers f.0) (all_fitting profile more f.1)
+
+-- and is placed among all that is said
+among_placed : (profile : Profile) (all : List Fact) (sessions : List Answered) → FitEach profile sessions
+    → AllByRecursion (Among all) (facts_of_all profile.marks sessions) → AllByRecursion (Placed profile.marks all) (facts_of_all profile.marks sessions)
+among_placed profile all [] f h = tt
+among_placed profile all (s ∷ more) f h =
+    let own = facts_in profile.marks s in
+    let rest = facts_of_all profile.marks more in
+    all_both (Placed profile.marks all) own rest (placed_among profile all s.prompts s.answers f.0 (all_front (Among all) own rest h))
+    (among_placed profile all more f.1 (all_back (Among all) own rest h))
+
+all_placed : (profile : Profile) (sessions : List Answered) → FitEach profile sessions
+    → AllByRecursion (Placed profile.marks (facts_of_all profile.marks sessions)) (facts_of_all profile.marks sessions)
+all_placed profile sessions f = let all = facts_of_all profile.marks sessions in among_placed profile all sessions f (all_from (Among all) all (λ fact i. i))
+
+-- ---- the given spool
+
+-- the spool that is made for sessions
+pub made_for_all : Profile → List Answered → Spool
+made_for_all profile sessions = made profile.limit (10 ^ 64) (facts_of_all profile.marks sessions)
+
+-- it is given for them, if they fit
+pub given_exists_of_all : (profile : Profile) (sessions : List Answered) → FitEach profile sessions
+    → size (facts_of_all profile.marks sessions) < 2 ^ 210 → IsGiven (facts_of_all profile.marks sessions) (made_for_all profile sessions)
+unfolding made_for_all
+given_exists_of_all profile sessions f small =
+    given_of_facts profile profile.marks (facts_of_all profile.marks sessions) (all_fitting profile sessions f) (all_placed profile sessions f) small
+
+-- the given spool of sessions that fit and stand together is a spool and permits each of them
+pub given_permits_all : (profile : Profile) (G : Spool) (sessions : List Answered) → FitEach profile sessions
+    → Together (facts_of_all profile.marks sessions) → size (facts_of_all profile.marks sessions) < 2 ^ 210
+    → IsGiven (facts_of_all profile.marks sessions) G → IsSpool profile.limit G × PermitsEach profile G sessions
+given_permits_all profile G sessions f together small given =
+    let has = given_has profile profile.marks G (facts_of_all profile.marks sessions) (all_fitting profile sessions f) (all_placed profile sessions f) together small given in
+    (has.0, permits_each profile G sessions f has.1)
+
+-- what some spool permits fits and stands together
+pub stand_each : (profile : Profile) (S : Spool) (sessions : List Answered) → IsSpool profile.limit S → PermitsEach profile S sessions
+    → FitEach profile sessions × Together (facts_of_all profile.marks sessions)
+stand_each profile S sessions spool h =
+    let says = said_each profile S sessions h in
+    (says.0, stand profile.limit S (facts_of_all profile.marks sessions) spool says.1)
+
+-- the given spool is the least that permits them
+pub least_of_all : (profile : Profile) (S G : Spool) (sessions : List Answered) → IsSpool profile.limit S → PermitsEach profile S sessions
+    → IsGiven (facts_of_all profile.marks sessions) G → HasAtLeast (facts_of_all profile.marks sessions) G S
+least_of_all profile S G sessions spool h given =
+    least_of_facts profile S G (facts_of_all profile.marks sessions) spool (said_each profile S sessions h).1 given
+
+-- some spool permits sessions exactly if they fit and all that they say stands together
+pub permitted_together_of_all : (profile : Profile) (sessions : List Answered) → size (facts_of_all profile.marks sessions) < 2 ^ 210
+    → SomePermitsEach profile sessions ↔ (FitEach profile sessions × Together (facts_of_all profile.marks sessions))
+permitted_together_of_all profile sessions small = (
+  λ h. stand_each profile h.0 sessions h.1 h.2,
+  λ h. (let p = given_permits_all profile (made_for_all profile sessions) sessions h.0 h.1 small (given_exists_of_all profile sessions h.0 small) in (made_for_all profile sessions, p.0, p.1)),
+)
+
+-- whether a spool permits each of them
+dec_each : (profile : Profile) (S : Spool) (sessions : List Answered) → Dec (PermitsEach profile S sessions)
+dec_each profile S [] = inl tt
+dec_each profile S (s ∷ more) = dec_both (dec_run profile S start s.prompts s.answers) (dec_each profile S more)
+
+-- some spool permits them, or none does
+pub some_or_none_of_all : (profile : Profile) (sessions : List Answered) → size (facts_of_all profile.marks sessions) < 2 ^ 210
+    → SomePermitsEach profile sessions ⊎ (SomePermitsEach profile sessions → ⊥)
+some_or_none_of_all profile sessions small = by (dec_both (dec_spool profile.limit (made_for_all profile sessions)) (dec_each profile (made_for_all profile sessions) sessions))
+  where
+    by : Dec (IsSpool profile.limit (made_for_all profile sessions) × PermitsEach profile (made_for_all profile sessions) sessions)
+        → SomePermitsEach profile sessions ⊎ (SomePermitsEach profile sessions → ⊥)
+    by (inl h) = inl (made_for_all profile sessions, h.0, h.1)
+    by (inr h) = inr (λ p. let s = stand_each profile p.0 sessions p.1 p.2 in h
+        (given_permits_all profile (made_for_all profile sessions) sessions s.0 s.1 small (given_exists_of_all profile sessions s.0 small)))
+
+-- some spool permits one session alone
+pub permits_alone : (profile : Profile) (s : Answered) → SomePermitsEach profile (s ∷ []) ↔ SomePermits profile s.prompts s.answers
+permits_alone profile s = (λ h. (h.0, h.1, h.2.0), λ h. (h.0, h.1, (h.2, tt)))

@@ -1,0 +1,24 @@
+-- What a spool that meets all that a session says is asked of one group.
+use Rattle.std.proofs.{Common.{◌≡◌, Bool, true, false, cond, List, [], ◌∷◌, ap, sym, subst, refl, is_some}, lemmas.List.Elements.{recursion_from_All}}
+use Rattle.std.specs.{List.{AllByRecursion}, Cmp.Lexicographic.{same_text}}
+use Rattle.nntp_article.specs.Session.{Spool.{Spool, numbers, Name}, Machine.{is_same}}
+use Rattle.nntp_said.specs.{Asks.{Ask, Meets, Has, Bounds}, Facts.{Fact, Holds, Asks, IdAt, GroupsAre}}
+use Rattle.nntp_theory.{specs.Given.{asks_in, asks_of}, proofs.Members.{all_at, all_parts}}
+
+-- what is asked under the test of the name
+if_same : (S : Spool) (name g : Name) (ask : Ask) → Meets (numbers S g) ask → (b : Bool) → is_same g name ≡ b → AllByRecursion (Meets (numbers S name)) (cond b (ask ∷ []) [])
+if_same S name g ask h true e = (subst (λ n. Meets (numbers S n) ask) (same_text g name (sym e)) h, tt)
+if_same S name g ask h false e = tt
+
+-- what one fact asks of a group
+met_by_one : (S : Spool) (name : Name) (fact : Fact) → Holds S fact → AllByRecursion (Meets (numbers S name)) (asks_in name fact)
+met_by_one S name (Asks g ask) h = if_same S name g ask h (is_same g name) refl
+met_by_one S name (IdAt g n id) h = if_same S name g (Has n) (ap is_some h) (is_same g name) refl
+met_by_one S name (GroupsAre p lines) h =
+    let each = recursion_from_All _ lines h.1 in
+    all_parts (Meets (numbers S name)) _ lines (λ line i. if_same S name line.name (Bounds line.low line.high) (all_at _ line lines each i) (is_same line.name name) refl)
+met_by_one S name fact h = tt
+
+-- what all that a session says asks of a group
+pub met_by_facts : (S : Spool) (name : Name) (facts : List Fact) → AllByRecursion (Holds S) facts → AllByRecursion (Meets (numbers S name)) (asks_of name facts)
+met_by_facts S name facts h = all_parts (Meets (numbers S name)) (asks_in name) facts (λ fact i. met_by_one S name fact (all_at (Holds S) fact facts h i))

@@ -1,0 +1,79 @@
+-- Whether each part of what is asked of a group stands can be decided, where there are the given numbers.
+use Rattle.std.proofs.{Common.{◌≡◌, ℕ, Bool, true, false, ◌||◌, ◌==◌, ◌⊎◌, IsTrue, List, is_some, inl, inr, refl, sym, ◌∙◌, arith}, lemmas.Bool.{true≢false}}
+use Rattle.std.{proofs.lemmas.Bool.{not-true, not-false, eqb-true, eq-eqb, leb-true, le-leb, or_cases, or_left, or_right, cases_lt}, specs.Prelude.{not}}
+use Rattle.std.specs.{Prelude.{nat_le, IsFalse}, List.{AllByRecursion, list_all}, Cmp.{nat_cmp_total}, FinMap.{get, len, keys, contains_key-keys}}
+use Rattle.std.specs.FinMap.{nat_cmp-IsAntisymmetric}
+use Rattle.nntp_article.proofs.SessionLemmas.FiniteMapsDecided.{Dec, dec_true, dec_le, dec_by, dec_all, each_key, passes, fails}
+use Rattle.nntp_article.specs.Session.Spool.{Numbers, IsNumber}
+use Rattle.nntp_theory.specs.{declared.demand.Demand.{Demand, TheVariants.{NoDemand, NotEmpty, OnlyOne, SecondIs, Impossible}}, Given.{demand, is_known}}
+use Rattle.nntp_theory.specs.{Given.{is_denied, IsGivenNumber, HasGivenNumbers}, Together.{MeetsDemand, IsFewFor}, Conflict.{AreTooMany}}
+use Rattle.nntp_theory.proofs.{Members.{all_at, all_from}, GivenNumbers.{LeastNumber.{Empty, Begins, firsts}, GivenNumbersMeet.{same_demand}}}
+use Rattle.nntp_theory.proofs.GivenNumbers.CountOfGivenNumbers.{as_many_given}
+use Rattle.nntp_said.specs.Asks.{Ask, Estimates}
+
+-- whether the numbers meet a demand
+dec_demand : (N : Numbers) (d : Demand) → Dec (MeetsDemand d (IsNumber N))
+dec_demand N NoDemand = inl tt
+dec_demand N NotEmpty = elim (firsts N) [ Empty e none ↦ inr (λ h. none h.0 h.1) | Begins c e here all ↦ inl (c, here) ]
+dec_demand N OnlyOne = elim (firsts N) [
+  | Empty e none ↦ inr (λ h. none h.0 h.1)
+  | Begins c e here all ↦ dec_by (λ h. (c, here, λ m i. eqb-true m c (h m i))) (λ h m i. eq-eqb m c (h.2 m i ∙ sym (h.2 c here)))
+      (each_key nat_cmp_total nat_cmp-IsAntisymmetric (λ m. m == c) N)
+]
+dec_demand N (SecondIs k) = elim (firsts N) [
+  | Empty e none ↦ inr (λ h. none k h.0)
+  | Begins c e here all ↦ elim (dec_true (is_some (get N k))) [
+    | inr out ↦ inr (λ h. out h.0)
+    | inl there ↦ elim (cases_lt c k) [
+      | inr le ↦ inr (λ h. let l = h.2 in let least = all h.1 h.3 in absurd (omega (arith, le, l, least)))
+      | inl l ↦ dec_by
+          (λ h. (there, c, l, here, λ m low i. elim (or_cases (nat_le k m) (m == c) (h m i)) [ inl a ↦ (let b = leb-true k m a in absurd (omega (arith, b, low))) | inr a ↦ eqb-true m c a ]))
+          (λ h m i. elim (cases_lt m k) [
+            | inl low ↦ or_right (nat_le k m) (m == c) (eq-eqb m c (h.4 m low i ∙ sym (h.4 c l here)))
+            | inr high ↦ or_left (nat_le k m) (m == c) (le-leb k m high)
+          ]) (each_key nat_cmp_total nat_cmp-IsAntisymmetric (λ m. nat_le k m || m == c) N)
+    ]
+  ]
+]
+dec_demand N Impossible = inr (λ h. h)
+
+-- whether they are few enough
+dec_few : (N : Numbers) (ask : Ask) → Dec (IsFewFor N ask)
+dec_few N (Estimates how m) = dec_le (len N) m.estimate
+dec_few N ask = inl tt
+
+-- as many are
+same_few : (N M : Numbers) → len M ≡ len N → (ask : Ask) → IsFewFor N ask → IsFewFor M ask
+same_few N M e (Estimates how m) h = omega (arith, e, h)
+same_few N M e ask h = tt
+
+-- ---- each part of what is asked
+
+module _ (asks : List Ask) (N : Numbers) (given : HasGivenNumbers asks N) where
+  -- a known number is denied, or none is
+  pub denied_or_not : ((n : ℕ) × IsTrue (is_known asks n) × IsTrue (is_denied asks n)) ⊎ ((n : ℕ) → IsTrue (is_known asks n) → IsFalse (is_denied asks n))
+  denied_or_not = by (list_all (λ n. not (is_denied asks n)) (keys N)) refl
+    where
+      by : (b : Bool) → list_all (λ n. not (is_denied asks n)) (keys N) ≡ b
+          → ((n : ℕ) × IsTrue (is_known asks n) × IsTrue (is_denied asks n)) ⊎ ((n : ℕ) → IsTrue (is_known asks n) → IsFalse (is_denied asks n))
+      by true e = inr (λ n k. not-true (is_denied asks n) (passes nat_cmp_total nat_cmp-IsAntisymmetric (λ n. not (is_denied asks n)) (keys N) n e (sym (contains_key-keys N n) ∙ (given n).1 (inl k))))
+      by false e =
+          let f = fails nat_cmp_total nat_cmp-IsAntisymmetric (λ n. not (is_denied asks n)) (keys N) e in
+          elim ((given f.0).0 (contains_key-keys N f.0 ∙ f.2)) [
+            | inl k ↦ inl (f.0, k, not-false (is_denied asks f.0) f.1)
+            | inr x ↦ absurd (true≢false (sym (not-false (is_denied asks f.0) f.1) ∙ x.first.1))
+          ]
+
+  -- the given numbers are more than is estimated, or they aren't
+  pub too_many_or_not : AreTooMany asks ⊎ ((M : Numbers) → HasGivenNumbers asks M → AllByRecursion (IsFewFor M) asks)
+  too_many_or_not = elim (dec_all (IsFewFor N) (dec_few N) asks) [
+    | inl few ↦ inr (λ M g. all_from (IsFewFor M) asks (λ ask i. same_few N M (as_many_given asks M N g given) ask (all_at (IsFewFor N) ask asks few i)))
+    | inr many ↦ inl (N, given, many)
+  ]
+
+  -- they don't meet the demand, or do
+  pub unmet_or_met : (MeetsDemand (demand asks) (IsGivenNumber asks) → ⊥) ⊎ MeetsDemand (demand asks) (IsGivenNumber asks)
+  unmet_or_met = elim (dec_demand N (demand asks)) [
+    | inl met ↦ inr (same_demand (IsNumber N) (IsGivenNumber asks) (λ n. (given n).0) (λ n. (given n).1) (demand asks) met)
+    | inr not_met ↦ inl (λ met. not_met (same_demand (IsGivenNumber asks) (IsNumber N) (λ n. (given n).1) (λ n. (given n).0) (demand asks) met))
+  ]

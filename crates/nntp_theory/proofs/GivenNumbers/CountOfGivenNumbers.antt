@@ -1,0 +1,75 @@
+-- The given numbers are those that are known, and the one more.
+use Rattle.std.proofs.{Common.{refl, ◌≡◌, ℕ, ◌+◌, ◌↔◌, cond, IsTrue, List, [], Some, is_some, inl, inr, sym, ap, subst, ◌∙◌, arith}, lemmas.Bool.{true≢false}}
+use Rattle.std.{proofs.lemmas.Bool.{cases_eq, eq-eqb, ne_eqb, false_from_ne_true, ltb-true, lt-ltb}, specs.{Ordering.{nat_cmp, eq_by_cmp}, Cmp.{nat_cmp_total}}}
+use Rattle.std.specs.{Cmp.{unsigned_tied}, FinMap.{get, len, insert, get-insert, len-insert}}
+use Rattle.nntp_article.specs.Session.Spool.{Numbers, IsNumber}
+use Rattle.nntp_said.specs.Asks.{Ask}
+use Rattle.nntp_theory.specs.{Given.{is_known, demand, wants, IsOneMore, IsGivenNumber, HasGivenNumbers}, declared.demand.Demand.{Demand}}
+use Rattle.nntp_theory.specs.{declared.demand.Demand.TheVariants.{NoDemand, NotEmpty, OnlyOne, SecondIs, Impossible}, Together.{MeetsDemand}}
+use Rattle.nntp_theory.proofs.{GivenNumbers.{MetNumbersStand.{one_more_once, second_shown, shown_known}, GivenNumbersMeet.{same_demand}}, Maps.{len_le}}
+
+-- the one more isn't known
+more_unshown : (asks : List Ask) (e : ℕ) → IsOneMore asks e → IsTrue (is_known asks e) → ⊥
+more_unshown asks e x s = true≢false (sym x.wanted ∙ x.needed e s)
+
+module _ (asks : List Ask) (M : Numbers) (shown : (n : ℕ) → IsNumber M n ↔ IsTrue (is_known asks n)) where
+  -- where there is no more, those that are known are given
+  pub none_more : ((e : ℕ) → IsOneMore asks e → ⊥) → HasGivenNumbers asks M
+  none_more none = λ n. (λ i. inl ((shown n).0 i), λ g. elim g [ inl s ↦ (shown n).1 s | inr x ↦ absurd (none n x) ])
+
+  -- what is found with one number more
+  with_more : (e n : ℕ) → is_some (get (insert M e []) n) ≡ is_some (cond (eq_by_cmp nat_cmp n e) (Some []) (get M n))
+  with_more e n = ap is_some (get-insert nat_cmp_total M e [] n)
+
+  -- else those, and the one more
+  pub one_more_given : (e : ℕ) → IsOneMore asks e → HasGivenNumbers asks (insert M e [])
+  one_more_given e x = λ n.
+      elim (cases_eq n e) [
+        | inl same ↦ (λ i. inr (subst (IsOneMore asks) (sym same) x), λ g. with_more e n ∙ ap (λ b. is_some (cond b (Some []) (get M n))) (unsigned_tied n e ∙ eq-eqb n e same))
+        | inr apart ↦
+            let kept : is_some (get (insert M e []) n) ≡ is_some (get M n) = with_more e n ∙ ap (λ b. is_some (cond b (Some []) (get M n))) (unsigned_tied n e ∙ ne_eqb n e apart) in
+            (λ i. inl ((shown n).0 (sym kept ∙ i)), λ g. elim g [ inl s ↦ kept ∙ (shown n).1 s | inr y ↦ absurd (apart (one_more_once asks n e y x)) ])
+      ]
+
+  -- which is one more
+  pub one_more_counted : (e : ℕ) → IsOneMore asks e → len (insert M e []) ≡ len M + 1
+  one_more_counted e x =
+      len-insert nat_cmp_total M e [] ∙ ap (λ b. cond b (len M) (len M + 1)) (false_from_ne_true (is_some (get M e)) (λ i. more_unshown asks e x ((shown e).0 i)))
+
+-- there are as many in all maps that have them
+pub as_many_given : (asks : List Ask) (N M : Numbers) → HasGivenNumbers asks N → HasGivenNumbers asks M → len N ≡ len M
+as_many_given asks N M g h =
+    let a = len_le nat_cmp_total N M (λ n i. (h n).1 ((g n).0 i)) in
+    let b = len_le nat_cmp_total M N (λ n i. (g n).1 ((h n).0 i)) in
+    omega arith
+
+-- ---- the demand
+
+-- where there is one more, the demand is met
+pub more_meets : (asks : List Ask) (e : ℕ) → IsOneMore asks e → MeetsDemand (demand asks) (IsGivenNumber asks)
+more_meets asks e x = by (demand asks) refl
+  where
+    by : (d : Demand) → demand asks ≡ d → MeetsDemand d (IsGivenNumber asks)
+    by NoDemand is = tt
+    by NotEmpty is = (e, inr x)
+    by OnlyOne is = (
+      e,
+      inr x,
+      λ m g. elim g [ inl s ↦ absurd (true≢false (sym (ap (λ d. wants d m) is) ∙ x.needed m s)) | inr y ↦ one_more_once asks m e y x ],
+    )
+    by (SecondIs k) is = (
+      inl (shown_known asks k (second_shown asks k is)),
+      e,
+      ltb-true e k (sym (ap (λ d. wants d e) is) ∙ x.wanted),
+      inr x,
+      λ m l g. elim g [ inl s ↦ absurd (true≢false (sym (lt-ltb m k l) ∙ sym (ap (λ d. wants d m) is) ∙ x.needed m s)) | inr y ↦ one_more_once asks m e y x ],
+    )
+    by Impossible is = true≢false (sym x.wanted ∙ ap (λ d. wants d e) is)
+
+-- else if those that are known meet it
+pub known_meet : (asks : List Ask) → ((e : ℕ) → IsOneMore asks e → ⊥) → MeetsDemand (demand asks) (IsGivenNumber asks) ↔ MeetsDemand (demand asks) (λ n. IsTrue (is_known asks n))
+known_meet asks none =
+    let given_known : (n : ℕ) → IsGivenNumber asks n → IsTrue (is_known asks n) = λ n g. elim g [ inl s ↦ s | inr x ↦ absurd (none n x) ] in (
+      same_demand (IsGivenNumber asks) (λ n. IsTrue (is_known asks n)) given_known (λ n s. inl s) (demand asks),
+      same_demand (λ n. IsTrue (is_known asks n)) (IsGivenNumber asks) (λ n s. inl s) given_known (demand asks),
+    )

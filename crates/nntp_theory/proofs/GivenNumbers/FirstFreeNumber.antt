@@ -1,0 +1,43 @@
+-- The first number from one on that isn't taken: the search for it, and that there is one at most.
+use Rattle.std.proofs.Common.{◌≡◌, ℕ, zero, suc, ◌+◌, ◌<◌, ◌≤◌, Bool, true, false, cond, Option, None, Some, inl, inr, refl, sym, ap, ◌∙◌, arith}
+use Rattle.std.{proofs.lemmas.Bool.{cases_eq, cases_lt, cases_order, true≢false}, specs.Prelude.{IsFalse}}
+use Rattle.nntp_theory.specs.{Given.{IsFirstFree}, Inner.OneMore.{free}}
+
+-- there is one at most
+pub first_free_once : (taken : ℕ → Bool) (k i j : ℕ) → IsFirstFree taken k i → IsFirstFree taken k j → i ≡ j
+first_free_once taken k i j x y =
+    elim (cases_order i j) [
+      | inl same ↦ same
+      | inr (inl l) ↦ absurd (true≢false (sym (y.2 i x.0 l) ∙ x.1))
+      | inr (inr g) ↦ absurd (true≢false (sym (x.2 j y.0 g) ∙ y.1))
+    ]
+
+-- what is found is the first
+pub free_is : (taken : ℕ → Bool) (k n j : ℕ) → free taken k n ≡ Some j → IsFirstFree taken n j
+unfolding free
+free_is taken zero n j e = cc
+free_is taken (suc k) n j e = by (taken n) refl (free_is taken k (n + 1) j) e
+  where
+    by : (b : Bool) → taken n ≡ b → (free taken k (n + 1) ≡ Some j → IsFirstFree taken (n + 1) j) → cond b (free taken k (n + 1)) (Some n) ≡ Some j → IsFirstFree taken n j
+    by true t rest e = let r = rest e in let l = r.0 in (omega arith, r.1, λ m a b. elim (cases_eq m n) [ inl s ↦ ap taken s ∙ t | inr ne ↦ r.2 m (omega arith) b ])
+    by false f rest e = let s : n ≡ j = cc in (omega arith, ap taken (sym s) ∙ f, λ m a b. absurd (omega arith))
+
+-- where none is found, all are taken
+pub free_none : (taken : ℕ → Bool) (k n : ℕ) → free taken k n ≡ None → (m : ℕ) → n ≤ m → m < n + k → taken m ≡ true
+unfolding free
+free_none taken zero n e m a b = absurd (omega arith)
+free_none taken (suc k) n e m a b = by (taken n) refl (λ e. free_none taken k (n + 1) e m) e
+  where
+    by : (c : Bool) → taken n ≡ c → (free taken k (n + 1) ≡ None → n + 1 ≤ m → m < n + 1 + k → taken m ≡ true) → cond c (free taken k (n + 1)) (Some n) ≡ None → taken m ≡ true
+    by true t rest e = elim (cases_eq m n) [ inl s ↦ ap taken s ∙ t | inr ne ↦ rest e (omega arith) (omega arith) ]
+    by false f rest e = cc
+
+-- where one isn't taken, there is a first, and it is no greater
+pub first_free : (taken : ℕ → Bool) (k c : ℕ) → k ≤ c → IsFalse (taken c) → (n : ℕ) × IsFirstFree taken k n × (n ≤ c)
+first_free taken k c from is_free = by (free taken (c + 1) k) refl
+  where
+    by : (o : Option ℕ) → free taken (c + 1) k ≡ o → (n : ℕ) × IsFirstFree taken k n × (n ≤ c)
+    by None e = absurd (true≢false (sym (free_none taken (c + 1) k e c from (omega arith)) ∙ is_free))
+    by (Some n) e =
+        let f = free_is taken (c + 1) k n e in
+        (n, f, elim (cases_lt c n) [ inl l ↦ absurd (true≢false (sym (f.2 c from l) ∙ is_free)) | inr g ↦ g ])

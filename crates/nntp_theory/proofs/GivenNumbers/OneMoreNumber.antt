@@ -1,0 +1,77 @@
+-- Whether one more number is needed, and the search for it.
+use Rattle.std.proofs.Common.{◌≡◌, ℕ, ◌≤◌, Bool, true, false, cond, IsTrue, List, Option, None, Some, inl, inr, refl, sym, ap, subst, ◌∙◌, arith, [], ◌∷◌}
+use Rattle.std.{proofs.lemmas.Bool.{false_from_ne_true, true≢false}, specs.List.{list_any, flat_map}}
+use Rattle.nntp_said.specs.Asks.{Ask}
+use Rattle.nntp_theory.specs.{Given.{is_known, is_denied, demand, wants, IsOneMore}, Inner.OneMore.{free, if_wanted}}
+use Rattle.nntp_theory.proofs.{GivenNumbers.FirstFreeNumber.{free_is, free_none, first_free_once}, Members.{In, any_in, found_in, to_flat, from_flat}}
+use Rattle.nntp_theory.proofs.Ids.SmallGivenSpool.{named_by, known_named}
+
+-- ---- the numbers that are known
+
+-- the number, if it is known
+if_known : List Ask → ℕ → List ℕ
+if_known asks n = cond (is_known asks n) (n ∷ []) []
+
+-- the numbers that are known
+pub known_list : List Ask → List ℕ
+known_list asks = flat_map (if_known asks) (flat_map named_by asks)
+
+-- a number that is known is in the list
+pub in_known_list : (asks : List Ask) (n : ℕ) → IsTrue (is_known asks n) → In n (known_list asks)
+unfolding known_list if_known
+in_known_list asks n t =
+    let f = known_named asks n t in
+    to_flat (if_known asks) n n (flat_map named_by asks) (to_flat named_by f.0 n asks f.1 f.2) (subst (λ b. In n (cond b (n ∷ []) [])) (sym t) (inl refl))
+
+-- and back
+pub from_known_list : (asks : List Ask) (n : ℕ) → In n (known_list asks) → IsTrue (is_known asks n)
+unfolding known_list if_known
+from_known_list asks n i = let f = from_flat (if_known asks) n (flat_map named_by asks) i in by f.0 (is_known asks f.0) refl f.2
+  where
+    by : (m : ℕ) (b : Bool) → is_known asks m ≡ b → In n (cond b (m ∷ []) []) → IsTrue (is_known asks n)
+    by m true t i = elim i [ inl e ↦ subst (λ n. is_known asks n ≡ true) e t | inr j ↦ absurd j ]
+    by m false t i = absurd i
+
+-- ---- the one more number, if it is needed
+
+-- a number is known that is wanted
+abbrev is_met : List Ask → Bool
+is_met asks = list_any (λ n. wants (demand asks) n) (known_list asks)
+
+-- the one more number, if there is one
+pub more : ℕ → List Ask → Option ℕ
+more limit asks = cond (is_met asks) None (if_wanted (demand asks) (free (is_denied asks) limit 1))
+
+-- what the search finds is the one more number
+pub more_is : (limit : ℕ) (asks : List Ask) (n : ℕ) → more limit asks ≡ Some n → IsOneMore asks n
+unfolding more
+more_is limit asks n e = by (is_met asks) refl (free (is_denied asks) limit 1) refl e
+  where
+    found : (none : is_met asks ≡ false) (m : ℕ) → free (is_denied asks) limit 1 ≡ Some m → (b : Bool) → wants (demand asks) m ≡ b → cond b (Some m) None ≡ Some n → IsOneMore asks n
+    found none m is true t e =
+        let same : m ≡ n = cc in
+        subst (IsOneMore asks) same (record {
+          needed = λ k s. false_from_ne_true _ (λ w. true≢false (sym (any_in (λ n. wants (demand asks) n) k (known_list asks) (in_known_list asks k s) w) ∙ none));
+          wanted = t;
+          first = free_is (is_denied asks) limit 1 m is;
+        })
+    found none m is false t e = cc
+
+    by : (b : Bool) → is_met asks ≡ b → (o : Option ℕ) → free (is_denied asks) limit 1 ≡ o → cond b None (if_wanted (demand asks) o) ≡ Some n → IsOneMore asks n
+    by true t o is e = cc
+    by false none None is e = cc
+    by false none (Some m) is e = found none m is (wants (demand asks) m) refl e
+
+-- and it is found, if it is within the limit
+pub more_found : (limit : ℕ) (asks : List Ask) (n : ℕ) → IsOneMore asks n → n ≤ limit → more limit asks ≡ Some n
+unfolding more
+more_found limit asks n x within = by (is_met asks) refl (free (is_denied asks) limit 1) refl
+  where
+    by : (b : Bool) → is_met asks ≡ b → (o : Option ℕ) → free (is_denied asks) limit 1 ≡ o → cond b None (if_wanted (demand asks) o) ≡ Some n
+    by true t o is =
+        let f = found_in (λ n. wants (demand asks) n) (known_list asks) t in
+        absurd (true≢false (sym f.2 ∙ x.needed f.0 (from_known_list asks f.0 f.1)))
+    by false none None is = let low = x.first.0 in absurd (true≢false (sym (free_none (is_denied asks) limit 1 is n low (omega arith)) ∙ x.first.1))
+    by false none (Some m) is =
+        let same = first_free_once (is_denied asks) 1 m n (free_is (is_denied asks) limit 1 m is) x.first in
+        ap (λ k. cond (wants (demand asks) k) (Some k) None) same ∙ ap (λ b. cond b (Some n) None) x.wanted

@@ -1,0 +1,56 @@
+-- Where marks are strict, no number is given beside those that are known.
+use Rattle.std.proofs.{Common.{◌≡◌, ℕ, ◌≤◌, Bool, true, false, cond, ◌==◌, IsTrue, List, [], ◌∷◌, inl, inr, refl, sym, subst, ◌∙◌}, lemmas.Bool.{true≢false}}
+use Rattle.std.{proofs.lemmas.Bool.{and_from, or_left, or_right, cases_lt, eq-eqb, lt-ltb}, specs.{Prelude.{nat_lt}, List.{AllByRecursion, list_any}}}
+use Rattle.nntp_wire.specs.{declared.{water_marks.WaterMarks.{WaterMarks}, marks.Marks.TheVariants.{Strict}}, Listing.{ActiveValue}}
+use Rattle.nntp_article.specs.Session.{Spool.{Name}, Machine.{is_same}}
+use Rattle.nntp_said.specs.{Asks.{Ask, Estimates, Bounds, Has}, Facts.{Fact, Asks, IdAt, GroupsAre}}
+use Rattle.nntp_theory.{specs.Given.{asks_in, asks_of, denies, demand, is_shown, is_known, is_end, says_some, IsOneMore}, proofs.Members.{In, all_at, any_in}}
+use Rattle.nntp_theory.proofs.{Members.{found_in, to_flat, from_flat}, GivenNumbers.{MetNumbersStand.{wants_less}, GivenNumbersMeet.{some_said}}}
+use Rattle.nntp_theory.proofs.Session.NumbersOfShownGroups.{IsSelectable, Placed}
+
+module _ (facts : List Fact) (placed : AllByRecursion (Placed Strict facts) facts) where
+  -- a group that a 211 selected has strict marks
+  selected : (name g : Name) → is_same g name ≡ true → IsSelectable Strict facts g → (m : WaterMarks) × In (Estimates Strict m) (asks_of name facts)
+  selected name g same s =
+      let ask = Estimates Strict s.marks in
+      (s.marks, to_flat (asks_in name) (Asks g ask) ask facts s.estimated (subst (λ b. In ask (cond b (ask ∷ []) [])) (sym same) (inl refl)))
+
+  -- and so has each of which it is said that there is a number
+  marked : (name : Name) → list_any says_some (asks_of name facts) ≡ true → (m : WaterMarks) × In (Estimates Strict m) (asks_of name facts)
+  marked name t =
+      let f = found_in says_some (asks_of name facts) t in
+      let g = from_flat (asks_in name) f.0 facts f.1 in
+      by g.0 g.1 f.0 g.2 f.2
+    where
+      under : (g : Name) (x ask : Ask) → IsSelectable Strict facts g → (b : Bool) → is_same g name ≡ b → In ask (cond b (x ∷ []) []) → (m : WaterMarks) × In (Estimates Strict m) (asks_of name facts)
+      under g x ask s true same i = selected name g same s
+      under g x ask s false same i = absurd i
+
+      only : (b : Bool) (x ask : Ask) → In ask (cond b (x ∷ []) []) → x ≡ ask
+      only true x ask i = elim i [ inl e ↦ e | inr j ↦ absurd j ]
+      only false x ask i = absurd i
+
+      by : (fact : Fact) → In fact facts → (ask : Ask) → In ask (asks_in name fact) → says_some ask ≡ true → (m : WaterMarks) × In (Estimates Strict m) (asks_of name facts)
+      by (Asks g x) i ask j t = under g x ask (all_at (Placed Strict facts) (Asks g x) facts placed i) (is_same g name) refl j
+      by (IdAt g n id) i ask j t = under g (Has n) ask (all_at (Placed Strict facts) (IdAt g n id) facts placed i) (is_same g name) refl j
+      by (GroupsAre p lines) i ask j t =
+          let f = from_flat (λ (line : ActiveValue). cond (is_same line.name name) (Bounds line.low line.high ∷ []) []) ask lines j in
+          absurd (true≢false (sym (subst (λ a. says_some a ≡ true) (sym (only (is_same f.0.name name) (Bounds f.0.low f.0.high) ask f.2)) t)))
+      by fact i ask j t = absurd j
+
+  -- so there is no one more: where a number would do, the low mark does
+  pub none_more : (name : Name) (n : ℕ) → IsOneMore (asks_of name facts) n → ⊥
+  none_more name n x =
+      let asks = asks_of name facts in
+      let some = some_said asks n (inr x) in
+      let k = marked name some in
+      let m = k.0 in
+      let known : IsTrue (is_known asks m.low) =
+      or_right (is_shown asks m.low) _ (and_from (list_any says_some asks) _ some
+      (any_in (λ ask. is_end ask m.low) (Estimates Strict m) asks k.1
+      (or_left (m.low == m.low) _ (eq-eqb m.low m.low refl)))) in
+      let le : m.low ≤ n = elim (cases_lt n m.low) [
+        | inl l ↦ absurd (true≢false (sym (any_in (λ ask. denies ask n) (Estimates Strict m) asks k.1 (or_left (nat_lt n m.low) _ (lt-ltb n m.low l))) ∙ x.first.1))
+        | inr g ↦ g
+      ] in
+      true≢false (sym (wants_less (demand asks) n m.low le x.wanted) ∙ x.needed m.low known)

@@ -1,0 +1,125 @@
+-- The numbers of invented ids: they are small, rise, and aren't those of ids that are mentioned.
+use Rattle.std.proofs.Common.{◌≡◌, ℕ, ◌+◌, ◌<◌, ◌≤◌, true, false, cond, eqb, List, [], ◌∷◌, ◌++◌, length, None, is_some, inl, inr, sym, ap, subst, ◌∙◌, arith}
+use Rattle.std.proofs.{Common.{length-append}, lemmas.{Bool.{cases_lt, or_cases, or_left, or_right, eq-eqb}, Map.Steps.{le-length_from_below}}}
+use Rattle.std.specs.{Prelude.{IsFalse, ⊤}, List.{list_any, flat_map}, Cmp.Lexicographic.{same_text}}
+use Rattle.nntp_article.specs.{Session.{Machine.{is_same}, Spool.{Name}}, Article.Parts.{Id}}
+use Rattle.nntp_said.specs.Facts.{Fact, IdAt, TextIs, NoArticle}
+use Rattle.nntp_theory.{specs.Given.{mentions, is_mentioned, invented, AreInvented, id_shown, unshown_in}, proofs.Ids.InventedIds.{invented_number}}
+use Rattle.nntp_theory.proofs.Members.{In, in_back, any_front, any_back}
+
+-- the number of the id that a fact mentions, as if it were an invented one
+abbrev pub mentioned_number : Fact → List ℕ
+mentioned_number (IdAt name n id) = invented_number id ∷ []
+mentioned_number (TextIs what id lines) = invented_number id ∷ []
+mentioned_number (NoArticle id) = invented_number id ∷ []
+mentioned_number fact = []
+
+-- the numbers of the ids that are mentioned
+abbrev pub mentioned : List Fact → List ℕ
+mentioned facts = flat_map mentioned_number facts
+
+module _ (B : ℕ) (small : (i : ℕ) → i < B → invented_number (invented i) ≡ i) (facts : List Fact) where
+  -- the ids are invented with rising numbers below B
+  abbrev pub Numbered : ℕ → List Id → Type 0
+  Numbered k [] = ⊤
+  Numbered k (id ∷ ids) = (j : ℕ) × (k ≤ j) × (j < B) × (id ≡ invented j) × IsFalse (is_mentioned facts id) × Numbered (j + 1) ids
+
+  -- an id that is an invented one has its number
+  same_number : (i : ℕ) (id : Id) → i < B → is_same id (invented i) ≡ true → eqb i (invented_number id) ≡ true
+  same_number i id l e = eq-eqb i (invented_number id) (sym (small i l) ∙ ap invented_number (sym (same_text id (invented i) (sym e))))
+
+  -- a fact that mentions an invented id has its number
+  counted_in : (i : ℕ) (fact : Fact) → i < B → mentions (invented i) fact ≡ true → list_any (eqb i) (mentioned_number fact) ≡ true
+  counted_in i (IdAt name n id) l e = or_left (eqb i (invented_number id)) false (same_number i id l e)
+  counted_in i (TextIs what id lines) l e = or_left (eqb i (invented_number id)) false (same_number i id l e)
+  counted_in i (NoArticle id) l e = or_left (eqb i (invented_number id)) false (same_number i id l e)
+  counted_in i fact l e = cc
+
+  -- and so one of the facts
+  pub counted : (i : ℕ) (facts : List Fact) → i < B → is_mentioned facts (invented i) ≡ true → list_any (eqb i) (mentioned facts) ≡ true
+  counted i [] l e = cc
+  counted i (fact ∷ facts) l e =
+      elim (or_cases (mentions (invented i) fact) (is_mentioned facts (invented i)) e) [
+        | inl t ↦ any_front (eqb i) (mentioned_number fact) (mentioned facts) (counted_in i fact l t)
+        | inr r ↦ any_back (eqb i) (mentioned_number fact) (mentioned facts) (counted i facts l r)
+      ]
+
+  -- the numbers from k on, behind those that were invented before
+  numbered_from : (ids : List Id) (k : ℕ) (done : List ℕ) → ((i : ℕ) → i < k → list_any (eqb i) (done ++ mentioned facts) ≡ true)
+      → length (mentioned facts) + length done + length ids < B → AreInvented facts k ids → Numbered k ids
+  numbered_from [] k done below few h = tt
+  numbered_from (id ∷ ids) k done below few (j, (from, free, passed), is, rest) =
+      let used : (i : ℕ) → i < j → i < B → list_any (eqb i) (done ++ mentioned facts) ≡ true = λ i l s.
+      elim (cases_lt i k) [ inl b ↦ below i b | inr g ↦ any_back (eqb i) done (mentioned facts) (counted i facts s (passed i g l)) ] in
+      let count : length (done ++ mentioned facts) ≡ length done + length (mentioned facts) = length-append done (mentioned facts) in
+      let lt : j < B = elim (cases_lt j B) [ inl l ↦ l | inr g ↦ (let le = le-length_from_below (done ++ mentioned facts) B (λ i l. used i (omega arith) l) in absurd (omega arith)) ] in (
+        j,
+        from,
+        lt,
+        is,
+        ap (is_mentioned facts) is ∙ free,
+        numbered_from ids (j + 1) (j ∷ done) (λ i l. elim
+            (cases_lt i j) [
+              | inl b ↦ or_right (eqb i j) _ (used i b (omega arith))
+              | inr g ↦ or_left (eqb i j) _
+                  (eq-eqb i j (omega arith))
+            ]) (omega arith) rest,
+      )
+
+  -- the numbers are small if few ids are mentioned and invented
+  pub numbered : (ids : List Id) → length (mentioned facts) + length ids < B → AreInvented facts 0 ids → Numbered 0 ids
+  numbered ids few h = numbered_from ids 0 [] (λ i l. absurd (omega arith)) (omega arith) h
+
+  -- one of the ids has a number, and isn't mentioned
+  pub of_numbered : (k : ℕ) (ids : List Id) (id : Id) → Numbered k ids → In id ids → (j : ℕ) × (k ≤ j) × (j < B) × (id ≡ invented j) × IsFalse (is_mentioned facts id)
+  of_numbered k [] id h i = absurd i
+  of_numbered k (x ∷ ids) id (j, from, lt, is, free, rest) (inl e) = (j, from, lt, sym e ∙ is, subst (λ id. IsFalse (is_mentioned facts id)) e free)
+  of_numbered k (x ∷ ids) id (j, from, lt, is, free, rest) (inr i) = let r = of_numbered (j + 1) ids id rest i in let l = r.1 in (r.0, omega arith, r.2, r.3, r.4)
+
+  -- ids at the front are numbered
+  front_numbered : (k : ℕ) (xs ys : List Id) → Numbered k (xs ++ ys) → Numbered k xs
+  front_numbered k [] ys h = tt
+  front_numbered k (x ∷ xs) ys (j, from, lt, is, free, rest) = (j, from, lt, is, free, front_numbered (j + 1) xs ys rest)
+
+  -- and those at the back, from some number on
+  back_numbered : (k : ℕ) (xs ys : List Id) → Numbered k (xs ++ ys) → (j : ℕ) × Numbered j ys
+  back_numbered k [] ys h = (k, h)
+  back_numbered k (x ∷ xs) ys (j, from, lt, is, free, rest) = back_numbered (j + 1) xs ys rest
+
+  -- and those of each part
+  pub part_numbered : {A : Type 0} (f : A → List Id) (k : ℕ) (x : A) (xs : List A) → Numbered k (flat_map f xs) → In x xs → (j : ℕ) × Numbered j (f x)
+  part_numbered f k x [] h i = absurd i
+  part_numbered f k x (y ∷ ys) h (inl e) = subst (λ y. (j : ℕ) × Numbered j (f y)) e (k, front_numbered k (f y) (flat_map f ys) h)
+  part_numbered f k x (y ∷ ys) h (inr i) = let r = back_numbered k (f y) (flat_map f ys) h in part_numbered f r.0 x ys r.1 i
+
+  -- the id at a number for which none is shown is among the invented ones
+  pub unshown_there : (name : Name) (n : ℕ) (id : Id) (es : List (ℕ × Id)) → In (n, id) es → id_shown facts name n ≡ None → In id (unshown_in facts name es)
+  unshown_there name n id [] i none = absurd i
+  unshown_there name n id (e ∷ es) (inl same) none =
+      let unshown : is_some (id_shown facts name e.0) ≡ false = ap (λ e. is_some (id_shown facts name e.0)) same ∙ ap is_some none in
+      subst (λ b. In id (cond b [] (e.1 ∷ []) ++ unshown_in facts name es)) (sym unshown) (inl (ap (λ e. e.1) same))
+  unshown_there name n id (e ∷ es) (inr i) none = in_back id (cond (is_some (id_shown facts name e.0)) [] (e.1 ∷ [])) _ (unshown_there name n id es i none)
+
+  -- an id that is invented for a number isn't invented again behind it
+  once : (name : Name) (k n m : ℕ) (id : Id) (e : ℕ × Id) (es : List (ℕ × Id)) → Numbered k (unshown_in facts name (e ∷ es))
+      → (e ≡ (n, id)) → In (m, id) es → id_shown facts name n ≡ None → id_shown facts name m ≡ None → ⊥
+  once name k n m id e es h same i none none' =
+      let unshown : is_some (id_shown facts name e.0) ≡ false = ap (λ e. is_some (id_shown facts name e.0)) same ∙ ap is_some none in
+      let f : Numbered k (e.1 ∷ unshown_in facts name es) = subst (λ b. Numbered k (cond b [] (e.1 ∷ []) ++ unshown_in facts name es)) unshown h in
+      let later = of_numbered (f.0 + 1) (unshown_in facts name es) id f.5 (unshown_there name m id es i none') in
+      let a = small f.0 f.2 in
+      let b = small later.0 later.2 in
+      let l = later.1 in
+      let equal : f.0 ≡ later.0 = sym a ∙ ap invented_number (sym f.3 ∙ ap (λ e. e.1) same ∙ later.3) ∙ b in
+      omega arith
+
+  -- no id is invented for two numbers of a group
+  pub unshown_apart : (name : Name) (k n m : ℕ) (id : Id) (es : List (ℕ × Id)) → Numbered k (unshown_in facts name es)
+      → In (n, id) es → In (m, id) es → id_shown facts name n ≡ None → id_shown facts name m ≡ None → n ≡ m
+  unshown_apart name k n m id [] h i j none none' = absurd i
+  unshown_apart name k n m id (e ∷ es) h (inl s) (inl t) none none' = ap (λ e. e.0) (sym s ∙ t)
+  unshown_apart name k n m id (e ∷ es) h (inl s) (inr j) none none' = absurd (once name k n m id e es h s j none none')
+  unshown_apart name k n m id (e ∷ es) h (inr i) (inl t) none none' = absurd (once name k m n id e es h t i none' none)
+  unshown_apart name k n m id (e ∷ es) h (inr i) (inr j) none none' =
+      let r = back_numbered k (cond (is_some (id_shown facts name e.0)) [] (e.1 ∷ [])) (unshown_in facts name es) h in
+      unshown_apart name r.0 n m id es r.1 i j none none'

@@ -1,0 +1,49 @@
+-- An id that is shown at a number has this number.
+use Rattle.std.proofs.Common.{◌≡◌, ℕ, Bool, true, false, ◌&&◌, ◌==◌, cond, IsTrue, List, [], ◌∷◌, Option, None, Some, is_some, IsSome, inl, refl, sym, ap}
+use Rattle.std.proofs.{Common.{subst, ◌∙◌}, lemmas.Bool.{eqb-true}}
+use Rattle.nntp_article.specs.{Article.Parts.{Id}, Session.{Spool.{Name}, Machine.{is_same}}}
+use Rattle.nntp_said.specs.{Asks.{Has}, Facts.{Fact, IdAt}}
+use Rattle.nntp_theory.{specs.{Given.{shows, is_shown, asks_in, asks_of, first_given, id_in}, Together.{number_in, GiveOne}}, proofs.Members.{In, any_in}}
+use Rattle.nntp_theory.proofs.{Members.{to_flat, first_found}, Given.GivenHolds.{one_given}, Together.FactsOfASpoolStand.{same_itself}}
+
+-- ---- of facts
+
+-- a fact that gives the id at the number gives the number of the id
+placed_by : (name : Name) (n : ℕ) (id : Id) (fact : Fact) → id_in name n fact ≡ Some id → number_in name id fact ≡ Some n
+placed_by name n id (IdAt g m other) e = by (is_same g name) (m == n) refl e
+  where
+    by : (a b : Bool) → (m == n) ≡ b → cond (a && b) (Some other) None ≡ Some id → cond (a && is_same other id) (Some m) None ≡ Some n
+    by true true is e =
+        let same : other ≡ id = cc in
+        let own : is_same other id ≡ true = subst (λ x. is_same other x ≡ true) same (same_itself other) in
+        ap (λ b. cond b (Some m) None) own ∙ ap Some (eqb-true m n is)
+    by true false is e = cc
+    by false b is e = cc
+placed_by name n id fact e = cc
+
+-- where facts give an id, they show the number
+pub shown_with_id : (facts : List Fact) (name : Name) (n : ℕ) → IsSome (first_given (id_in name n) facts) → IsTrue (is_shown (asks_of name facts) n)
+shown_with_id facts name n = given (first_given (id_in name n) facts) refl
+  where
+    by : (fact : Fact) (id : Id) → In fact facts → id_in name n fact ≡ Some id → IsTrue (is_shown (asks_of name facts) n)
+    by (IdAt g m other) id i e = one (is_same g name) refl (m == n) refl e
+      where
+        one : (a : Bool) → is_same g name ≡ a → (b : Bool) → (m == n) ≡ b → cond (a && b) (Some other) None ≡ Some id → IsTrue (is_shown (asks_of name facts) n)
+        one true same true at e =
+            any_in (λ ask. shows ask n) (Has m) (asks_of name facts)
+            (to_flat (asks_in name) (IdAt g m other) (Has m) facts i
+            (subst (λ b. In (Has m) (cond b (Has m ∷ []) [])) (sym same) (inl refl))) at
+        one true same false at e = cc
+        one false same b at e = cc
+    by fact id i e = cc
+
+    given : (o : Option Id) → first_given (id_in name n) facts ≡ o → is_some o ≡ true → IsTrue (is_shown (asks_of name facts) n)
+    given None is t = cc
+    given (Some id) is t = let f = first_found (id_in name n) facts id is in by f.0 id f.1 f.2
+
+-- facts that stand together agree
+pub agree_together : (facts : List Fact) (name : Name) (n : ℕ) (id : Id) → GiveOne (number_in name id) facts
+    → first_given (id_in name n) facts ≡ Some id → first_given (number_in name id) facts ≡ Some n
+agree_together facts name n id one e =
+    let f = first_found (id_in name n) facts id e in
+    one_given (number_in name id) facts one f.0 f.1 n (placed_by name n id f.0 f.2)

@@ -1,0 +1,265 @@
+-- A session that says little is given a small spool.
+use Rattle.nntp_wire.specs.{declared.marks.Marks.TheVariants.{Strict}, Listing.{ActiveValue}}
+use Rattle.std.proofs.Common.{◌≡◌, ℕ, ◌+◌, ◌<◌, ◌≤◌, ◌^◌, Bool, true, false, cond, not, ◌==◌, IsTrue, List, [], ◌∷◌, ◌++◌, map, length, Some, is_some, inl, inr}
+use Rattle.std.proofs.{Common.{refl, sym, ap, subst, ◌∙◌, arith, length-append}, lemmas.Bool.{cases_Bool, eqb-true, not-true, true≢false, or_cases, and_parts}}
+use Rattle.std.{proofs.lemmas.{List.{length-map}, Map.Keys.{IsDistinct-from_sorted}}, specs.{Prelude.{unwrap_or}, List.{list_any, flat_map, IsDistinct}}}
+use Rattle.std.specs.{List.{AllByRecursion}, Ordering.{nat_cmp, eq_by_cmp}, Cmp.{nat_cmp_total, eq_by_cmp_equiv, Lexicographic.{slice_cmp, same_text}}}
+use Rattle.std.specs.{Cmp.Lexicographic.{nat_list_cmp_total, nat_list_eq_equiv}, FinMap.{get, empty, get-entries, keys, entries, entries_sorted}}
+use Rattle.nntp_article.specs.{Session.{Spool.{Spool, Numbers, IsNumber, IsGroup, numbers, Name}, Machine.{is_same}}, Article.Parts.{Id}}
+use Rattle.nntp_said.specs.{Asks.{Ask, Estimates, Bounds, ListsIn, Has, StandsAt, StepsUp, StepsDown}, declared.position.Position.TheVariants.{First}}
+use Rattle.nntp_said.specs.Facts.{Fact, ThereIs, Asks, IdAt, GroupsAre}
+use Rattle.nntp_theory.specs.Given.{shows, is_shown, IsOneMore, HasGivenNumbers, asks_in, asks_of, shows_group, is_shown_group, id_shown, unshown_in}
+use Rattle.nntp_theory.{specs.{Given.{unshown_ids, is_known, is_given_end, is_end, says_some}, Inner.Given.{size_in, size}}, proofs.Members.{In, any_in}}
+use Rattle.nntp_theory.proofs.{Members.{found_in, in_map, from_map, to_flat, from_flat, parts_few}, GivenNumbers.MetNumbersStand.{one_more_once, any_unknown}}
+use Rattle.nntp_theory.proofs.{GivenNumbers.MetNumbersStand.{key_in, key_is}, Ids.NumbersOfInventedIds.{mentioned}, Maps.{sorted_keys, keys_among, find_entry}}
+
+-- ---- the names and numbers that are shown, as lists
+
+-- the groups that a fact shows
+names_in : Fact → List Name
+names_in (ThereIs name) = name ∷ []
+names_in (GroupsAre p lines) = map (λ line. line.name) lines
+names_in fact = []
+
+-- the groups that are shown
+pub names_of : List Fact → List Name
+names_of facts = flat_map names_in facts
+
+-- the numbers that an ask shows, and its strict marks
+abbrev pub named_by : Ask → List ℕ
+named_by (Estimates Strict m) = m.low ∷ m.high ∷ []
+named_by (ListsIn r ns) = ns
+named_by (Has m) = m ∷ []
+named_by (StandsAt First m) = m ∷ []
+named_by (StepsUp at m) = m ∷ []
+named_by (StepsDown at m) = m ∷ []
+named_by ask = []
+
+-- the numbers of a group that a fact shows
+abbrev pub numbers_in : Name → Fact → List ℕ
+numbers_in name fact = flat_map named_by (asks_in name fact)
+
+-- the numbers of a group that are shown
+pub shown_numbers : Name → List Fact → List ℕ
+shown_numbers name facts = flat_map (numbers_in name) facts
+
+-- a group that a fact shows is one of its names
+names_shown : (name : Name) (fact : Fact) → shows_group name fact ≡ true → In name (names_in fact)
+unfolding names_in
+names_shown name (ThereIs g) t = inl (same_text g name (sym t))
+names_shown name (GroupsAre p lines) t =
+    let f = found_in (λ line. is_same line.name name) lines t in
+    subst (λ g. In g (map (λ line. line.name) lines)) (same_text f.0.name name (sym f.2)) (in_map (λ line. line.name) f.0 lines f.1)
+names_shown name fact t = cc
+
+-- a group that is shown is one of the names
+pub shown_name : (facts : List Fact) (name : Name) → IsTrue (is_shown_group facts name) → In name (names_of facts)
+unfolding names_of
+shown_name facts name t = let f = found_in (shows_group name) facts t in to_flat names_in f.0 name facts f.1 (names_shown name f.0 f.2)
+
+-- and back
+names_back : (name : Name) (fact : Fact) → In name (names_in fact) → shows_group name fact ≡ true
+unfolding names_in
+names_back name (ThereIs g) i = elim i [ inl e ↦ subst (λ n. is_same g n ≡ true) e (nat_list_eq_equiv.refl g) | inr j ↦ absurd j ]
+names_back name (GroupsAre p lines) i =
+    let f = from_map (λ (line : ActiveValue). line.name) name lines i in
+    any_in (λ line. is_same line.name name) f.0 lines f.1 (subst (λ n. is_same f.0.name n ≡ true) f.2 (nat_list_eq_equiv.refl f.0.name))
+names_back name fact i = absurd i
+
+-- one of the names is shown
+pub name_shown : (facts : List Fact) (name : Name) → In name (names_of facts) → IsTrue (is_shown_group facts name)
+unfolding names_of
+name_shown facts name i = let f = from_flat names_in name facts i in any_in (shows_group name) f.0 facts f.1 (names_back name f.0 f.2)
+
+-- a strict mark is one of the ask's
+end_named : (ask : Ask) (n : ℕ) → is_end ask n ≡ true → In n (named_by ask)
+end_named (Estimates Strict m) n t = elim (or_cases (m.low == n) (m.high == n) t) [ inl e ↦ inl (eqb-true m.low n e) | inr e ↦ inr (inl (eqb-true m.high n e)) ]
+end_named ask n t = cc
+
+-- a number that is shown is one of the ask's
+pub one_shown : (ask : Ask) (n : ℕ) → shows ask n ≡ true → In n (named_by ask)
+one_shown (ListsIn r ns) n t = let f = found_in (λ m. n == m) ns t in subst (λ m. In m ns) (sym (eqb-true n f.0 f.2)) f.1
+one_shown (Has m) n t = inl (eqb-true m n t)
+one_shown (StandsAt First m) n t = inl (eqb-true m n t)
+one_shown (StepsUp at m) n t = inl (eqb-true m n t)
+one_shown (StepsDown at m) n t = inl (eqb-true m n t)
+one_shown ask n t = cc
+
+-- a number that is known is one of an ask's
+pub known_named : (asks : List Ask) (n : ℕ) → IsTrue (is_known asks n) → (ask : Ask) × In ask asks × In n (named_by ask)
+known_named asks n t = elim (or_cases (is_shown asks n) (is_given_end asks n) t) [
+  | inl s ↦ (let f = found_in (λ ask. shows ask n) asks s in (f.0, f.1, one_shown f.0 n f.2))
+  | inr g ↦ (let f = found_in (λ ask. is_end ask n) asks (and_parts (list_any says_some asks) _ g).1 in (f.0, f.1, end_named f.0 n f.2))
+]
+
+-- and of the numbers
+pub known_number : (name : Name) (facts : List Fact) (n : ℕ) → IsTrue (is_known (asks_of name facts) n) → In n (shown_numbers name facts)
+unfolding shown_numbers
+known_number name facts n t =
+    let f = known_named (asks_of name facts) n t in
+    let g = from_flat (asks_in name) f.0 facts f.1 in
+    to_flat (numbers_in name) g.0 n facts g.1 (to_flat named_by f.0 n (asks_in name g.0) g.2 f.2)
+
+-- ---- how many there are
+
+-- there are few names
+names_few : (facts : List Fact) → length (names_of facts) ≤ size facts
+unfolding names_of names_in
+names_few [] = omega arith
+names_few (ThereIs name ∷ facts) = let rest = names_few facts in omega arith
+names_few (GroupsAre p lines ∷ facts) =
+    let rest = names_few facts in
+    let names = map (λ (line : ActiveValue). line.name) lines in
+    omega (arith, length-append names (names_of facts), length-map lines (λ (line : ActiveValue). line.name))
+names_few (fact ∷ facts) = let rest = names_few facts in omega arith
+
+-- marks show no number
+no_number : (name : Name) (lines : List ActiveValue) → flat_map named_by (flat_map (λ line. cond (is_same line.name name) (Bounds line.low line.high ∷ []) []) lines) ≡ []
+no_number name [] = refl
+no_number name (line ∷ lines) =
+    elim (is_same line.name name) as (λ b. flat_map named_by
+    (cond b (Bounds line.low line.high ∷ []) [] ++ flat_map
+    (λ line. cond (is_same line.name name) (Bounds line.low line.high ∷ []) []) lines) ≡ []) [
+      | true ↦ no_number name lines
+      | false ↦ no_number name lines
+    ]
+
+-- an ask shows few numbers
+asked_few : (g : Name) (ask : Ask) (b : Bool) → length (flat_map named_by (cond b (ask ∷ []) [])) ≤ size_in (Asks g ask)
+asked_few g ask false = omega arith
+asked_few g (ListsIn r ns) true = omega (arith, length-append ns [])
+asked_few g (Estimates Strict m) true = omega arith
+asked_few g (StandsAt First m) true = omega arith
+asked_few g ask true = omega arith
+
+-- ---- over several groups
+
+-- an ask shows numbers of one group: no other has the same name
+none_left : (g : Name) (ask : Ask) (name : Name) (names : List Name) → is_same g name ≡ true → AllByRecursion (λ other. eq_by_cmp (slice_cmp nat_cmp) name other ≡ false) names
+    → length (flat_map (λ n. flat_map named_by (cond (is_same g n) (ask ∷ []) [])) names) ≡ 0
+none_left g ask name [] same apart = refl
+none_left g ask name (other ∷ names) same apart = by (is_same g other) refl (none_left g ask name names same apart.1)
+  where
+    by : (b : Bool) → is_same g other ≡ b → length (flat_map (λ n. flat_map named_by (cond (is_same g n) (ask ∷ []) [])) names) ≡ 0
+        → length (flat_map named_by (cond b (ask ∷ []) []) ++ flat_map (λ n. flat_map named_by (cond (is_same g n) (ask ∷ []) [])) names) ≡ 0
+    by true e rest =
+        let one : name ≡ other = sym (same_text g name (sym same)) ∙ same_text g other (sym e) in
+        absurd (true≢false (sym (subst (λ n. eq_by_cmp (slice_cmp nat_cmp) name n ≡ true) one ((eq_by_cmp_equiv nat_list_cmp_total).refl name)) ∙ apart.0))
+    by false e rest = rest
+
+-- what an ask shows of several groups is no more than its size
+ask_few : (g : Name) (ask : Ask) (names : List Name) → IsDistinct (eq_by_cmp (slice_cmp nat_cmp)) names
+    → length (flat_map (λ n. flat_map named_by (cond (is_same g n) (ask ∷ []) [])) names) ≤ size_in (Asks g ask)
+unfolding IsDistinct
+ask_few g ask [] d = omega arith
+ask_few g ask (name ∷ names) d = by (is_same g name) refl d.0 (ask_few g ask names d.1)
+  where
+    by : (b : Bool) → is_same g name ≡ b → AllByRecursion (λ other. eq_by_cmp (slice_cmp nat_cmp) name other ≡ false) names
+        → length (flat_map (λ n. flat_map named_by (cond (is_same g n) (ask ∷ []) [])) names) ≤ size_in (Asks g ask)
+        → length (flat_map named_by (cond b (ask ∷ []) []) ++ flat_map (λ n. flat_map named_by (cond (is_same g n) (ask ∷ []) [])) names) ≤ size_in (Asks g ask)
+    by true e apart rest =
+        let here = asked_few g ask true in
+        let left = none_left g ask name names e apart in
+        let parts = length-append (flat_map named_by (ask ∷ [])) (flat_map (λ n. flat_map named_by (cond (is_same g n) (ask ∷ []) [])) names) in
+        omega arith
+    by false e apart rest = rest
+
+-- where nothing is shown of any group
+nothing_few : (f : Name → List ℕ) (names : List Name) → ((name : Name) → f name ≡ []) → length (flat_map f names) ≡ 0
+nothing_few f [] none = refl
+nothing_few f (name ∷ names) none = ap (λ xs. length (xs ++ flat_map f names)) (none name) ∙ nothing_few f names none
+
+-- and so a fact
+one_few : (fact : Fact) (names : List Name) → IsDistinct (eq_by_cmp (slice_cmp nat_cmp)) names → length (flat_map (λ name. numbers_in name fact) names) ≤ size_in fact
+one_few (Asks g ask) names d = ask_few g ask names d
+one_few (IdAt g n id) names d = ask_few g (Has n) names d
+one_few (GroupsAre p lines) names d = let none = nothing_few (λ name. numbers_in name (GroupsAre p lines)) names (λ name. no_number name lines) in omega arith
+one_few fact names d = let none = nothing_few (λ name. []) names (λ name. refl) in omega arith
+
+-- two parts for each group
+both_parts : (f h : Name → List ℕ) (names : List Name) → length (flat_map (λ name. f name ++ h name) names) ≡ length (flat_map f names) + length (flat_map h names)
+both_parts f h [] = refl
+both_parts f h (name ∷ names) =
+    omega (
+      arith,
+      both_parts f h names,
+      length-append (f name ++ h name)
+          (flat_map (λ name. f name ++ h name) names),
+      length-append (f name) (h name),
+      length-append (f name)
+          (flat_map f names),
+      length-append (h name) (flat_map h names),
+    )
+
+-- there are few numbers, over all groups
+numbers_few : (facts : List Fact) (names : List Name) → IsDistinct (eq_by_cmp (slice_cmp nat_cmp)) names → length (flat_map (λ name. shown_numbers name facts) names) ≤ size facts
+unfolding shown_numbers
+numbers_few [] names d = let none = nothing_few (λ name. []) names (λ name. refl) in omega arith
+numbers_few (fact ∷ facts) names d =
+    let rest = numbers_few facts names d in
+    let here = one_few fact names d in
+    let parts = both_parts (λ name. numbers_in name fact) (λ name. shown_numbers name facts) names in
+    omega arith
+
+-- no more ids are mentioned than the size
+mentioned_few : (facts : List Fact) → length (mentioned facts) ≤ size facts
+mentioned_few [] = omega arith
+mentioned_few (IdAt name n id ∷ facts) = let rest = mentioned_few facts in omega arith
+mentioned_few (fact ∷ facts) = let rest = mentioned_few facts in omega arith
+
+-- ---- the spool that is given
+
+-- there is one number more than are known, at most
+pub given_few : (name : Name) (facts : List Fact) (N : Numbers) → HasGivenNumbers (asks_of name facts) N → length (entries N) ≤ 1 + length (shown_numbers name facts)
+given_few name facts N given =
+    let asks = asks_of name facts in
+    elim (cases_Bool (list_any (λ n. not (is_known asks n)) (keys N))) [
+      | inr none ↦ (let le = keys_among nat_cmp_total N (shown_numbers name facts) (λ n i. known_number name facts n (any_unknown asks (keys N) none n (key_in N n i))) in omega arith)
+      | inl some ↦
+          let f = found_in (λ n. not (is_known asks n)) (keys N) some in
+          let unshown : (n : ℕ) → IsNumber N n → is_known asks n ≡ false → IsOneMore asks n = λ n i h. elim ((given n).0 i) [ inl t ↦ absurd (true≢false (sym t ∙ h)) | inr x ↦ x ] in
+          let one = unshown f.0 (key_is N f.0 f.1) (not-true _ f.2) in
+          let le = keys_among nat_cmp_total N (f.0 ∷ shown_numbers name facts)
+          (λ n i. elim (cases_Bool (is_known asks n)) [
+            | inl t ↦ inr (known_number name facts n t)
+            | inr h ↦ inl
+                (one_more_once asks f.0 n one (unshown n i h))
+          ]) in
+          omega arith
+    ]
+
+-- ids for which none is shown are no more than the numbers
+unshown_few : (facts : List Fact) (name : Name) (es : List (ℕ × Id)) → length (unshown_in facts name es) ≤ length es
+unshown_few facts name [] = omega arith
+unshown_few facts name (e ∷ es) =
+    let rest = unshown_few facts name es in
+    elim (is_some (id_shown facts name e.0)) as (λ b. length (cond b [] (e.1 ∷ []) ++ unshown_in facts name es) ≤ length (e ∷ es)) [ true ↦ omega arith | false ↦ omega arith ]
+
+-- the numbers of the entries are those of their names
+by_names : (facts : List Fact) (es : List (Name × Numbers))
+    → flat_map (λ (g : Name × Numbers). shown_numbers g.0 facts) es ≡ flat_map (λ name. shown_numbers name facts)
+    (map (λ (g : Name × Numbers). g.0) es)
+by_names facts [] = refl
+by_names facts (e ∷ es) = ap (λ ns. shown_numbers e.0 facts ++ ns) (by_names facts es)
+
+-- the ids for which none is shown are few
+pub unshown_ids_few : (facts : List Fact) (G : Spool) → ((name : Name) → IsGroup G name → IsTrue (is_shown_group facts name))
+    → ((name : Name) → IsGroup G name → HasGivenNumbers (asks_of name facts) (numbers G name))
+    → length (unshown_ids facts G) ≤ size facts + size facts
+unshown_ids_few facts G groups given =
+    let each : (g : Name × Numbers) → In g (entries G.groups) → length (unshown_in facts g.0 (entries g.1)) ≤ 1 + length (shown_numbers g.0 facts) = λ g i.
+    (let at : get G.groups g.0 ≡ Some g.1 = get-entries G.groups g.0 ∙ find_entry nat_list_cmp_total g.0 g.1 (entries G.groups) (entries_sorted G.groups) i in
+    let is : HasGivenNumbers (asks_of g.0 facts) g.1 = subst (HasGivenNumbers (asks_of g.0 facts)) (ap (λ o. unwrap_or o empty) at) (given g.0 (ap is_some at)) in
+    let a = unshown_few facts g.0 (entries g.1) in
+    let b = given_few g.0 facts g.1 is in
+    omega arith) in
+    let all = parts_few (λ (g : Name × Numbers). unshown_in facts g.0 (entries g.1)) (λ (g : Name × Numbers). shown_numbers g.0 facts) (entries G.groups) each in
+    let names = keys_among nat_list_cmp_total G.groups (names_of facts) (λ name i. shown_name facts name (groups name i)) in
+    let few = names_few facts in
+    let same = ap length (by_names facts (entries G.groups)) in
+    let total = numbers_few facts (keys G.groups) (IsDistinct-from_sorted (slice_cmp nat_cmp) (keys G.groups) (sorted_keys (slice_cmp nat_cmp) (entries G.groups) (entries_sorted G.groups))) in
+    omega arith
+
+-- fewer ids than invented ids can number
+pub few_enough : (facts : List Fact) (n : ℕ) → size facts < 2 ^ 210 → n ≤ size facts + size facts → length (mentioned facts) + n < 10 ^ 64
+few_enough facts n small le = let count = mentioned_few facts in omega arith

@@ -1,0 +1,15 @@
+pub mod Conflicts
+pub mod CoresGoOn
+pub mod Examples
+pub mod Given
+pub mod GivenNumbers
+pub mod Ids
+pub mod Maps
+pub mod Members
+pub mod OkResults
+pub mod PointsByRank
+pub mod PointsOfConflict
+pub mod Reading
+pub mod Session
+pub mod Streams
+pub mod Together

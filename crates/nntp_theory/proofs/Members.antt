@@ -1,0 +1,172 @@
+-- Membership by recursion, and what holds of each element of a list.
+use Rattle.std.proofs.Common.{◌≡◌, ◌+◌, ◌≤◌, zero, suc, length, length-append, map, ap, arith, Bool, ◌⊎◌, IsTrue, List, [], ◌∷◌, ◌++◌, Option, None, Some, inl}
+use Rattle.std.proofs.{Common.{inr, refl, sym, subst, ◌∙◌}, lemmas.{Bool.{or_left, or_right, or_cases, and_from, and_parts}, List.Folds.{list_any-append}}}
+use Rattle.std.specs.{List.{AllByRecursion, list_any, list_all, flat_map}, Prelude.{Contains}, Option.{option_or}}
+use Rattle.nntp_article.proofs.SessionLemmas.FiniteMapsDecided.{Dec}
+use Rattle.nntp_said.specs.Facts.{Fact}
+use Rattle.nntp_theory.specs.Given.{first_given}
+
+-- x is an element of xs
+abbrev pub In : {A : Type 0} → A → List A → Type 0
+In x [] = ⊥
+In x (y ∷ ys) = (y ≡ x) ⊎ In x ys
+
+-- what holds of each element holds of one
+pub all_at : {A : Type 0} (P : A → Type 0) (x : A) (xs : List A) → AllByRecursion P xs → In x xs → P x
+all_at P x [] h i = absurd i
+all_at P x (y ∷ ys) h (inl e) = subst P e h.0
+all_at P x (y ∷ ys) h (inr i) = all_at P x ys h.1 i
+
+-- what holds of one after the other holds of each
+pub all_from : {A : Type 0} (P : A → Type 0) (xs : List A) → ((x : A) → In x xs → P x) → AllByRecursion P xs
+all_from P [] h = tt
+all_from P (x ∷ xs) h = (h x (inl refl), all_from P xs (λ y i. h y (inr i)))
+
+-- what holds of each element of two lists
+pub all_both : {A : Type 0} (P : A → Type 0) (xs ys : List A) → AllByRecursion P xs → AllByRecursion P ys → AllByRecursion P (xs ++ ys)
+all_both P [] ys h g = g
+all_both P (x ∷ xs) ys h g = (h.0, all_both P xs ys h.1 g)
+
+-- what holds of each element holds in the front
+pub all_front : {A : Type 0} (P : A → Type 0) (xs ys : List A) → AllByRecursion P (xs ++ ys) → AllByRecursion P xs
+all_front P [] ys h = tt
+all_front P (x ∷ xs) ys h = (h.0, all_front P xs ys h.1)
+
+-- what holds of each element holds in the back
+pub all_back : {A : Type 0} (P : A → Type 0) (xs ys : List A) → AllByRecursion P (xs ++ ys) → AllByRecursion P ys
+all_back P [] ys h = h
+all_back P (x ∷ xs) ys h = all_back P xs ys h.1
+
+-- an element of the front
+pub in_front : {A : Type 0} (x : A) (xs ys : List A) → In x xs → In x (xs ++ ys)
+in_front x [] ys i = absurd i
+in_front x (z ∷ xs) ys (inl e) = inl e
+in_front x (z ∷ xs) ys (inr i) = inr (in_front x xs ys i)
+
+-- an element of the back
+pub in_back : {A : Type 0} (x : A) (xs ys : List A) → In x ys → In x (xs ++ ys)
+in_back x [] ys i = i
+in_back x (z ∷ xs) ys i = inr (in_back x xs ys i)
+
+-- an element of the front or of the back
+pub in_cases : {A : Type 0} (x : A) (xs ys : List A) → In x (xs ++ ys) → In x xs ⊎ In x ys
+in_cases x [] ys i = inr i
+in_cases x (z ∷ xs) ys (inl e) = inl (inl e)
+in_cases x (z ∷ xs) ys (inr i) = elim (in_cases x xs ys i) [ inl j ↦ inl (inr j) | inr j ↦ inr j ]
+
+-- a change of an element
+pub in_map : {A B : Type 0} (f : A → B) (x : A) (xs : List A) → In x xs → In (f x) (map f xs)
+in_map f x [] i = absurd i
+in_map f x (y ∷ xs) (inl e) = inl (ap f e)
+in_map f x (y ∷ xs) (inr i) = inr (in_map f x xs i)
+
+-- an element of the changed list comes from one
+pub from_map : {A B : Type 0} (f : A → B) (y : B) (xs : List A) → In y (map f xs) → (x : A) × In x xs × (f x ≡ y)
+from_map f y [] i = absurd i
+from_map f y (x ∷ xs) (inl e) = (x, inl refl, e)
+from_map f y (x ∷ xs) (inr i) = let r = from_map f y xs i in (r.0, inr r.1, r.2)
+
+-- an element of a part is one of the joined parts
+pub to_flat : {A B : Type 0} (f : A → List B) (x : A) (y : B) (xs : List A) → In x xs → In y (f x) → In y (flat_map f xs)
+to_flat f x y [] i j = absurd i
+to_flat f x y (z ∷ xs) (inl e) j = in_front y (f z) (flat_map f xs) (subst (λ x. In y (f x)) (sym e) j)
+to_flat f x y (z ∷ xs) (inr i) j = in_back y (f z) (flat_map f xs) (to_flat f x y xs i j)
+
+-- an element of the joined parts is one of a part
+pub from_flat : {A B : Type 0} (f : A → List B) (y : B) (xs : List A) → In y (flat_map f xs) → (x : A) × In x xs × In y (f x)
+from_flat f y [] i = absurd i
+from_flat f y (x ∷ xs) i =
+    elim (in_cases y (f x) (flat_map f xs) i) [ inl j ↦ (x, inl refl, j) | inr j ↦ (let r = from_flat f y xs j in (r.0, inr r.1, r.2)) ]
+
+-- membership by places
+pub contains_in : {A : Type 0} (x : A) (xs : List A) → In x xs → Contains xs x
+contains_in x [] i = absurd i
+contains_in x (y ∷ ys) (inl e) = (0, omega arith, e)
+contains_in x (y ∷ ys) (inr i) = let c = contains_in x ys i in (suc c.0, let l = c.1 in omega arith, c.2)
+
+-- and back
+pub in_contains : {A : Type 0} (x : A) (xs : List A) → Contains xs x → In x xs
+in_contains x [] (k, l, e) = absurd (omega arith)
+in_contains x (y ∷ ys) (zero, l, e) = inl e
+in_contains x (y ∷ ys) (suc k, l, e) = inr (in_contains x ys (k, omega arith, e))
+
+-- an element that passes is found
+pub any_in : {A : Type 0} (p : A → Bool) (x : A) (xs : List A) → In x xs → IsTrue (p x) → IsTrue (list_any p xs)
+any_in p x [] i t = absurd i
+any_in p x (y ∷ ys) (inl e) t = or_left (p y) _ (subst (λ y. IsTrue (p y)) (sym e) t)
+any_in p x (y ∷ ys) (inr i) t = or_right (p y) _ (any_in p x ys i t)
+
+-- what is found is an element that passes
+pub found_in : {A : Type 0} (p : A → Bool) (xs : List A) → IsTrue (list_any p xs) → (x : A) × In x xs × IsTrue (p x)
+found_in p [] h = cc
+found_in p (x ∷ xs) h =
+    elim (or_cases (p x) (list_any p xs) h) [ inl t ↦ (x, inl refl, t) | inr r ↦ (let f = found_in p xs r in (f.0, inr f.1, f.2)) ]
+
+-- what holds of each element of the parts holds of each part
+pub all_part : {A B : Type 0} (P : B → Type 0) (f : A → List B) (x : A) (xs : List A) → In x xs → AllByRecursion P (flat_map f xs) → AllByRecursion P (f x)
+all_part P f x [] i h = absurd i
+all_part P f x (y ∷ ys) (inl e) h = subst (λ y. AllByRecursion P (f y)) e (all_front P (f y) (flat_map f ys) h)
+all_part P f x (y ∷ ys) (inr i) h = all_part P f x ys i (all_back P (f y) (flat_map f ys) h)
+
+-- and back
+pub all_parts : {A B : Type 0} (P : B → Type 0) (f : A → List B) (xs : List A) → ((x : A) → In x xs → AllByRecursion P (f x)) → AllByRecursion P (flat_map f xs)
+all_parts P f [] h = tt
+all_parts P f (x ∷ xs) h = all_both P (f x) (flat_map f xs) (h x (inl refl)) (all_parts P f xs (λ y i. h y (inr i)))
+
+-- one of the facts gives what the first gives
+pub first_found : {A : Type 0} (f : Fact → Option A) (xs : List Fact) (y : A) → first_given f xs ≡ Some y → (x : Fact) × In x xs × (f x ≡ Some y)
+first_found f [] y e = cc
+first_found {A} f (x ∷ xs) y e = by (f x) refl (first_found f xs y) e
+  where
+    by : (o : Option A) → f x ≡ o → (first_given f xs ≡ Some y → (z : Fact) × In z xs × (f z ≡ Some y)) → option_or o (first_given f xs) ≡ Some y → (z : Fact) × In z (x ∷ xs) × (f z ≡ Some y)
+    by (Some z) is rest e = (x, inl refl, is ∙ e)
+    by None is rest e = let r = rest e in (r.0, inr r.1, r.2)
+
+-- where one of the facts gives something, the first gives something
+pub first_there : {A : Type 0} (f : Fact → Option A) (xs : List Fact) (x : Fact) (y : A) → In x xs → f x ≡ Some y → (z : A) × (first_given f xs ≡ Some z)
+first_there f [] x y i e = absurd i
+first_there {A} f (w ∷ xs) x y i e = by (f w) refl (λ i. first_there f xs x y i e) i
+  where
+    by : (o : Option A) → f w ≡ o → (In x xs → (z : A) × (first_given f xs ≡ Some z)) → In x (w ∷ xs) → (z : A) × (option_or o (first_given f xs) ≡ Some z)
+    by (Some z) is rest i = (z, refl)
+    by None is rest (inl same) = absurd (let n : None ≡ Some y = sym is ∙ subst (λ v. f v ≡ Some y) (sym same) e in cc)
+    by None is rest (inr i) = rest i
+
+-- a list where each passes
+pub every : {A : Type 0} (p : A → Bool) (xs : List A) → ((x : A) → In x xs → IsTrue (p x)) → IsTrue (list_all p xs)
+every p [] h = refl
+every p (x ∷ xs) h = and_from (p x) (list_all p xs) (h x (inl refl)) (every p xs (λ y i. h y (inr i)))
+
+-- each of them passes
+pub each_of : {A : Type 0} (p : A → Bool) (xs : List A) (x : A) → IsTrue (list_all p xs) → In x xs → IsTrue (p x)
+each_of p [] x h i = absurd i
+each_of p (y ∷ ys) x h (inl e) = subst (λ y. IsTrue (p y)) e (and_parts (p y) _ h).0
+each_of p (y ∷ ys) x h (inr i) = each_of p ys x (and_parts (p y) _ h).1 i
+
+-- parts that are each at most one longer than others
+pub parts_few : {A B C : Type 0} (f : A → List B) (h : A → List C) (xs : List A) → ((x : A) → In x xs → length (f x) ≤ 1 + length (h x)) → length (flat_map f xs) ≤ length xs + length (flat_map h xs)
+parts_few f h [] le = omega arith
+parts_few f h (x ∷ xs) le =
+    let rest = parts_few f h xs (λ y i. le y (inr i)) in
+    let here = le x (inl refl) in
+    let parts = length-append (f x) (flat_map f xs) in
+    let others = length-append (h x) (flat_map h xs) in
+    omega arith
+
+-- whether each element has it
+pub dec_each_in : {A : Type 0} (P : A → Type 0) → ((x : A) → Dec (P x)) → (xs : List A) → Dec ((x : A) → In x xs → P x)
+dec_each_in P d [] = inl (λ x i. absurd i)
+dec_each_in {A} P d (x ∷ xs) = by (d x) (dec_each_in P d xs)
+  where
+    by : Dec (P x) → Dec ((y : A) → In y xs → P y) → Dec ((y : A) → In y (x ∷ xs) → P y)
+    by (inl p) (inl r) = inl (λ y i. elim i [ inl e ↦ subst P e p | inr j ↦ r y j ])
+    by (inl p) (inr m) = inr (λ h. m (λ y i. h y (inr i)))
+    by (inr n) r = inr (λ h. n (h x (inl refl)))
+
+-- what is found in the front is found
+pub any_front : {A : Type 0} (p : A → Bool) (xs ys : List A) → IsTrue (list_any p xs) → IsTrue (list_any p (xs ++ ys))
+any_front p xs ys h = list_any-append p xs ys ∙ or_left (list_any p xs) (list_any p ys) h
+
+-- what is found in the back is found
+pub any_back : {A : Type 0} (p : A → Bool) (xs ys : List A) → IsTrue (list_any p ys) → IsTrue (list_any p (xs ++ ys))
+any_back p xs ys h = list_any-append p xs ys ∙ or_right (list_any p xs) (list_any p ys) h

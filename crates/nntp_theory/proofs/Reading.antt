@@ -1,0 +1,4 @@
+pub mod FirstBadOfAReading
+pub mod JudgedAnswers
+pub mod JudgedSession
+pub mod OneReading

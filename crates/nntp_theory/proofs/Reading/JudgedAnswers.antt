@@ -1,0 +1,186 @@
+-- Answers that are judged one after the other, whatever decides which exchanges stand: what they take, leave and add to those that were accepted.
+use Rattle.std.proofs.Common.{◌≡◌, ◌≢◌, ◌+◌, ◌<◌, ◌≤◌, false, ℕ, List, [], ◌∷◌, ◌++◌, length, map, refl, sym, ap, subst, ◌∙◌, arith, append_assoc, append-nil}
+use Rattle.std.proofs.{Common.{length-append}, lemmas.List.{map-append}}
+use Rattle.nntp_wire.specs.{Answer.{Response}, Frame.{frame_octets}}
+use Rattle.nntp_article.{specs.Session.Machine.{Visible, start}, proofs.SessionLemmas.ClosingAnswers.{after-closes}}
+use Rattle.nntp_pair.specs.{declared.class.PairClass.TheVariants.{Malformed as PairMalformed}, Pairing.{Paired, Unpaired, IsNext, AreNext, Ending, bad, Ends}}
+use Rattle.nntp_pair.{specs.Pairing.{IsPairing, asked_at, asked_of, responses_of, streams}, proofs.{PairLemmas.{lines-few}, NextLemmas.{one-next, next-no-end}}}
+use Rattle.nntp_pair.proofs.{NextLemmas.{next-shorter}, PassedLemmas.{one-passed, passed-ends, passed-no-other, passed-shorter}}
+use Rattle.nntp_theory.specs.{Classes.{visible_from}, Inner.Given.{weight}, Reading.{Judged, Accepted, Refused, Unspelled, accepted_of, accepted_with}}
+use Rattle.nntp_theory.{specs.Reading.{IsJudged, AreJudged, IsReadingBy}, proofs.Session.PairsGoOn.{visible_next, as_many, ends}}
+
+-- ---- those that are accepted
+
+-- those that were accepted before, and those of the answers
+abbrev pub all_accepted : List Paired → List Judged → List Paired
+all_accepted past [] = past
+all_accepted past (answer ∷ answers) = all_accepted (accepted_with past answer) answers
+
+pub accepted_behind : (past : List Paired) (answers : List Judged) → all_accepted past answers ≡ past ++ accepted_of answers
+accepted_behind past [] = sym (append-nil past)
+accepted_behind past (Accepted pair ∷ answers) = accepted_behind (past ++ pair ∷ []) answers ∙ append_assoc past (pair ∷ []) (accepted_of answers)
+accepted_behind past (Refused pair ∷ answers) = accepted_behind past answers
+accepted_behind past (Unspelled index line initial block ∷ answers) = accepted_behind past answers
+
+-- with one more answer these are accepted
+pub accepted_push : (past : List Paired) (answers : List Judged) (answer : Judged) → all_accepted past (answers ++ answer ∷ []) ≡ accepted_with (all_accepted past answers) answer
+accepted_push past [] answer = refl
+accepted_push past (x ∷ answers) answer = accepted_push (accepted_with past x) answers answer
+
+-- no more are accepted than there are answers
+pub accepted_few : (past : List Paired) (answers : List Judged) → length (all_accepted past answers) ≤ length past + length answers
+accepted_few past [] = omega arith
+accepted_few past (answer ∷ answers) = let rest = accepted_few (accepted_with past answer) answers in let one = by answer in omega (arith, rest, one) where
+  by : (answer : Judged) → length (accepted_with past answer) ≤ length past + 1
+  by (Accepted pair) = omega (arith, length-append past (pair ∷ []))
+  by (Refused pair) = omega arith
+  by (Unspelled index line initial block) = omega arith
+
+-- the visible state that those that were accepted leave
+abbrev pub visible_behind : List Paired → Visible
+visible_behind past = visible_from start.visible (asked_of past) (responses_of past)
+
+weight_append : (xs ys : List Response) → weight (xs ++ ys) ≡ weight xs + weight ys
+weight_append [] ys = omega arith
+weight_append (x ∷ xs) ys = let rest = weight_append xs ys in omega (arith, rest)
+
+-- a pair weighs no more than the octets that it takes
+pub weight_next : (past : List Paired) (a b : Unpaired) (pair : Paired) → IsNext a pair b → weight (responses_of (past ++ pair ∷ [])) + length b.server ≤ weight (responses_of past) + length a.server
+weight_next past a b pair next =
+    let front = frame_octets pair.initial next.answered.block in
+    let whole = ap length next.answered.frame.whole ∙ length-append front b.server in
+    let few = lines-few (asked_at pair.line) pair.response front next.answered.spells in
+    let both = ap weight (map-append (λ (pair : Paired). pair.response) past (pair ∷ [])) ∙ weight_append (responses_of past) (pair.response ∷ []) in
+    omega (arith, whole, few, both)
+
+module _ (Stand : List Paired → Type 0) where
+  -- ---- one answer
+
+  -- it takes octets
+  pub judged_shorter : (past : List Paired) (a b : Unpaired) (answer : Judged) → IsJudged Stand past a answer b → length b.server < length a.server
+  judged_shorter past a b (Accepted pair) (next, h) = next-shorter a b pair next
+  judged_shorter past a b (Refused pair) (next, h) = next-shorter a b pair next
+  judged_shorter past a b (Unspelled index line initial block) (at, passed) = passed-shorter a b line initial block passed
+
+  -- behind the same ones it is determined
+  pub one_judged : (past : List Paired) (a b c : Unpaired) (x y : Judged) → IsJudged Stand past a x b → IsJudged Stand past a y c → (x ≡ y) × (b ≡ c)
+  one_judged past a b c (Accepted x) (Accepted y) (n, h) (m, k) = let one = one-next a b c x y n m in (ap Accepted one.0, one.1)
+  one_judged past a b c (Refused x) (Refused y) (n, h) (m, k) = let one = one-next a b c x y n m in (ap Refused one.0, one.1)
+  one_judged past a b c (Accepted x) (Refused y) (n, h) (m, none) = absurd (none (subst (λ pair. Stand (past ++ pair ∷ [])) (one-next a b c x y n m).0 h))
+  one_judged past a b c (Refused x) (Accepted y) (n, none) (m, h) = absurd (none (subst (λ pair. Stand (past ++ pair ∷ [])) (sym (one-next a b c x y n m).0) h))
+  one_judged past a b c (Accepted x) (Unspelled i line initial block) (n, h) (at, passed) = absurd (next-no-end (bad PairMalformed) a b x n (passed-ends a c line initial block passed))
+  one_judged past a b c (Refused x) (Unspelled i line initial block) (n, h) (at, passed) = absurd (next-no-end (bad PairMalformed) a b x n (passed-ends a c line initial block passed))
+  one_judged past a b c (Unspelled i line initial block) (Accepted y) (at, passed) (m, k) = absurd (next-no-end (bad PairMalformed) a c y m (passed-ends a b line initial block passed))
+  one_judged past a b c (Unspelled i line initial block) (Refused y) (at, passed) (m, k) = absurd (next-no-end (bad PairMalformed) a c y m (passed-ends a b line initial block passed))
+  one_judged past a b c (Unspelled i line initial block) (Unspelled j also other next) (at, passed) (to, second) =
+      let one = one-passed a b c line also initial other block next passed second in
+      let index : i ≡ j = at ∙ sym to in
+      ((λ t. Unspelled (index t) (one.0 t) (one.1 t) (one.2 t)), one.3)
+
+  -- where there is one, no reading ends
+  pub judged_no_end : (past : List Paired) (a b : Unpaired) (answer : Judged) (ending : Ending) → IsJudged Stand past a answer b → Ends a ending → ending ≢ bad PairMalformed → ⊥
+  judged_no_end past a b (Accepted pair) ending (next, h) ends other = next-no-end ending a b pair next ends
+  judged_no_end past a b (Refused pair) ending (next, h) ends other = next-no-end ending a b pair next ends
+  judged_no_end past a b (Unspelled index line initial block) ending (at, passed) ends other = other (passed-no-other ending a b line initial block passed ends)
+
+  -- ---- several answers
+
+  -- with one more answer
+  pub judged_push : (past : List Paired) (a b c : Unpaired) (answers : List Judged) (answer : Judged)
+      → AreJudged Stand past a answers b → IsJudged Stand (all_accepted past answers) b answer c → AreJudged Stand past a (answers ++ answer ∷ []) c
+  judged_push past a b c [] answer same is = (c, subst (λ u. IsJudged Stand past u answer c) (sym same) is, refl)
+  judged_push past a b c (x ∷ answers) answer (m, first, more) is = (m, first, judged_push (accepted_with past x) m b c answers answer more is)
+
+  -- the index counts the answers
+  pub judged_count : (past : List Paired) (a b : Unpaired) (answers : List Judged) → AreJudged Stand past a answers b → b.index ≡ a.index + length answers
+  judged_count past a b [] same = let e = ap (λ (u : Unpaired). u.index) same in omega (arith, e)
+  judged_count past a b (answer ∷ answers) (m, first, more) =
+      let rest = judged_count (accepted_with past answer) m b answers more in
+      let next = by answer first in
+      omega (arith, rest, next)
+    where
+      by : (answer : Judged) → IsJudged Stand past a answer m → m.index ≡ a.index + 1
+      by (Accepted pair) (next, h) = next.next_index
+      by (Refused pair) (next, h) = next.next_index
+      by (Unspelled index line initial block) (at, passed) = passed.next_index
+
+  -- those that are accepted stand
+  pub accepted_stand : (past : List Paired) (a b : Unpaired) (answers : List Judged) → Stand past → AreJudged Stand past a answers b → Stand (all_accepted past answers)
+  accepted_stand past a b [] stand same = stand
+  accepted_stand past a b (answer ∷ answers) stand (m, first, more) = accepted_stand (accepted_with past answer) m b answers (by answer first) more
+    where
+      by : (answer : Judged) → IsJudged Stand past a answer m → Stand (accepted_with past answer)
+      by (Accepted pair) (next, h) = h
+      by (Refused pair) (next, h) = stand
+      by (Unspelled index line initial block) (at, passed) = stand
+
+  -- and weigh no more than the octets that they take
+  pub accepted_weight : (past : List Paired) (a b : Unpaired) (answers : List Judged)
+      → AreJudged Stand past a answers b → weight (responses_of (all_accepted past answers)) + length b.server ≤ weight (responses_of past) + length a.server
+  accepted_weight past a b [] same = let e = ap (λ (u : Unpaired). length u.server) same in omega (arith, e)
+  accepted_weight past a b (answer ∷ answers) (m, first, more) =
+      let rest = accepted_weight (accepted_with past answer) m b answers more in
+      let one = by answer first in
+      omega (arith, rest, one)
+    where
+      by : (answer : Judged) → IsJudged Stand past a answer m → weight (responses_of (accepted_with past answer)) + length m.server ≤ weight (responses_of past) + length a.server
+      by (Accepted pair) (next, h) = weight_next past a m pair next
+      by (Refused pair) (next, h) = let less = next-shorter a m pair next in omega (arith, less)
+      by (Unspelled index line initial block) (at, passed) = let less = passed-shorter a m line initial block passed in omega (arith, less)
+
+  -- so those of both streams weigh no more than the server's octets
+  pub accepted_light : (client server : List ℕ) (answers : List Judged) (left : Unpaired) → AreJudged Stand [] (streams client server) answers left
+      → weight (responses_of (accepted_of answers)) ≤ length server
+  accepted_light client server answers left judged =
+      let most = accepted_weight [] (streams client server) left answers judged in
+      let same = ap (λ (pairs : List Paired). weight (responses_of pairs)) (accepted_behind [] answers) in
+      omega (arith, most, same)
+
+  -- where the connection is open, none of those that were accepted closed it
+  pub accepted_open : (past : List Paired) (a b : Unpaired) (answers : List Judged)
+      → (a.is_closed ≡ false → (visible_behind past).closed ≡ false) → AreJudged Stand past a answers b → b.is_closed ≡ false → (visible_behind (all_accepted past answers)).closed ≡ false
+  accepted_open past a b [] before same still = before (ap (λ (u : Unpaired). u.is_closed) same ∙ still)
+  accepted_open past a b (answer ∷ answers) before (m, first, more) still = accepted_open (accepted_with past answer) m b answers (by answer first) more still
+    where
+      by : (answer : Judged) → IsJudged Stand past a answer m → m.is_closed ≡ false → (visible_behind (accepted_with past answer)).closed ≡ false
+      by (Accepted pair) (next, h) is_open =
+          ap (λ (v : Visible). v.closed)
+          (ap (λ q. visible_from start.visible q.0 q.1) (ends past pair) ∙ visible_next (asked_of past) (responses_of past) (asked_at pair.line) pair.response (as_many past))
+          ∙ after-closes (visible_behind past) (asked_at pair.line) pair.response (before next.is_open) ∙ sym next.closing ∙ is_open
+      by (Refused pair) (next, h) is_open = before next.is_open
+      by (Unspelled index line initial block) (at, passed) is_open = before passed.is_open
+
+  -- ---- answers that are all accepted
+
+  -- they are pairs, one after the other, which stand; then this is left
+  pub record AcceptedFirst (past : List Paired) (a : Unpaired) (pairs : List Paired) (more : List Judged) (c : Unpaired) : Type 0 where
+    pub between : Unpaired
+    pub paired : AreNext a pairs between
+    pub stand : Stand (past ++ pairs)
+    pub rest : AreJudged Stand (past ++ pairs) between more c
+
+  pub accepted_first : (past : List Paired) (a c : Unpaired) (pairs : List Paired) (more : List Judged) → Stand past
+      → AreJudged Stand past a (map Accepted pairs ++ more) c → AcceptedFirst past a pairs more c
+  accepted_first past a c [] more stand judged = record {
+    between = a;
+    paired = refl;
+    stand = subst Stand (sym (append-nil past)) stand;
+    rest = subst (λ past. AreJudged Stand past a more c) (sym (append-nil past)) judged;
+  }
+  accepted_first past a c (pair ∷ pairs) more stand (m, (next, h), judged) =
+      let r = accepted_first (past ++ pair ∷ []) m c pairs more h judged in
+      let same = append_assoc past (pair ∷ []) pairs in
+      record {
+        between = r.between;
+        paired = (m, next, r.paired);
+        stand = subst Stand same r.stand;
+        rest = subst (λ past. AreJudged Stand past r.between more c) same r.rest;
+      }
+
+  -- the pairing ends as the reading does
+  pub all_paired : (client server : List ℕ) (pairs : List Paired) (ending : Ending) → Stand [] → IsReadingBy Stand client server (map Accepted pairs) ending
+      → IsPairing client server pairs ending × Stand pairs
+  all_paired client server pairs ending none reading =
+      let whole = subst (λ answers. AreJudged Stand [] (streams client server) answers reading.left) (sym (append-nil (map Accepted pairs))) reading.judged in
+      let r = accepted_first [] (streams client server) reading.left pairs [] none whole in
+      (record { left = reading.left; paired = subst (AreNext (streams client server) pairs) r.rest r.paired; ends = reading.ends }, r.stand)

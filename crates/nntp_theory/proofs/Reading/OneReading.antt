@@ -1,0 +1,104 @@
+-- Two streams have one reading, whatever decides which exchanges stand.
+use Rattle.std.proofs.Common.{◌≡◌, ◌≢◌, ◌⊎◌, ℕ, zero, suc, ◌+◌, ◌<◌, ◌≤◌, ◌^◌, List, [], ◌∷◌, ◌++◌, length, inl, inr, refl, sym, subst, ◌∙◌, arith}
+use Rattle.nntp_article.specs.declared.session.profile.Profile.{Profile}
+use Rattle.nntp_pair.specs.{declared.class.PairClass.TheVariants.{Surplus as PairSurplus, Cut as PairCut, Malformed as PairMalformed}, Pairing.{Paired}}
+use Rattle.nntp_pair.{specs.Pairing.{Unpaired, IsNext, Ending, end, bad, Ends, asked_of, responses_of, streams}, proofs.NextLemmas.{one-end}}
+use Rattle.nntp_pair.proofs.{NextDecided.{next-or-end}, PassedLemmas.{passed-exactly}}
+use Rattle.nntp_theory.specs.{Inner.Given.{weight}, Permitted.{exchanged, ArePermitted}, Reading.{Judged, Accepted, Refused, Unspelled, accepted_with}}
+use Rattle.nntp_theory.{specs.Reading.{IsJudged, AreJudged, IsReadingBy, IsReading}, proofs.Given.GivenSpoolExists.{some_or_none}}
+use Rattle.nntp_theory.proofs.{Given.SessionsByFacts.{permits_alone}, Ids.SizeOfASession.{session_size}, Reading.JudgedAnswers.{one_judged, judged_no_end}}
+use Rattle.nntp_theory.proofs.Reading.JudgedAnswers.{judged_shorter, weight_next, accepted_weight}
+
+module _ (Stand : List Paired → Type 0) where
+  -- ---- one at most
+
+  -- answers up to an end are determined
+  one_run : (past : List Paired) (a b c : Unpaired) (answers others : List Judged) (ending other : Ending)
+      → AreJudged Stand past a answers b → Ends b ending → ending ≢ bad PairMalformed
+      → AreJudged Stand past a others c → Ends c other → other ≢ bad PairMalformed → (answers ≡ others) × (b ≡ c)
+  one_run past a b c [] [] ending other p ends passed q also too = (refl, sym p ∙ q)
+  one_run past a b c [] (y ∷ others) ending other p ends passed (k, first, q) also too =
+      absurd (judged_no_end Stand past a k y ending first (subst (λ u. Ends u ending) (sym p) ends) passed)
+  one_run past a b c (x ∷ answers) [] ending other (m, first, p) ends passed q also too =
+      absurd (judged_no_end Stand past a m x other first (subst (λ u. Ends u other) (sym q) also) too)
+  one_run past a b c (x ∷ answers) (y ∷ others) ending other (m, first, p) ends passed (k, second, q) also too =
+      let one = one_judged Stand past a m k x y first second in
+      let here : AreJudged Stand (accepted_with past y) k answers b = subst (λ (t : Judged × Unpaired). AreJudged Stand (accepted_with past t.0) t.1 answers b) (λ i. (one.0 i, one.1 i)) p in
+      let rest = one_run (accepted_with past y) k b c answers others ending other here ends passed q also too in
+      ((λ i. one.0 i ∷ rest.0 i), rest.1)
+
+  -- two streams have one reading
+  pub one_reading : (client server : List ℕ) (answers others : List Judged) (ending other : Ending)
+      → IsReadingBy Stand client server answers ending → IsReadingBy Stand client server others other → (answers ≡ others) × (ending ≡ other)
+  one_reading client server answers others ending other x y =
+      let one = one_run [] (streams client server) x.left y.left answers others ending other x.judged x.ends x.passed_over y.judged y.ends y.passed_over in
+      (one.0, one-end ending other y.left (subst (λ u. Ends u ending) one.1 x.ends) y.ends)
+
+  -- ---- and one at least, where it is decided of exchanges that weigh no more than this
+
+  module _ (most : ℕ) (decided : (past : List Paired) → weight (responses_of past) ≤ most → Stand past ⊎ (Stand past → ⊥)) where
+    -- one more answer is judged
+    abbrev IsMore : List Paired → Unpaired → Type 0
+    IsMore past a = (answer : Judged) × (b : Unpaired) × IsJudged Stand past a answer b
+
+    -- a reading ends here
+    abbrev IsLast : Unpaired → Type 0
+    IsLast a = (ending : Ending) × Ends a ending × (ending ≢ bad PairMalformed)
+
+    -- a pair is accepted or refused
+    pair_judged : (past : List Paired) (a b : Unpaired) (pair : Paired) → weight (responses_of past) + length a.server ≤ most → IsNext a pair b → IsMore past a
+    pair_judged past a b pair small next =
+        let bound = weight_next past a b pair next in
+        elim (decided (past ++ pair ∷ []) (omega (arith, bound, small))) [
+          | inl h ↦ (Accepted pair, b, (next, h))
+          | inr none ↦ (Refused pair, b, (next, none))
+        ]
+
+    -- an end is one of the reading, or a frame is passed over
+    end_judged : (past : List Paired) (a : Unpaired) (ending : Ending) → Ends a ending → IsMore past a ⊎ IsLast a
+    end_judged past a (end unanswered) ends = inr (end unanswered, ends, λ e. cc)
+    end_judged past a (bad PairSurplus) ends = inr (bad PairSurplus, ends, λ e. cc)
+    end_judged past a (bad PairCut) ends = inr (bad PairCut, ends, λ e. cc)
+    end_judged past a (bad PairMalformed) ends = let some = (passed-exactly a).0 ends in inl (Unspelled a.index some.0 some.1 some.2, some.3, (refl, some.4))
+
+    -- so there is one answer more, or the reading ends
+    more_or_last : (past : List Paired) (a : Unpaired) → weight (responses_of past) + length a.server ≤ most → IsMore past a ⊎ IsLast a
+    more_or_last past a small = elim (next-or-end a) [
+      | inl (pair, b, next) ↦ inl (pair_judged past a b pair small next)
+      | inr (ending, ends) ↦ end_judged past a ending ends
+    ]
+
+    -- the reading from here on
+    abbrev HasReading : List Paired → Unpaired → Type 0
+    HasReading past a = (answers : List Judged) × (b : Unpaired) × AreJudged Stand past a answers b × IsLast b
+
+    -- each answer takes octets
+    read_on : (past : List Paired) (a : Unpaired) (steps : ℕ) → length a.server ≤ steps → weight (responses_of past) + length a.server ≤ most → HasReading past a
+    read_on past a zero short small = elim (more_or_last past a small) [
+      | inl (answer, b, is) ↦ absurd (let less = judged_shorter Stand past a b answer is in omega (arith, less, short))
+      | inr last ↦ ([], a, refl, last)
+    ]
+    read_on past a (suc steps) short small = elim (more_or_last past a small) [
+      | inl (answer, b, is) ↦
+          let less = judged_shorter Stand past a b answer is in
+          let light = accepted_weight Stand past a b (answer ∷ []) (b, is, refl) in
+          let rest = read_on (accepted_with past answer) b steps (omega (arith, less, short)) (omega (arith, light, small)) in
+          (answer ∷ rest.0, rest.1, (b, is, rest.2), rest.3)
+      | inr last ↦ ([], a, refl, last)
+    ]
+
+    -- two streams have a reading
+    pub some_reading_by : (client server : List ℕ) → length server ≤ most → (answers : List Judged) × (ending : Ending) × IsReadingBy Stand client server answers ending
+    some_reading_by client server small =
+        let r = read_on [] (streams client server) (length server) (omega arith) (omega (arith, small)) in
+        (r.0, r.3.0, record { left = r.1; judged = r.2; ends = r.3.1; passed_over = r.3.2 })
+
+-- it is decided whether some spool permits exchanges
+pub some_reading : (profile : Profile) (client server : List ℕ) → length server < 2 ^ 210 → (answers : List Judged) × (ending : Ending) × IsReading profile client server answers ending
+some_reading profile client server small = some_reading_by (ArePermitted profile) (length server) decided client server (omega arith)
+  where
+    decided : (past : List Paired) → weight (responses_of past) ≤ length server → ArePermitted profile past ⊎ (ArePermitted profile past → ⊥)
+    decided past light =
+        let all = session_size profile.marks (asked_of past) (responses_of past) in
+        elim (some_or_none profile (asked_of past) (responses_of past) (omega (arith, all, light, small)))
+        [ inl h ↦ inl ((permits_alone profile (exchanged past)).1 h) | inr none ↦ inr (λ h. none h.0 h.1 h.2.0) ]

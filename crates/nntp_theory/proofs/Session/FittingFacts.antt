@@ -1,0 +1,95 @@
+-- What the visible condition says of the facts of an answer.
+use Rattle.std.proofs.{Common.{◌≡◌, ◌==◌, ◌&&◌, ◌+◌, IsTrue, List, [], ◌∷◌, inl, inr, arith, ◌≤◌}, lemmas.Bool.{and_parts, or_cases, eqb-true, leb-true}}
+use Rattle.std.specs.{Prelude.{⊤, nat_le, ◌-◌}, List.{AllByRecursion}}
+use Rattle.nntp_article.specs.Session.{Spool.{Name}, Machine.{Visible, visible_after, start, fits, marks_fit, are_zeros, is_article_number, is_in_range}}
+use Rattle.nntp_article.specs.{Session.Machine.{head_fits, active_fits}, declared.session.profile.Profile.{Profile}}
+use Rattle.nntp_wire.specs.{Listing.{listed_numbers, active_groups}, Answer.{Asked, Response}, declared.water_marks.WaterMarks.{WaterMarks}}
+use Rattle.nntp_said.specs.{Asks.{position_after, Estimates, ListsIn, Has, StandsAt, StepsUp, StepsDown}, declared.position.Position.{Position}}
+use Rattle.nntp_said.specs.{declared.position.Position.TheVariants.{Nowhere}, Facts.{Fact, Asks, IdAt, TextIs, GroupsAre, facts_of, facts_from}}
+use Rattle.nntp_said.{specs.Inner.Facts.{FitsAll}, proofs.Rows.{Row, row, marks, listing, up, down, text, text_at, text_here, active}}
+use Rattle.nntp_theory.{specs.Given.{facts_of_session}, proofs.Members.{all_both, all_from, each_of}}
+
+-- marks and numbers are within the limit, a low mark of 0 estimates no number, a text has the parts that were asked for, and listed groups match
+abbrev pub IsFitting : Profile → Fact → Type 0
+IsFitting profile (Asks name (Estimates how m)) = (m.high ≤ profile.limit) × (m.low ≡ 0 → m.estimate ≡ 0)
+IsFitting profile (Asks name (ListsIn r ns)) = AllByRecursion (λ n. IsTrue (is_article_number profile.limit n)) ns
+IsFitting profile (Asks name (Has n)) = IsTrue (is_article_number profile.limit n)
+IsFitting profile (Asks name (StandsAt at n)) = IsTrue (is_article_number profile.limit n)
+IsFitting profile (Asks name (StepsUp at n)) = IsTrue (is_article_number profile.limit n)
+IsFitting profile (Asks name (StepsDown at n)) = IsTrue (is_article_number profile.limit n)
+IsFitting profile (IdAt name n id) = IsTrue (is_article_number profile.limit n)
+IsFitting profile (TextIs what id lines) = IsTrue (head_fits what id lines)
+IsFitting profile (GroupsAre p lines) = AllByRecursion (λ line. IsTrue (active_fits profile p line)) lines
+IsFitting profile fact = ⊤
+
+-- the high mark is within the limit
+marks_within : (profile : Profile) (v : Visible) (name : Name) (m : WaterMarks) → IsTrue (marks_fit profile v name m) → m.high ≤ profile.limit
+marks_within profile v name m f =
+    elim (or_cases (are_zeros m) _ f) [
+      | inl z ↦ (let zero = eqb-true m.high 0 (and_parts (m.low == 0) (m.high == 0) (and_parts (m.estimate == 0) _ z).1).1 in omega arith)
+      | inr r ↦
+          let room = nat_le m.low (m.high + 1) in
+          let within = nat_le 1 m.low && nat_le m.high profile.limit in
+          let a = (and_parts (within && room && nat_le m.estimate (m.high + 1 - m.low)) _ r).0 in
+          let b = (and_parts (within && room) _ a).0 in
+          leb-true m.high profile.limit (and_parts (nat_le 1 m.low) _ (and_parts within _ b).0).1
+    ]
+
+-- where the low mark is 0, so is the estimate
+marks_of_none : (profile : Profile) (v : Visible) (name : Name) (m : WaterMarks) → IsTrue (marks_fit profile v name m) → m.low ≡ 0 → m.estimate ≡ 0
+marks_of_none profile v name m f zero =
+    elim (or_cases (are_zeros m) _ f) [
+      | inl z ↦ eqb-true m.estimate 0 (and_parts (m.estimate == 0) _ z).0
+      | inr r ↦
+          let room = nat_le m.low (m.high + 1) in
+          let within = nat_le 1 m.low && nat_le m.high profile.limit in
+          let a = (and_parts (within && room && nat_le m.estimate (m.high + 1 - m.low)) _ r).0 in
+          let b = (and_parts (within && room) _ a).0 in
+          let low = leb-true 1 m.low (and_parts (nat_le 1 m.low) _ (and_parts within _ b).0).0 in
+          absurd (omega arith)
+    ]
+
+-- marks fit
+marks_fitting : (profile : Profile) (v : Visible) (name : Name) (m : WaterMarks) → IsTrue (marks_fit profile v name m) → IsFitting profile (Asks name (Estimates profile.marks m))
+marks_fitting profile v name m f = (marks_within profile v name m f, marks_of_none profile v name m f)
+
+-- a row whose condition holds
+row_fitting : {profile : Profile} {v : Visible} {at : Position} {Fits : Type 0} {a : Response} {facts : List Fact} → Row profile v at Fits a facts → Fits → AllByRecursion (IsFitting profile) facts
+row_fitting {profile} {v} (marks m name known) f = (tt, (marks_fitting profile v name m (known f), tt))
+row_fitting {profile} {v} (listing m name range lines known) f =
+    let ns = listed_numbers lines in (
+      tt,
+      (
+        marks_fitting profile v name m (known f).0,
+        (
+          all_from (λ n. IsTrue (is_article_number profile.limit n)) ns
+              (λ n i. (and_parts (is_article_number profile.limit n) _ (each_of (λ n. is_article_number profile.limit n && is_in_range range n) ns n (known f).1.1 i)).0),
+          tt,
+        ),
+      ),
+    )
+row_fitting (up s known) f = ((known f).1, ((known f).1, tt))
+row_fitting (down s known) f = ((known f).1, ((known f).1, tt))
+row_fitting (text what s known) f = (known f, tt)
+row_fitting (text_at what s known) f = ((known f).0, ((known f).1.1, tt))
+row_fitting (text_here what s known) f = ((known f).0, ((known f).1.1, ((known f).1.1, tt)))
+row_fitting {profile} (active p lines known) f =
+    (all_from (λ line. IsTrue (active_fits profile p line)) (active_groups lines) (λ line i. each_of (active_fits profile p) (active_groups lines) line (known f).0 i), tt)
+row_fitting r f = assumption
+
+-- what an answer that fits says
+pub answer_fitting : (profile : Profile) (v : Visible) (at : Position) (p : Asked) (a : Response) → IsTrue (fits profile v p a) → AllByRecursion (IsFitting profile) (facts_of profile.marks v at p a)
+answer_fitting profile v at p a = row_fitting (row profile v at p a)
+
+-- what answers that fit say, from any state on
+from_fitting : (profile : Profile) (v : Visible) (at : Position) (ps : List Asked) (answers : List Response)
+    → FitsAll profile v ps answers → AllByRecursion (IsFitting profile) (facts_from profile.marks v at ps answers)
+from_fitting profile v at [] answers f = tt
+from_fitting profile v at (p ∷ ps) [] f = tt
+from_fitting profile v at (p ∷ ps) (a ∷ more) f =
+    all_both (IsFitting profile) (facts_of profile.marks v at p a) _ (answer_fitting profile v at p a f.1) (from_fitting profile (visible_after v p a) (position_after at p a) ps more f.2)
+
+-- what a session that fits says
+pub session_fitting : (profile : Profile) (ps : List Asked) (answers : List Response) → FitsAll profile start.visible ps answers
+    → AllByRecursion (IsFitting profile) (facts_of_session profile.marks ps answers)
+session_fitting profile ps answers f = from_fitting profile start.visible Nowhere ps answers f

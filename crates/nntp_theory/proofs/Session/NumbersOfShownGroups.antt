@@ -1,0 +1,98 @@
+-- What a session says of numbers, it says of groups that it shows.
+use Rattle.nntp_wire.specs.{declared.{marks.Marks.{Marks}, water_marks.WaterMarks.{WaterMarks}}, Answer.{Asked, Response, to, group_is, numbers_are}}
+use Rattle.nntp_wire.specs.Command.{group, list_group}
+use Rattle.std.{proofs.Common.{◌≡◌, IsTrue, List, [], ◌∷◌, Option, None, Some, is_some, refl, subst}, specs.{Prelude.{unwrap_or, ⊤}, List.{AllByRecursion}}}
+use Rattle.nntp_article.specs.{Session.{Spool.{Name}, Machine.{Visible, visible_after, start, fits}}, declared.session.profile.Profile.{Profile}}
+use Rattle.nntp_said.specs.{Asks.{position_after, Estimates}, declared.position.Position.{Position, TheVariants.{Nowhere}}, Facts.{Fact, ThereIs, Asks, IdAt}}
+use Rattle.nntp_said.{specs.{Facts.{here, facts_of, facts_from}, Inner.Facts.{FitsAll}}, proofs.Rows.{Row, row, nowhere, top, bottom, lacks, marks, listing}}
+use Rattle.nntp_said.proofs.Rows.{up, down, text_at, text_here}
+use Rattle.nntp_theory.{specs.Given.{facts_of_session}, proofs.Members.{In, all_both, all_front, all_back, all_from}}
+
+-- a 211 said that there is such a group, with its marks, which are read so
+pub record IsSelectable (how : Marks) (all : List Fact) (name : Name) : Type 0 where
+  pub marks : WaterMarks
+  pub there : In (ThereIs name) all
+  pub estimated : In (Asks name (Estimates how marks)) all
+
+-- the fact is among all
+abbrev pub Among : List Fact → Fact → Type 0
+Among all fact = In fact all
+
+-- numbers that a fact speaks of are those of such a group
+abbrev pub Placed : Marks → List Fact → Fact → Type 0
+Placed how all (ThereIs name) = IsSelectable how all name
+Placed how all (Asks name ask) = IsSelectable how all name
+Placed how all (IdAt name n id) = IsSelectable how all name
+Placed how all fact = ⊤
+
+-- the facts of a 211
+pub selectable : (how : Marks) (all : List Fact) (name : Name) (m : WaterMarks) → AllByRecursion (Among all) (ThereIs name ∷ Asks name (Estimates how m) ∷ []) → IsSelectable how all name
+selectable how all name m h = record { marks = m; there = h.0; estimated = h.1.0 }
+
+-- the selected group is one
+abbrev pub HasNoted : Marks → List Fact → Visible → Type 0
+HasNoted how all v = (name : Name) → v.selected ≡ Some name → IsSelectable how all name
+
+-- the selected group, if one is selected, is there
+here_stands : (how : Marks) (all : List Fact) (v : Visible) → HasNoted how all v → IsTrue (is_some v.selected) → IsSelectable how all (here v)
+here_stands how all v stands some = by v.selected refl some
+  where
+    by : (o : Option Name) → v.selected ≡ o → IsTrue (is_some o) → IsSelectable how all (unwrap_or o [])
+    by None e h = cc
+    by (Some name) e h = stands name e
+
+-- what a row whose condition holds says of numbers, it says of a group that is there
+row_placed : {profile : Profile} {v : Visible} {at : Position} {Fits : Type 0} {a : Response} {facts : List Fact} (all : List Fact) → Row profile v at Fits a facts → Fits
+    → HasNoted profile.marks all v → AllByRecursion (Among all) facts → AllByRecursion (Placed profile.marks all) facts
+row_placed {profile} {v} all (nowhere code known) f stands h = (here_stands profile.marks all v stands (known f), tt)
+row_placed {profile} {v} all (top code known) f stands h = (here_stands profile.marks all v stands (known f), tt)
+row_placed {profile} {v} all (bottom code known) f stands h = (here_stands profile.marks all v stands (known f), tt)
+row_placed {profile} {v} all (lacks code n known) f stands h = (here_stands profile.marks all v stands (known f), tt)
+row_placed {profile} all (marks m name known) f stands h = let g = selectable profile.marks all name m h in (g, (g, tt))
+row_placed {profile} all (listing m name range lines known) f stands h = let g = selectable profile.marks all name m (h.0, (h.1.0, tt)) in (g, (g, (g, tt)))
+row_placed {profile} {v} all (up s known) f stands h = let g = here_stands profile.marks all v stands (known f).0 in (g, (g, tt))
+row_placed {profile} {v} all (down s known) f stands h = let g = here_stands profile.marks all v stands (known f).0 in (g, (g, tt))
+row_placed {profile} {v} all (text_at what s known) f stands h = (tt, (here_stands profile.marks all v stands (known f).1.0, tt))
+row_placed {profile} {v} all (text_here what s known) f stands h = let g = here_stands profile.marks all v stands (known f).1.0 in (tt, (g, (g, tt)))
+row_placed all r f stands h = assumption
+
+-- so does an answer that fits
+step_placed : (profile : Profile) (all : List Fact) (v : Visible) (at : Position) (p : Asked) (a : Response)
+    → HasNoted profile.marks all v → IsTrue (fits profile v p a) → AllByRecursion (Among all) (facts_of profile.marks v at p a)
+    → AllByRecursion (Placed profile.marks all) (facts_of profile.marks v at p a)
+step_placed profile all v at p a stands f = row_placed all (row profile v at p a) f stands
+
+-- the group that is selected afterwards is there
+pub still_stands : (profile : Profile) (all : List Fact) (v : Visible) (at : Position) (p : Asked) (a : Response)
+    → HasNoted profile.marks all v → IsTrue (fits profile v p a) → AllByRecursion (Among all) (facts_of profile.marks v at p a)
+    → HasNoted profile.marks all (visible_after v p a)
+still_stands profile all v at (to (group word)) (group_is m name) stands f h = λ g e. subst (IsSelectable profile.marks all) (cc) (selectable profile.marks all name m h)
+still_stands profile all v at p (group_is m name) stands f h = cc
+still_stands profile all v at (to (list_group word range)) (numbers_are m name lines) stands f h = λ g e. subst
+    (IsSelectable profile.marks all) (cc) (selectable profile.marks all name m (h.0, (h.1.0, tt)))
+still_stands profile all v at p (numbers_are m name lines) stands f h = cc
+still_stands profile all v at p a stands f h = stands
+
+-- the same of all that a session says, from any state on
+all_placed : (profile : Profile) (all : List Fact) (v : Visible) (at : Position) (ps : List Asked) (answers : List Response)
+    → HasNoted profile.marks all v → FitsAll profile v ps answers
+    → AllByRecursion (Among all) (facts_from profile.marks v at ps answers)
+    → AllByRecursion (Placed profile.marks all) (facts_from profile.marks v at ps answers)
+all_placed profile all v at [] answers stands f h = tt
+all_placed profile all v at (p ∷ ps) [] stands f h = tt
+all_placed profile all v at (p ∷ ps) (a ∷ more) stands f h =
+    let front = all_front (Among all) (facts_of profile.marks v at p a) (facts_from profile.marks (visible_after v p a) (position_after at p a) ps more) h in
+    all_both (Placed profile.marks all) (facts_of profile.marks v at p a) _ (step_placed profile all v at p a stands f.1 front)
+    (all_placed profile all (visible_after v p a) (position_after at p a) ps more (still_stands profile all v at p a stands f.1 front) f.2 (all_back (Among all) (facts_of profile.marks v at p a) _ h))
+
+-- in a session that fits, what is said of numbers is said of groups that a 211 selected, whatever else is said
+pub placed_among : (profile : Profile) (all : List Fact) (ps : List Asked) (answers : List Response) → FitsAll profile start.visible ps answers
+    → AllByRecursion (Among all) (facts_of_session profile.marks ps answers) → AllByRecursion (Placed profile.marks all) (facts_of_session profile.marks ps answers)
+placed_among profile all ps answers f h = all_placed profile all start.visible Nowhere ps answers (λ name e. cc) f h
+
+pub session_placed : (profile : Profile) (ps : List Asked) (answers : List Response) → FitsAll profile start.visible ps answers
+    → AllByRecursion (Placed profile.marks (facts_of_session profile.marks ps answers))
+    (facts_of_session profile.marks ps answers)
+session_placed profile ps answers f =
+    let all = facts_of_session profile.marks ps answers in
+    placed_among profile all ps answers f (all_from (Among all) all (λ fact i. i))

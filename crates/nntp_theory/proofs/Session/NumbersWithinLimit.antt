@@ -1,0 +1,128 @@
+-- The numbers of a group are within the limit.
+use Rattle.std.proofs.lemmas.Bool.{true≢false, and_parts, or_cases, or_right, eqb-true, leb-true, lt-ltb, cases_lt, cases_eq, false_from_ne_true}
+use Rattle.std.proofs.{lemmas.Bool.Decides.{nat_tests}, Common.{◌≡◌, ℕ, ◌≤◌, ◌<◌, Bool, true, false, cond, ◌&&◌, ◌||◌, ◌==◌, ◌+◌, IsTrue, List, [], ◌∷◌}}
+use Rattle.std.{proofs.Common.{Option, inl, inr, refl, sym, subst, ◌∙◌, arith}, specs.{Prelude.{IsFalse, nat_le, nat_lt}, List.{AllByRecursion, list_any}}}
+use Rattle.std.specs.Cmp.Lexicographic.{same_text}
+use Rattle.nntp_theory.specs.{Inner.Estimates.{estimate_in, is_within}, Given.{is_shown_group, asks_in, asks_of, shows, denies, is_shown, is_denied}}
+use Rattle.nntp_theory.{specs.Given.{shows_group, is_end}, proofs.Members.{In, all_at, any_in, found_in, to_flat, from_flat}}
+use Rattle.nntp_theory.proofs.{Together.FactsOfASpoolStand.{same_itself}, Session.{NumbersOfShownGroups.{IsSelectable, Placed}, FittingFacts.{IsFitting}}}
+use Rattle.nntp_wire.specs.{declared.marks.Marks.{Marks, TheVariants.{Strict}}, Listing.{ActiveValue}}
+use Rattle.nntp_article.specs.{Session.{Spool.{Name}, Machine.{is_same, is_article_number, active_fits}}, declared.session.profile.Profile.{Profile}}
+use Rattle.nntp_said.specs.{Asks.{Ask, Estimates, Bounds, ListsIn, Has, StandsAt, StepsUp, StepsDown}, declared.position.Position.TheVariants.{First}}
+use Rattle.nntp_said.specs.Facts.{Fact, ThereIs, Asks, IdAt, GroupsAre}
+
+module _ (profile : Profile) (facts : List Fact) (how : Marks) (fitting : AllByRecursion (IsFitting profile) facts) (placed : AllByRecursion (Placed how facts) facts) where
+  fits : (fact : Fact) → In fact facts → IsFitting profile fact
+  fits fact i = all_at (IsFitting profile) fact facts fitting i
+
+  -- what the asks of one fact deny is denied
+  denied_by : (name : Name) (fact : Fact) → In fact facts → (ask : Ask) → In ask (asks_in name fact) → (n : ℕ) → denies ask n ≡ true → is_denied (asks_of name facts) n ≡ true
+  denied_by name fact i ask j n d = any_in (λ ask. denies ask n) ask (asks_of name facts) (to_flat (asks_in name) fact ask facts i j) d
+
+  -- an ask under its own test
+  in_own : (name : Name) (ask : Ask) → In ask (cond (is_same name name) (ask ∷ []) [])
+  in_own name ask = subst (λ b. In ask (cond b (ask ∷ []) [])) (sym (same_itself name)) (inl refl)
+
+  -- the marks of a listed group are within the limit
+  line_within : (p : Option (List ℕ)) (line : ActiveValue) → IsTrue (active_fits profile p line) → line.high ≤ profile.limit
+  line_within p line f =
+      let zeros = line.low == 0 && line.high == 0 in
+      let low = nat_le 1 line.low && nat_le line.low (line.high + 1) in
+      elim (or_cases zeros (low && nat_le line.high profile.limit) (and_parts (zeros || (low && nat_le line.high profile.limit)) _ f).0) [
+        | inl z ↦ (let zero = eqb-true line.high 0 (and_parts (line.low == 0) _ z).1 in omega arith)
+        | inr r ↦ leb-true line.high profile.limit (and_parts low _ r).1
+      ]
+
+  -- what is above the limit is denied
+  above_denied : (name : Name) → IsTrue (is_shown_group facts name) → (n : ℕ) → profile.limit < n → is_denied (asks_of name facts) n ≡ true
+  above_denied name i n above = let f = found_in (shows_group name) facts i in by f.0 f.1 f.2
+    where
+      by : (fact : Fact) → In fact facts → shows_group name fact ≡ true → is_denied (asks_of name facts) n ≡ true
+      by (ThereIs g) j t =
+          let g' : IsSelectable how facts name = subst (IsSelectable how facts) (same_text g name (sym t)) (all_at (Placed how facts) (ThereIs g) facts placed j) in
+          let most : g'.marks.high ≤ profile.limit = (fits (Asks name (Estimates how g'.marks)) g'.estimated).0 in
+          denied_by name (Asks name (Estimates how g'.marks)) g'.estimated (Estimates how g'.marks)
+          (in_own name (Estimates how g'.marks)) n (or_right (nat_lt n g'.marks.low) _ (lt-ltb g'.marks.high n (omega arith)))
+      by (GroupsAre p lines) j t =
+          let f = found_in (λ line. is_same line.name name) lines t in
+          let most = line_within p f.0 (all_at (λ line. IsTrue (active_fits profile p line)) f.0 lines (fits (GroupsAre p lines) j) f.1) in
+          let bounds = Bounds f.0.low f.0.high in
+          denied_by name (GroupsAre p lines) j bounds
+          (to_flat (λ (line : ActiveValue). cond (is_same line.name name) (Bounds line.low line.high ∷ []) []) f.0 bounds lines
+          f.1 (subst (λ b. In bounds (cond b (bounds ∷ []) [])) (sym f.2) (inl refl)))
+          n (or_right (nat_lt n f.0.low) _ (lt-ltb f.0.high n (omega arith)))
+      by fact j t = cc
+
+  -- a number that an ask shows is one
+  num_of : (name : Name) (ask : Ask) (n : ℕ) → IsFitting profile (Asks name ask) → shows ask n ≡ true → IsTrue (is_article_number profile.limit n)
+  num_of name (ListsIn r ns) n h t = let f = found_in (λ m. n == m) ns t in subst
+      (λ n. IsTrue (is_article_number profile.limit n)) (sym (eqb-true n f.0 f.2))
+      (all_at (λ n. IsTrue (is_article_number profile.limit n)) f.0 ns h f.1)
+  num_of name (Has m) n h t = subst (λ n. IsTrue (is_article_number profile.limit n)) (eqb-true m n t) h
+  num_of name (StandsAt First m) n h t = subst (λ n. IsTrue (is_article_number profile.limit n)) (eqb-true m n t) h
+  num_of name (StepsUp at m) n h t = subst (λ n. IsTrue (is_article_number profile.limit n)) (eqb-true m n t) h
+  num_of name (StepsDown at m) n h t = subst (λ n. IsTrue (is_article_number profile.limit n)) (eqb-true m n t) h
+  num_of name ask n h t = cc
+
+  -- a number that is shown is one
+  shown_num : (name : Name) (n : ℕ) → IsTrue (is_shown (asks_of name facts) n) → IsTrue (is_article_number profile.limit n)
+  shown_num name n t =
+      let f = found_in (λ ask. shows ask n) (asks_of name facts) t in
+      let g = from_flat (asks_in name) f.0 facts f.1 in
+      by g.0 (fits g.0 g.1) f.0 g.2 f.2
+    where
+      only : (b : Bool) (x ask : Ask) → In ask (cond b (x ∷ []) []) → x ≡ ask
+      only true x ask i = elim i [ inl e ↦ e | inr j ↦ absurd j ]
+      only false x ask i = absurd i
+
+      by : (fact : Fact) → IsFitting profile fact → (ask : Ask) → In ask (asks_in name fact) → shows ask n ≡ true → IsTrue (is_article_number profile.limit n)
+      by (Asks g x) h ask i t = num_of g x n h (subst (λ a. shows a n ≡ true) (sym (only (is_same g name) x ask i)) t)
+      by (IdAt g m id) h ask i t = num_of g (Has m) n h (subst (λ a. shows a n ≡ true) (sym (only (is_same g name) (Has m) ask i)) t)
+      by (GroupsAre p lines) h ask i t =
+          let f = from_flat (λ (line : ActiveValue). cond (is_same line.name name) (Bounds line.low line.high ∷ []) []) ask lines i in
+          let none = subst (λ a. shows a n ≡ true) (sym (only (is_same f.0.name name) (Bounds f.0.low f.0.high) ask f.2)) t in
+          absurd (true≢false (sym none))
+      by fact h ask i t = absurd i
+
+  -- a strict mark that isn't denied is one, where there is a number
+  num_of_end : (name : Name) (ask : Ask) (n count : ℕ) → IsFitting profile (Asks name ask) → is_end ask n ≡ true
+      → IsTrue (is_within (estimate_in ask) count) → 1 ≤ count → IsFalse (denies ask n) → (1 ≤ n) × (n ≤ profile.limit)
+  num_of_end name (Estimates Strict m) n count h t few some free =
+      let within : count ≤ m.estimate = leb-true count m.estimate few in
+      let low : 1 ≤ m.low = (elim (cases_eq m.low 0) [ inl z ↦ (let e = h.1 z in absurd (omega arith)) | inr ne ↦ omega arith ]) in
+      let most = h.0 in
+      (grind (arith, nat_tests), grind (arith, nat_tests))
+  num_of_end name ask n count h t few some free = cc
+
+  -- and so is one of all
+  pub end_in_limit : (name : Name) (n count : ℕ) → IsTrue (list_any (λ ask. is_end ask n) (asks_of name facts))
+      → ((ask : Ask) → In ask (asks_of name facts) → IsTrue (is_within (estimate_in ask) count)) → 1 ≤ count
+      → IsFalse (is_denied (asks_of name facts) n) → (1 ≤ n) × (n ≤ profile.limit)
+  end_in_limit name n count t few some free =
+      let f = found_in (λ ask. is_end ask n) (asks_of name facts) t in
+      let g = from_flat (asks_in name) f.0 facts f.1 in
+      let not_denied : IsFalse (denies f.0 n) = false_from_ne_true _ (λ d. true≢false (sym (any_in (λ ask. denies ask n) f.0 (asks_of name facts) f.1 d) ∙ free)) in
+      by g.0 (fits g.0 g.1) f.0 g.2 f.2 (few f.0 f.1) not_denied
+    where
+      only : (b : Bool) (x ask : Ask) → In ask (cond b (x ∷ []) []) → x ≡ ask
+      only true x ask i = elim i [ inl e ↦ e | inr j ↦ absurd j ]
+      only false x ask i = absurd i
+
+      by : (fact : Fact) → IsFitting profile fact → (ask : Ask) → In ask (asks_in name fact) → is_end ask n ≡ true
+          → IsTrue (is_within (estimate_in ask) count) → IsFalse (denies ask n) → (1 ≤ n) × (n ≤ profile.limit)
+      by (Asks g x) h ask i t few free =
+          let same = only (is_same g name) x ask i in
+          num_of_end g ask n count (subst (λ a. IsFitting profile (Asks g a)) same h) t few some free
+      by (IdAt g m id) h ask i t few free = absurd (true≢false (sym (subst (λ a. is_end a n ≡ true) (sym (only (is_same g name) (Has m) ask i)) t)))
+      by (GroupsAre p lines) h ask i t few free =
+          let f = from_flat (λ (line : ActiveValue). cond (is_same line.name name) (Bounds line.low line.high ∷ []) []) ask lines i in
+          absurd (true≢false (sym (subst (λ a. is_end a n ≡ true) (sym (only (is_same f.0.name name) (Bounds f.0.low f.0.high) ask f.2)) t)))
+      by fact h ask i t few free = absurd i
+
+  -- so a number that isn't denied is within it
+  pub free_in_limit : (name : Name) → IsTrue (is_shown_group facts name) → (n : ℕ) → IsFalse (is_denied (asks_of name facts) n) → n ≤ profile.limit
+  free_in_limit name i n free = elim (cases_lt profile.limit n) [ inl l ↦ absurd (true≢false (sym (above_denied name i n l) ∙ free)) | inr le ↦ le ]
+
+  -- and so is one that is shown
+  pub shown_in_limit : (name : Name) (n : ℕ) → IsTrue (is_shown (asks_of name facts) n) → (1 ≤ n) × (n ≤ profile.limit)
+  shown_in_limit name n t = let num = and_parts (nat_le 1 n) _ (shown_num name n t) in (leb-true 1 n num.0, leb-true n profile.limit num.1)

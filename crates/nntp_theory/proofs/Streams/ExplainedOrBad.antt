@@ -1,0 +1,223 @@
+-- Of the spools with some property one explains two streams, or exactly one answer is bad.
+use Rattle.std.{specs.Prelude.{⊤}, proofs.Common.{◌≡◌, ◌≢◌, ℕ, zero, suc, ◌+◌, ◌<◌, ◌≤◌, ◌^◌, ◌⊎◌, List, [], ◌∷◌, ◌++◌, length, take, inl, inr, refl, sym, ap}}
+use Rattle.std.proofs.{Common.{subst, ◌∙◌, arith, length-append, append_assoc}, Math.Seq.{take-length}, lemmas.Bool.{cases_lt, cases_order}}
+use Rattle.std.proofs.lemmas.List.{append_cancel_left, length-take, nil_from_length}
+use Rattle.nntp_article.specs.Session.{Spool.{Spool, IsSpool}, Machine.{Run, start}, Explains.{ExplainsUpTo, Explains, ExplainsFirst, BadAmong, Bad}}
+use Rattle.nntp_article.specs.declared.session.profile.Profile.{Profile}
+use Rattle.nntp_wire.{specs.{Session.{Spelled, prompts_of}, Answer.{Asked, Response, Spells}}, proofs.SpellsDecided.{one-spelling, some-spelling}}
+use Rattle.nntp_theory.{specs.Inner.Given.{weight}, proofs.{Ids.SizeOfASession.{session_size}, Given.FirstBadAnswer.{run_fewer, none_permitted, holds_or_ends}}}
+use Rattle.nntp_theory.proofs.Given.GivenSpoolExists.{some_or_none}
+use Rattle.nntp_pair.proofs.PairLemmas.{lines-few}
+
+-- ---- octets read as far as they spell answers
+
+-- the longest list of answers that the octets begin with
+record Reading (ps : List Asked) (octets : List ℕ) : Type 0 where
+  answers : List Response
+  spelled : List ℕ
+  rest : List ℕ
+  is : Spelled ps answers spelled
+  whole : octets ≡ spelled ++ rest
+  longest : (others : List Response) (sp more : List ℕ) → Spelled ps others sp → octets ≡ sp ++ more → length others ≤ length answers
+
+-- the octets are read as far as they spell answers
+read : (ps : List Asked) (octets : List ℕ) → Reading ps octets
+read [] octets = record { answers = []; spelled = []; rest = octets; is = refl; whole = refl; longest = none }
+  where
+    none : (others : List Response) (sp more : List ℕ) → Spelled [] others sp → octets ≡ sp ++ more → length others ≤ 0
+    none [] sp more s e = omega arith
+    none (a ∷ others) sp more s e = absurd s
+read (p ∷ ps) octets = by (some-spelling p octets) (read ps)
+  where
+    by : ((a : Response) × (b : List ℕ) × (rest : List ℕ) × Spells p a b × (octets ≡ b ++ rest)) ⊎ ((a : Response) (b rest : List ℕ) → Spells p a b → octets ≡ b ++ rest → ⊥)
+        → ((rest : List ℕ) → Reading ps rest) → Reading (p ∷ ps) octets
+    by (inr never) rec = record { answers = []; spelled = []; rest = octets; is = refl; whole = refl; longest = none }
+      where
+        none : (others : List Response) (sp more : List ℕ) → Spelled (p ∷ ps) others sp → octets ≡ sp ++ more → length others ≤ 0
+        none [] sp more s e = omega arith
+        none (a ∷ others) sp more (b, rest, s, more_spelled, whole) e = absurd (never a b (rest ++ more) s (e ∙ ap (λ sp. sp ++ more) whole ∙ append_assoc b rest more))
+    by (inl (a, b, rest, s, e)) rec =
+        let r = rec rest in
+        record {
+          answers = a ∷ r.answers;
+          spelled = b ++ r.spelled;
+          rest = r.rest;
+          is = (b, r.spelled, s, r.is, refl);
+          whole = e ∙ ap (λ rest. b ++ rest) r.whole ∙ sym (append_assoc b r.spelled r.rest);
+          longest = longer r;
+        }
+      where
+        longer : (r : Reading ps rest) (others : List Response) (sp more : List ℕ) → Spelled (p ∷ ps) others sp → octets ≡ sp ++ more → length others ≤ length (a ∷ r.answers)
+        longer r [] sp more t f = omega arith
+        longer r (c ∷ others) sp more (d, tail, t, tail_spelled, whole) f =
+            let split : octets ≡ d ++ (tail ++ more) = f ∙ ap (λ sp. sp ++ more) whole ∙ append_assoc d tail more in
+            let same = one-spelling p a c b d rest (tail ++ more) s t (sym e ∙ split) in
+            let left : b ++ rest ≡ b ++ (tail ++ more) = sym e ∙ split ∙ ap (λ d. d ++ (tail ++ more)) (sym same.1) in
+            let le = r.longest others tail more tail_spelled (append_cancel_left b rest (tail ++ more) left) in
+            omega arith
+
+-- of two readings the shorter is the front of the longer
+same_front : (ps : List Asked) (answers others : List Response) (sp tp rest more : List ℕ) → Spelled ps answers sp → Spelled ps others tp → sp ++ rest ≡ tp ++ more → length answers ≤ length others
+    → (answers ≡ take (length answers) others) × (length sp ≤ length tp)
+same_front ps [] others sp tp rest more s t e le = (refl, let none = ap length s in omega arith)
+same_front [] (a ∷ answers) others sp tp rest more s t e le = absurd s
+same_front (p ∷ ps) (a ∷ answers) [] sp tp rest more s t e le = absurd (omega arith)
+same_front (p ∷ ps) (a ∷ answers) (c ∷ others) sp tp rest more (b, tail, s, ss, whole) (d, tail', t, ts, whole') e le =
+    let split : b ++ (tail ++ rest) ≡ d ++ (tail' ++ more) = sym (append_assoc b tail rest) ∙ ap (λ sp. sp ++ rest) (sym whole) ∙ e ∙ ap (λ tp. tp ++ more) whole' ∙ append_assoc d tail' more in
+    let same = one-spelling p a c b d (tail ++ rest) (tail' ++ more) s t split in
+    let left = append_cancel_left b (tail ++ rest) (tail' ++ more) (split ∙ ap (λ d. d ++ (tail' ++ more)) (sym same.1)) in
+    let r = same_front ps answers others tail tail' rest more ss ts left (omega arith) in
+    let m = ap length whole ∙ length-append b tail in
+    let n = ap length whole' ∙ length-append d tail' in
+    let o = ap length same.1 in
+    let q = r.1 in
+    ((λ i. same.0 i ∷ r.0 i), omega arith)
+
+-- the first answers of a reading, and what is left behind them
+first_spelled : (ps : List Asked) (answers : List Response) (sp : List ℕ) (n : ℕ) → Spelled ps answers sp → n ≤ length answers
+    → (front : List ℕ) × (rest : List ℕ) × Spelled ps (take n answers) front × (sp ≡ front ++ rest) × (n < length answers → 0 < length rest)
+first_spelled ps [] sp zero s le = ([], sp, refl, refl, λ l. absurd (omega arith))
+first_spelled ps [] sp (suc n) s le = absurd (omega arith)
+first_spelled [] (a ∷ answers) sp n s le = absurd s
+first_spelled (p ∷ ps) (a ∷ answers) sp zero (b, tail, s, ss, whole) le =
+    ([], sp, refl, refl, λ l. let long = lines-few p a b s in let m = ap length whole ∙ length-append b tail in omega arith)
+first_spelled (p ∷ ps) (a ∷ answers) sp (suc n) (b, tail, s, ss, whole) le =
+    let r = first_spelled ps answers tail n ss (omega arith) in
+    (b ++ r.0, r.1, (b, r.0, s, r.2, refl), whole ∙ ap (λ t. b ++ t) r.3 ∙ sym (append_assoc b r.0 r.1), λ l. r.4 (omega arith))
+
+-- answers weigh no more than their octets
+pub light : (ps : List Asked) (answers : List Response) (sp : List ℕ) → Spelled ps answers sp → weight answers ≤ length sp
+light ps [] sp s = omega arith
+light [] (a ∷ answers) sp s = absurd s
+light (p ∷ ps) (a ∷ answers) sp (b, tail, s, ss, whole) =
+    let rest = light ps answers tail ss in
+    let long = lines-few p a b s in
+    let m = ap length whole ∙ length-append b tail in
+    omega arith
+
+-- who explains m answers explains fewer
+pub first_explained : (profile : Profile) (S : Spool) (client server : List ℕ) (n m : ℕ) (rest : List ℕ) → n ≤ m
+    → ExplainsUpTo profile S client server m rest → (left : List ℕ) × ExplainsUpTo profile S client server n left
+first_explained profile S client server n m rest le x =
+    let count = x.count in
+    let f = first_spelled (prompts_of client) x.answers x.octets n x.spelled (omega arith) in
+    let run = subst (λ all. Run profile S start (prompts_of client) all) (sym (take-length x.answers)) x.run in (
+      f.1 ++ rest,
+      record {
+        is_spool = x.is_spool;
+        answers = take n x.answers;
+        octets = f.0;
+        count = omega (arith, length-take n x.answers);
+        run = run_fewer profile S start (prompts_of client) x.answers n (length x.answers) (omega arith) run;
+        spelled = f.2;
+        whole = x.whole ∙ ap (λ o. o ++ rest) f.3 ∙ append_assoc f.0 f.1 rest;
+      },
+    )
+
+-- ---- of the spools with P
+
+module _ (P : Spool → Type 0) (profile : Profile) (client server : List ℕ) where
+  -- one answer is bad at most
+  pub bad_once : (k j : ℕ) → BadAmong P profile client server k → BadAmong P profile client server j → k ≡ j
+  bad_once k j (x, none) (y, none') =
+      elim (cases_order k j) [
+        | inl same ↦ same
+        | inr (inl l) ↦ absurd (none y.0 y.2 (first_explained profile y.0 client server (k + 1) j y.1 (omega arith) y.3))
+        | inr (inr g) ↦ absurd (none' x.0 x.2 (first_explained profile x.0 client server (j + 1) k x.1 (omega arith) x.3))
+      ]
+
+  -- where one of them explains all, no answer is bad
+  pub explained_not_bad_among : (S : Spool) (n k : ℕ) → P S → Explains profile S client server n → BadAmong P profile client server k → ⊥
+  explained_not_bad_among S n k p x (y, none) =
+      elim (cases_lt k n) [
+        | inl l ↦ none S p (first_explained profile S client server (k + 1) n [] (omega arith) x)
+        | inr g ↦
+            let z = y.3 in
+            let count = x.count in
+            let count' = z.count in
+            let f = (same_front (prompts_of client) x.answers z.answers x.octets z.octets [] y.1 x.spelled z.spelled (sym x.whole ∙ z.whole) (omega arith)).1 in
+            let m = ap length (sym x.whole ∙ z.whole) in
+            let a = length-append x.octets [] in
+            let b = length-append z.octets y.1 in
+            y.4 (nil_from_length y.1 (omega arith))
+      ]
+
+  -- one of them permits the answers
+  abbrev pub SomeRuns : List Response → Type 0
+  SomeRuns answers = (S : Spool) × IsSpool profile.limit S × P S × Run profile S start (prompts_of client) answers
+
+  -- whether one of them permits answers that the server's octets begin with
+  abbrev pub IsDecided : Type 0
+  IsDecided = (answers : List Response) (octets rest : List ℕ) → Spelled (prompts_of client) answers octets → server ≡ octets ++ rest
+      → SomeRuns answers ⊎ (SomeRuns answers → ⊥)
+
+  -- the answers that the server's octets begin with
+  abbrev r : Reading (prompts_of client) server
+  r = read (prompts_of client) server
+
+  -- the first n of them; where there are more, octets are left
+  first_read : (n : ℕ) → n ≤ length r.answers → (front : List ℕ) × (rest : List ℕ) × Spelled (prompts_of client) (take n r.answers) front × (server ≡ front ++ rest)
+      × (n < length r.answers → rest ≢ [])
+  first_read n le =
+      let f = first_spelled (prompts_of client) r.answers r.spelled n r.is le in (
+        f.0,
+        f.1 ++ r.rest,
+        f.2,
+        r.whole ∙ ap (λ s. s ++ r.rest) f.3 ∙ append_assoc f.0 f.1 r.rest,
+        λ l e. let some = f.4 l in let none = ap length e in let m = length-append f.1 r.rest in omega arith,
+      )
+
+  -- whoever explains answer k permits the first of them
+  explained_permits : (T : Spool) (k : ℕ) → k < length r.answers → (y : ExplainsFirst profile T client server k) → Run profile T start (prompts_of client) (take (k + 1) r.answers)
+  explained_permits T k within y =
+      let n = y.1.count in
+      let f = (same_front (prompts_of client) y.1.answers r.answers y.1.octets r.spelled y.0 r.rest y.1.spelled r.is (sym y.1.whole ∙ r.whole) (omega arith)).0 in
+      subst (λ a. Run profile T start (prompts_of client) a) (f ∙ ap (λ n. take n r.answers) n) y.1.run
+
+  -- one that permits all of them explains both streams, or the answer behind them is bad
+  at_the_end : SomeRuns r.answers → ((S : Spool) × (n : ℕ) × P S × Explains profile S client server n) ⊎ ((k : ℕ) × BadAmong P profile client server k)
+  at_the_end (S, spool, p, run) = by r.rest refl
+    where
+      up_to : (rest : List ℕ) → r.rest ≡ rest → ExplainsUpTo profile S client server (length r.answers) rest
+      up_to rest e = record { is_spool = spool; answers = r.answers; octets = r.spelled; count = refl; run = run; spelled = r.is; whole = r.whole ∙ ap (λ rest. r.spelled ++ rest) e }
+
+      by : (rest : List ℕ) → r.rest ≡ rest → ((S : Spool) × (n : ℕ) × P S × Explains profile S client server n) ⊎ ((k : ℕ) × BadAmong P profile client server k)
+      by [] e = inl (S, length r.answers, p, up_to [] e)
+      by (c ∷ cs) e = inr (
+        length r.answers,
+        (
+          (S, c ∷ cs, p, up_to (c ∷ cs) e, λ none. cc),
+          λ T q x. let le = r.longest x.1.answers x.1.octets x.0 x.1.spelled x.1.whole in let n = x.1.count in omega arith,
+        ),
+      )
+
+  -- one of them explains both streams, or an answer is bad
+  pub explained_or_bad_among : SomeRuns [] → IsDecided → ((S : Spool) × (n : ℕ) × P S × Explains profile S client server n) ⊎ ((k : ℕ) × BadAmong P profile client server k)
+  explained_or_bad_among base dec =
+      elim (holds_or_ends (λ n. SomeRuns (take n r.answers)) (length r.answers) base (λ n le. let f = first_read n le in dec (take n r.answers) f.0 f.1 f.2 f.3)) [
+        | inl all ↦ at_the_end (subst SomeRuns (take-length r.answers) all)
+        | inr (k, (within, (S, spool, p, run), none)) ↦
+            let f = first_read k (omega arith) in
+            let x : ExplainsUpTo profile S client server k f.1 =
+            record { is_spool = spool; answers = take k r.answers; octets = f.0; count = omega (arith, length-take k r.answers); run = run; spelled = f.2; whole = f.3 } in
+            inr (k, ((S, f.1, p, x, f.4 within), λ T q y. none (T, y.1.is_spool, q, explained_permits T k within y)))
+      ]
+
+-- ---- of all spools
+
+-- where one explains all, no answer is bad
+pub explained_not_bad : (profile : Profile) (S : Spool) (client server : List ℕ) (n k : ℕ) → Explains profile S client server n → Bad profile client server k → ⊥
+explained_not_bad profile S client server n k = explained_not_bad_among (λ S. ⊤) profile client server S n k tt
+
+-- one explains all, or an answer is bad
+pub explained_or_bad : (profile : Profile) (client server : List ℕ) → length server < 2 ^ 210 → ((S : Spool) × (n : ℕ) × Explains profile S client server n) ⊎ ((k : ℕ) × Bad profile client server k)
+explained_or_bad profile client server small =
+    let base = none_permitted profile (prompts_of client) [] in
+    elim (explained_or_bad_among (λ S. ⊤) profile client server (base.0, base.1, tt, tt) decided) [ inl x ↦ inl (x.0, x.1, x.3) | inr bad ↦ inr bad ]
+  where
+    decided : IsDecided (λ S. ⊤) profile client server
+    decided answers octets rest spelled whole =
+        let most = session_size profile.marks (prompts_of client) answers in
+        let less = light (prompts_of client) answers octets spelled in
+        let all = ap length whole ∙ length-append octets rest in
+        elim (some_or_none profile (prompts_of client) answers (omega arith)) [ inl h ↦ inl (h.0, h.1, tt, h.2) | inr none ↦ inr (λ h. none h.0 h.1 h.3) ]

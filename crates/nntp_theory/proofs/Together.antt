@@ -1,0 +1,5 @@
+pub mod FactsJoin
+pub mod FactsOfASpoolStand
+pub mod FewEnough
+pub mod TwoListsOfFacts
+pub mod WellFormed

@@ -1,0 +1,219 @@
+-- What holds of a spool stands together.
+use Rattle.std.proofs.Common.{◌≡◌, ℕ, ◌↔◌, Bool, true, false, cond, ◌&&◌, ◌==◌, IsTrue, List, [], ◌∷◌, ◌++◌, map, Option, None, Some, is_some, IsSome}
+use Rattle.std.proofs.{Common.{option_map, refl, sym, ap, subst, ◌∙◌}, lemmas.Bool.{true≢false, and_parts, eqb-true, false_from_ne_true, not-true}}
+use Rattle.std.{proofs.lemmas.List.Elements.{recursion_from_All}, specs.{Prelude.{IfSome, not}, List.{AllByRecursion, list_any}, Option.{option_map_or}}}
+use Rattle.std.specs.{Cmp.Lexicographic.{same_text, nat_list_eq_equiv}, FinMap.{get}}
+use Rattle.nntp_article.specs.{Article.Parts.{Line, Id, head_part, body_part}, Session.Spool.{Spool, Text, IsGroup, numbers, IsSpool, HasText, text_of}}
+use Rattle.nntp_article.{specs.Session.{Spool.{is_line, Name}, Machine.{is_same}}, proofs.ArticleLemmas.HeadHasNoEmptyLine.{parts}}
+use Rattle.nntp_said.specs.Facts.{Fact, Holds, ThereIs, ThereIsNo, IdAt, TextIs, NoArticle, GroupsAre}
+use Rattle.nntp_theory.specs.{Given.{asks_of, shows_group, is_shown_group, first_given, id_in, id_shown, head_in, body_in}, Inner.Together.{IsWellFormed}}
+use Rattle.nntp_theory.{specs.{Inner.Together.{Together}, Together.{denies_group, number_in, shows_article, denies_article, GiveOne}}, proofs.Members.{In}}
+use Rattle.nntp_theory.proofs.Members.{all_at, all_front, all_back, all_both, all_from, any_in, found_in, in_map, from_map, contains_in, in_contains}
+use Rattle.nntp_theory.proofs.{Members.{first_found, first_there}, GivenNumbers.{MetNumbersStand.{asks_stand}, AskedOfAGroup.{met_by_facts}}}
+use Rattle.nntp_wire.specs.{Listing.{ActiveValue}, Wildmat.{MatchesName}, Decided.{matches_name}, Name.{IsGroupName}, declared.command.What.{What}}
+use Rattle.nntp_wire.{specs.declared.command.What.TheVariants.{Article, Head, Body, Stat}, proofs.DecidedLemmas.{matches_name-iff}}
+
+-- a text is the same as itself
+pub same_itself : (xs : List ℕ) → is_same xs xs ≡ true
+same_itself xs = nat_list_eq_equiv.refl xs
+
+-- a name that is in a list of groups is found there
+listed : (name : Name) (lines : List ActiveValue) → In name (map (λ line. line.name) lines) → list_any (λ line. is_same line.name name) lines ≡ true
+listed name lines i =
+    let f = from_map (λ (line : ActiveValue). line.name) name lines i in
+    any_in (λ line. is_same line.name name) f.0 lines f.1 (subst (λ n. is_same f.0.name n ≡ true) f.2 (same_itself f.0.name))
+
+-- and back
+pub in_listed : (name : Name) (lines : List ActiveValue) → list_any (λ line. is_same line.name name) lines ≡ true → In name (map (λ line. line.name) lines)
+in_listed name lines t =
+    let f = found_in (λ line. is_same line.name name) lines t in
+    subst (λ g. In g (map (λ line. line.name) lines)) (same_text f.0.name name (sym f.2)) (in_map (λ line. line.name) f.0 lines f.1)
+
+-- the group matches, if there is a wildmat
+pub matching : (name : Name) (p : Option (List ℕ)) → option_map_or (λ w. matches_name w name) p true ≡ true ↔ IfSome p (λ w. MatchesName w name)
+matching name None = (λ t. tt, λ h. refl)
+matching name (Some w) = matches_name-iff w name
+
+-- what facts give is one, where each of them says it of one thing
+give_one : {A : Type 0} (Q : A → Type 0) → ((x y : A) → Q x → Q y → x ≡ y) → (f : Fact → Option A) (facts : List Fact)
+    → ((fact : Fact) → In fact facts → (x : A) → f fact ≡ Some x → Q x) → GiveOne f facts
+give_one {A} Q one f facts says = all_from _ facts (λ fact i. by fact i (f fact) refl)
+  where
+    by : (fact : Fact) → In fact facts → (o : Option A) → f fact ≡ o → IfSome o (λ x. first_given f facts ≡ Some x)
+    by fact i None e = tt
+    by fact i (Some x) e =
+        let z = first_there f facts fact x i e in
+        let w = first_found f facts z.0 z.1 in
+        z.1 ∙ ap Some (one z.0 x (says w.0 w.1 z.0 w.2) (says fact i x e))
+
+module _ (limit : ℕ) (S : Spool) (facts : List Fact) (spool : IsSpool limit S) (holds : AllByRecursion (Holds S) facts) where
+  -- a fact holds
+  of_fact : (fact : Fact) → In fact facts → Holds S fact
+  of_fact fact i = all_at (Holds S) fact facts holds i
+
+  -- a group that a fact shows is S's
+  shown_by_one : (name : Name) (fact : Fact) → Holds S fact → shows_group name fact ≡ true → IsGroup S name
+  shown_by_one name (ThereIs g) h t = subst (IsGroup S) (same_text g name (sym t)) h
+  shown_by_one name (GroupsAre p lines) h t =
+      ((h.0 name).0 (contains_in name (map (λ line. line.name) lines) (in_listed name lines t))).0
+  shown_by_one name fact h t = cc
+
+  -- a group that is shown is S's
+  pub group_in_S : (name : Name) → IsTrue (is_shown_group facts name) → IsGroup S name
+  group_in_S name t = let f = found_in (shows_group name) facts t in shown_by_one name f.0 (of_fact f.0 f.1) f.2
+
+  -- and no group of S is denied
+  denied_by_one : (name : Name) (fact : Fact) → Holds S fact → IsGroup S name → denies_group name fact ≡ true → ⊥
+  denied_by_one name (ThereIsNo g) h there t = true≢false (sym there ∙ ap is_some (subst (λ g. get S.groups g ≡ None) (same_text g name (sym t)) h))
+  denied_by_one name (GroupsAre p lines) h there t =
+      let d = and_parts (option_map_or (λ w. matches_name w name) p true) (not (list_any (λ line. is_same line.name name) lines)) t in
+      let c = (h.0 name).1 (there, (matching name p).0 d.0) in
+      true≢false (sym (listed name lines (in_contains name (map (λ line. line.name) lines) c)) ∙ not-true _ d.1)
+  denied_by_one name fact h there t = cc
+
+  -- an id that a fact shows is S's
+  id_by_one : (name : Name) (n : ℕ) (id : Id) (fact : Fact) → Holds S fact → id_in name n fact ≡ Some id → get (numbers S name) n ≡ Some id
+  id_by_one name n id (IdAt g m other) h e = one (is_same g name && m == n) refl e
+    where
+      one : (b : Bool) → (is_same g name && m == n) ≡ b → cond b (Some other) None ≡ Some id → get (numbers S name) n ≡ Some id
+      one true is e =
+          let p = and_parts (is_same g name) (m == n) is in
+          subst (λ g. get (numbers S g) n ≡ Some id) (same_text g name (sym p.0)) (subst (λ m. get (numbers S g) m ≡ Some id) (eqb-true m n p.1) (h ∙ e))
+      one false is e = cc
+  id_by_one name n id fact h e = cc
+
+  -- an id that is shown is S's
+  pub id_in_S : (name : Name) (n : ℕ) (id : Id) → id_shown facts name n ≡ Some id → get (numbers S name) n ≡ Some id
+  id_in_S name n id e = let f = first_found (id_in name n) facts id e in id_by_one name n id f.0 (of_fact f.0 f.1) f.2
+
+  -- and stands at its number
+  number_by_one : (name : Name) (id : Id) (n : ℕ) (fact : Fact) → Holds S fact → number_in name id fact ≡ Some n → get (numbers S name) n ≡ Some id
+  number_by_one name id n (IdAt g m other) h e = one (is_same g name && is_same other id) refl e
+    where
+      one : (b : Bool) → (is_same g name && is_same other id) ≡ b → cond b (Some m) None ≡ Some n → get (numbers S name) n ≡ Some id
+      one true is e =
+          let p = and_parts (is_same g name) (is_same other id) is in
+          let same : m ≡ n = cc in
+          subst (λ g. get (numbers S g) n ≡ Some id) (same_text g name (sym p.0)) (subst (λ m. get (numbers S g) m ≡ Some id) same (h ∙ ap Some (same_text other id (sym p.1))))
+      one false is e = cc
+  number_by_one name id n fact h e = cc
+
+  -- what is sent of an article in S
+  article_of : (what : What) (id : Id) (lines : Option (List Line)) → HasText S what id lines → (t : Text) × (get S.articles id ≡ Some t) × (text_of what t ≡ lines)
+  article_of what id lines h = by (get S.articles id) refl h
+    where
+      by : (o : Option Text) → get S.articles id ≡ o → option_map (text_of what) o ≡ Some lines → (t : Text) × (get S.articles id ≡ Some t) × (text_of what t ≡ lines)
+      by None is h = cc
+      by (Some t) is h = (t, is, cc)
+
+  -- an id that is shown to have an article has one in S
+  article_by_one : (id : Id) (fact : Fact) → Holds S fact → shows_article id fact ≡ true → IsSome (get S.articles id)
+  article_by_one id (IdAt name n other) h t = subst (λ id. IsSome (get S.articles id)) (same_text other id (sym t)) (spool.ids_have_articles name n other h)
+  article_by_one id (TextIs what other lines) h t = subst (λ id. IsSome (get S.articles id)) (same_text other id (sym t)) (ap is_some (article_of what other lines h).1)
+  article_by_one id fact h t = cc
+
+  -- and isn't denied
+  article_denied : (id : Id) (fact : Fact) → Holds S fact → IsSome (get S.articles id) → denies_article id fact ≡ true → ⊥
+  article_denied id (NoArticle other) h there t = true≢false (sym there ∙ ap is_some (subst (λ id. get S.articles id ≡ None) (same_text other id (sym t)) h))
+  article_denied id fact h there t = cc
+
+  -- the parts of an article that is sent
+  parts_of : (id : Id) (t : Text) (lines : List Line) → get S.articles id ≡ Some t → Some (t.head ++ [] ∷ t.body) ≡ Some lines → (t.head ≡ head_part lines) × (t.body ≡ body_part lines)
+  parts_of id t lines e same =
+      let p = parts t.head t.body (spool.heads id t e).0 in
+      let whole : t.head ++ [] ∷ t.body ≡ lines = cc in
+      (sym p.0 ∙ ap head_part whole, sym p.1 ∙ ap body_part whole)
+
+  -- S has an article of the id, with a part that is these lines
+  HasPart : (Text → List Line) → Id → List Line → Type 0
+  HasPart part id lines = (t : Text) × (get S.articles id ≡ Some t) × (part t ≡ lines)
+
+  -- and under the test of the id
+  has_part : (part : Text → List Line) (id other : Id) (t : Text) (ls lines : List Line) → get S.articles other ≡ Some t
+      → part t ≡ ls → (b : Bool) → is_same other id ≡ b → cond b (Some ls) None ≡ Some lines → HasPart part id lines
+  unfolding HasPart
+  has_part part id other t ls lines at same true is e = (t, subst (λ id. get S.articles id ≡ Some t) (same_text other id (sym is)) at, same ∙ (let q : ls ≡ lines = cc in q))
+  has_part part id other t ls lines at same false is e = cc
+
+  -- a head that one fact gives is S's
+  head_by_one : (id : Id) (lines : List Line) (fact : Fact) → Holds S fact → head_in id fact ≡ Some lines → HasPart (λ t. t.head) id lines
+  head_by_one id lines (TextIs Article other (Some ls)) h e =
+      let a = article_of Article other (Some ls) h in
+      has_part (λ t. t.head) id other a.0 (head_part ls) lines a.1 (parts_of other a.0 ls a.1 a.2).0 (is_same other id) refl e
+  head_by_one id lines (TextIs Head other (Some ls)) h e =
+      let a = article_of Head other (Some ls) h in
+      has_part (λ t. t.head) id other a.0 ls lines a.1 (let q : a.0.head ≡ ls = cc in q) (is_same other id) refl e
+  head_by_one id lines fact h e = cc
+
+  -- and a body
+  body_by_one : (id : Id) (lines : List Line) (fact : Fact) → Holds S fact → body_in id fact ≡ Some lines → HasPart (λ t. t.body) id lines
+  body_by_one id lines (TextIs Article other (Some ls)) h e =
+      let a = article_of Article other (Some ls) h in
+      has_part (λ t. t.body) id other a.0 (body_part ls) lines a.1 (parts_of other a.0 ls a.1 a.2).1 (is_same other id) refl e
+  body_by_one id lines (TextIs Body other (Some ls)) h e =
+      let a = article_of Body other (Some ls) h in
+      has_part (λ t. t.body) id other a.0 ls lines a.1 (let q : a.0.body ≡ ls = cc in q) (is_same other id) refl e
+  body_by_one id lines fact h e = cc
+
+  -- an article has one such part
+  part_once : (part : Text → List Line) (id : Id) (x y : List Line) → HasPart part id x → HasPart part id y → x ≡ y
+  unfolding HasPart
+  part_once part id x y (t, at, is) (u, there, same) = let one : t ≡ u = (let q : Some t ≡ Some u = sym at ∙ there in cc) in sym is ∙ ap part one ∙ same
+
+  -- a head that is sent is S's
+  pub head_in_S : (id : Id) (lines : List Line) → first_given (head_in id) facts ≡ Some lines → (t : Text) × (get S.articles id ≡ Some t) × (t.head ≡ lines)
+  unfolding HasPart
+  head_in_S id lines e = let f = first_found (head_in id) facts lines e in head_by_one id lines f.0 (of_fact f.0 f.1) f.2
+
+  -- a body that is sent is S's
+  pub body_in_S : (id : Id) (lines : List Line) → first_given (body_in id) facts ≡ Some lines → (t : Text) × (get S.articles id ≡ Some t) × (t.body ≡ lines)
+  unfolding HasPart
+  body_in_S id lines e = let f = first_found (body_in id) facts lines e in body_by_one id lines f.0 (of_fact f.0 f.1) f.2
+
+  -- lines of an article are lines
+  lines_are : (id : Id) (t : Text) → get S.articles id ≡ Some t → AllByRecursion (λ line. IsTrue (is_line line)) t.head × AllByRecursion (λ line. IsTrue (is_line line)) t.body
+  lines_are id t e =
+      let all = recursion_from_All (λ line. IsTrue (is_line line)) (t.head ++ t.body) (spool.heads id t e).1 in
+      (all_front _ t.head t.body all, all_back _ t.head t.body all)
+
+  -- and so those that are sent of it
+  sent_lines : (what : What) (id : Id) (t : Text) (lines : Option (List Line)) → get S.articles id ≡ Some t
+      → text_of what t ≡ lines → IfSome lines (λ lines. AllByRecursion (λ line. IsTrue (is_line line)) lines)
+  sent_lines what id t lines e same = subst (λ o. IfSome o (λ lines. AllByRecursion (λ line. IsTrue (is_line line)) lines)) same (by what (lines_are id t e))
+    where
+      by : (what : What) → AllByRecursion (λ line. IsTrue (is_line line)) t.head
+          × AllByRecursion (λ line. IsTrue (is_line line)) t.body
+          → IfSome (text_of what t) (λ lines. AllByRecursion (λ line. IsTrue (is_line line)) lines)
+      by Article all = all_both (λ line. IsTrue (is_line line)) t.head ([] ∷ t.body) all.0 (refl, all.1)
+      by Head all = all.0
+      by Body all = all.1
+      by Stat all = tt
+
+  -- names, ids and lines are S's
+  well_formed : (fact : Fact) → Holds S fact → IsWellFormed fact
+  well_formed (ThereIs name) h = spool.names name h
+  well_formed (IdAt name n id) h = spool.ids id (spool.ids_have_articles name n id h)
+  well_formed (TextIs what id lines) h = let a = article_of what id lines h in (spool.ids id (ap is_some a.1), sent_lines what id a.0 lines a.1 a.2)
+  well_formed (GroupsAre p lines) h =
+      all_from (λ line. IsGroupName line.name) lines
+      (λ line i. spool.names line.name ((h.0 line.name).0
+      (contains_in line.name (map (λ line. line.name) lines) (in_map (λ line. line.name) line lines i))).0)
+  well_formed fact h = tt
+
+  -- what is said stands together
+  pub stand : Together facts
+  stand = record {
+    well_formed = all_from IsWellFormed facts (λ fact i. well_formed fact (of_fact fact i));
+    groups = λ name t. false_from_ne_true _ (λ d. let f = found_in (denies_group name) facts d in denied_by_one name f.0 (of_fact f.0 f.1) (group_in_S name t) f.2);
+    numbers = λ name. asks_stand (asks_of name facts) (numbers S name) (met_by_facts S name facts holds) (λ n j. (spool.numbers_in_limit name n j).0);
+    ids = λ name n. give_one (λ id. get (numbers S name) n ≡ Some id) (λ x y e f. let q : Some x ≡ Some y = sym e ∙ f in cc)
+        (id_in name n) facts (λ fact i id e. id_by_one name n id fact (of_fact fact i) e);
+    ids_once = λ name id. give_one (λ n. get (numbers S name) n ≡ Some id) (λ n m e f. spool.one_to_one name n m id e f)
+        (number_in name id) facts (λ fact i n e. number_by_one name id n fact (of_fact fact i) e);
+    articles = λ id t. false_from_ne_true _ (λ d.
+        let s = found_in (shows_article id) facts t in
+        let f = found_in (denies_article id) facts d in
+        article_denied id f.0 (of_fact f.0 f.1) (article_by_one id s.0 (of_fact s.0 s.1) s.2) f.2);
+    heads = λ id. give_one (HasPart (λ t. t.head) id) (part_once (λ t. t.head) id) (head_in id) facts (λ fact i lines e. head_by_one id lines fact (of_fact fact i) e);
+    bodies = λ id. give_one (HasPart (λ t. t.body) id) (part_once (λ t. t.body) id) (body_in id) facts (λ fact i lines e. body_by_one id lines fact (of_fact fact i) e);
+  }

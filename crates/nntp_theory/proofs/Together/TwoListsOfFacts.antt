@@ -1,0 +1,131 @@
+-- What two lists of facts show, deny and give.
+use Rattle.std.proofs.Common.{◌≡◌, Bool, true, false, ◌||◌, ◌&&◌, cond, IsTrue, List, [], ◌∷◌, ◌++◌, Option, None, Some, inl, inr, refl, sym, ap, ◌∙◌}
+use Rattle.std.{proofs.lemmas.{Bool.{true≢false, or_left, or_right, or_cases, false_from_ne_true}, List.Folds.{list_any-append}}, specs.Prelude.{IsFalse}}
+use Rattle.std.specs.{Prelude.{IfSome}, List.{AllByRecursion, list_any}, Option.{option_or}}
+use Rattle.nntp_said.specs.Facts.{Fact}
+use Rattle.nntp_theory.{specs.{Given.{first_given}, Together.{GiveOne}, Inner.Together.{GiveSame}}, proofs.Members.{all_both, all_back, all_from, all_at}}
+
+-- ---- tests
+
+-- where no more fact passes, the test is as before
+pub any_silent : (p : Fact → Bool) (facts more : List Fact) → list_any p more ≡ false → list_any p (facts ++ more) ≡ list_any p facts
+any_silent p facts more none = list_any-append p facts more ∙ ap (λ b. list_any p facts || b) none ∙ or_no (list_any p facts)
+  where
+    or_no : (b : Bool) → (b || false) ≡ b
+    or_no true = refl
+    or_no false = refl
+
+-- a test of one more
+pub any_more : (p : Fact → Bool) (facts : List Fact) (fact : Fact) → list_any p (facts ++ fact ∷ []) ≡ (list_any p facts || p fact)
+any_more p facts fact = list_any-append p facts (fact ∷ []) ∙ ap (λ b. list_any p facts || b) (or_no (p fact))
+  where
+    or_no : (b : Bool) → (b || false) ≡ b
+    or_no true = refl
+    or_no false = refl
+
+-- nothing is both shown and denied
+abbrev pub Apart : (shows denies : Fact → Bool) → List Fact → Type 0
+Apart shows denies facts = IsTrue (list_any shows facts) → IsFalse (list_any denies facts)
+
+-- nothing is in both lists, if nothing is in either, or in one and in the other
+pub apart_both : (shows denies : Fact → Bool) (facts more : List Fact) → Apart shows denies facts → Apart shows denies more
+    → (IsTrue (list_any shows more) → IsFalse (list_any denies facts)) → (IsTrue (list_any denies more) → IsFalse (list_any shows facts))
+    → Apart shows denies (facts ++ more)
+apart_both shows denies facts more before within shown denied s =
+    false_from_ne_true _ (λ d. elim (or_cases (list_any shows facts) (list_any shows more) (sym (list_any-append shows facts more) ∙ s)) [
+      | inl a ↦ elim (or_cases (list_any denies facts) (list_any denies more) (sym (list_any-append denies facts more) ∙ d)) [
+        | inl b ↦ true≢false (sym b ∙ before a)
+        | inr b ↦ true≢false (sym a ∙ denied b)
+      ]
+      | inr a ↦ elim (or_cases (list_any denies facts) (list_any denies more) (sym (list_any-append denies facts more) ∙ d)) [
+        | inl b ↦ true≢false (sym b ∙ shown a)
+        | inr b ↦ true≢false (sym b ∙ within a)
+      ]
+    ])
+
+-- and back
+pub apart_shown : (shows denies : Fact → Bool) (facts more : List Fact) → Apart shows denies (facts ++ more) → IsTrue (list_any shows more) → IsFalse (list_any denies facts)
+apart_shown shows denies facts more apart s =
+    false_from_ne_true _ (λ d. true≢false (sym (list_any-append denies facts more ∙ or_left _ (list_any denies more) d)
+    ∙ apart (list_any-append shows facts more ∙ or_right (list_any shows facts) _ s)))
+
+pub apart_denied : (shows denies : Fact → Bool) (facts more : List Fact) → Apart shows denies (facts ++ more) → IsTrue (list_any denies more) → IsFalse (list_any shows facts)
+apart_denied shows denies facts more apart d =
+    false_from_ne_true _ (λ s. true≢false (sym (list_any-append denies facts more ∙ or_right (list_any denies facts) _ d)
+    ∙ apart (list_any-append shows facts more ∙ or_left _ (list_any shows more) s)))
+
+-- ---- what is given
+
+-- what the first of both gives
+pub given_append : {A : Type 0} (f : Fact → Option A) (xs ys : List Fact) → first_given f (xs ++ ys) ≡ option_or (first_given f xs) (first_given f ys)
+given_append f [] ys = refl
+given_append {A} f (x ∷ xs) ys = by (f x) (given_append f xs ys)
+  where
+    by : (o : Option A) → first_given f (xs ++ ys) ≡ option_or (first_given f xs) (first_given f ys)
+        → option_or o (first_given f (xs ++ ys)) ≡ option_or (option_or o (first_given f xs)) (first_given f ys)
+    by None rest = rest
+    by (Some y) rest = refl
+
+-- where nothing more is given, what was is
+pub or_none : {A : Type 0} (o : Option A) → option_or o None ≡ o
+or_none None = refl
+or_none (Some x) = refl
+
+-- where nothing is given either way, nothing is
+pub none_if : {A : Type 0} (b : Bool) → cond {A = Option A} b None None ≡ None
+none_if true = refl
+none_if false = refl
+
+-- what is given under two tests is given under both
+pub both_if : {A : Type 0} (a b : Bool) (x : A) → cond a (cond b (Some x) None) None ≡ cond (a && b) (Some x) None
+both_if true b x = refl
+both_if false b x = refl
+
+-- where more facts give nothing, what is given is as before
+pub given_silent : {A : Type 0} (f : Fact → Option A) (facts more : List Fact) → first_given f more ≡ None → first_given f (facts ++ more) ≡ first_given f facts
+given_silent f facts more none = given_append f facts more ∙ ap (λ o. option_or (first_given f facts) o) none ∙ or_none (first_given f facts)
+
+-- two lists that each give one thing, and the same, give one thing
+pub give_one_both : {A : Type 0} (f : Fact → Option A) (facts more : List Fact) → GiveOne f facts → GiveOne f more → GiveSame f facts more → GiveOne f (facts ++ more)
+give_one_both {A} f facts more one within same =
+    all_both _ facts more
+    (all_from _ facts (λ x i. kept (f x) (all_at _ x facts one i)))
+    (all_from _ more (λ x i. added (f x) (all_at _ x more within i)))
+  where
+    kept : (o : Option A) → IfSome o (λ x. first_given f facts ≡ Some x) → IfSome o (λ x. first_given f (facts ++ more) ≡ Some x)
+    kept None h = tt
+    kept (Some x) h = given_append f facts more ∙ ap (λ o. option_or o (first_given f more)) h
+
+    joined : (o p : Option A) (x : A) → first_given f facts ≡ o → first_given f more ≡ p → p ≡ Some x → IfSome p (λ x. IfSome o (λ y. x ≡ y)) → option_or o p ≡ Some x
+    joined None p x e g h s = h
+    joined (Some y) None x e g h s = cc
+    joined (Some y) (Some z) x e g h s = ap Some (sym s) ∙ h
+
+    added : (o : Option A) → IfSome o (λ x. first_given f more ≡ Some x) → IfSome o (λ x. first_given f (facts ++ more) ≡ Some x)
+    added None h = tt
+    added (Some x) h = given_append f facts more ∙ joined (first_given f facts) (first_given f more) x refl refl h same
+
+-- and back
+pub give_same_of_both : {A : Type 0} (f : Fact → Option A) (facts more : List Fact) → GiveOne f (facts ++ more) → GiveSame f facts more
+give_same_of_both {A} f facts more one = by (first_given f more) (first_given f facts) refl refl
+  where
+    whole : first_given f (facts ++ more) ≡ option_or (first_given f facts) (first_given f more)
+    whole = given_append f facts more
+
+    -- what the first of more facts that gives something gives
+    step : (o : Option A) (xs : List Fact) (x : A) → (first_given f xs ≡ Some x → first_given f (facts ++ more) ≡ Some x) → option_or o (first_given f xs) ≡ Some x
+        → IfSome o (λ x. first_given f (facts ++ more) ≡ Some x) → first_given f (facts ++ more) ≡ Some x
+    step None xs x rest e h = rest e
+    step (Some y) xs x rest e h = h ∙ e
+
+    found : (xs : List Fact) (x : A) → first_given f xs ≡ Some x → AllByRecursion (λ fact. IfSome (f fact) (λ x. first_given f (facts ++ more) ≡ Some x)) xs → first_given f (facts ++ more) ≡ Some x
+    found [] x e h = cc
+    found (fact ∷ xs) x e h = step (f fact) xs x (λ e. found xs x e h.1) e h.0
+
+    by : (p o : Option A) → first_given f more ≡ p → first_given f facts ≡ o → IfSome p (λ x. IfSome o (λ y. x ≡ y))
+    by None o e g = tt
+    by (Some x) None e g = tt
+    by (Some x) (Some y) e g =
+        let there = found more x e (all_back _ facts more one) in
+        let q : Some x ≡ Some y = sym there ∙ whole ∙ ap (λ o. option_or o (first_given f more)) g in
+        cc

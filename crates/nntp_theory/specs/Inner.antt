@@ -1,0 +1,10 @@
+pub mod Answered
+pub mod Conflict
+pub mod Estimates
+pub mod Exchanged
+pub mod Given
+pub mod OneMore
+pub mod Outcome
+pub mod Permits
+pub mod Together
+pub mod Unseen

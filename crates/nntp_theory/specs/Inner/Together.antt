@@ -1,0 +1,127 @@
+-- What is said with the words of `Together.antt`, and needn't be believed.
+use Rattle.std.specs.{Prelude.{◌≡◌, ℕ, Bool, false, ◌||◌, IsTrue, IsFalse, List, ◌++◌, Option, None, IfSome, ⊤}, List.{AllByRecursion, list_any}}
+use Rattle.std.specs.Option.{option_or}
+use Rattle.nntp_wire.specs.Name.{IsGroupName, IsMessageId}
+use Rattle.nntp_article.specs.{Article.Parts.{Id, Line}, Session.Spool.{Name, Numbers, is_line}}
+use Rattle.nntp_said.specs.{Asks.{Ask}, Facts.{Fact, ThereIs, IdAt, TextIs, GroupsAre}}
+use Rattle.nntp_theory.specs.Given.{demand, is_denied, IsGivenNumber, HasGivenNumbers, asks_of, is_shown_group, first_given, id_in, is_mentioned, is_sent}
+use Rattle.nntp_theory.specs.{Given.{head_in, body_in}, Together.{is_possible, MeetsDemand, IsFewFor, denies_group, number_in, shows_article, denies_article}}
+use Rattle.nntp_theory.specs.Together.{GiveOne}
+
+-- ---- the numbers of one group
+
+-- what is asked of one group stands together: each ask can be met, and the given numbers aren't denied, meet the demand, and are as few as is estimated
+pub record AsksStand (asks : List Ask) : Type 0 where
+  pub possible : AllByRecursion (λ ask. IsTrue (is_possible ask)) asks
+  pub not_denied : (n : ℕ) → IsGivenNumber asks n → IsFalse (is_denied asks n)
+  pub demand_met : MeetsDemand (demand asks) (IsGivenNumber asks)
+  pub few : (N : Numbers) → HasGivenNumbers asks N → AllByRecursion (IsFewFor N) asks
+
+-- ---- groups, ids and texts
+
+-- the names, ids and lines of the fact are names, ids and lines
+abbrev pub IsWellFormed : Fact → Type 0
+IsWellFormed (ThereIs name) = IsGroupName name
+IsWellFormed (IdAt name n id) = IsMessageId id
+IsWellFormed (TextIs what id lines) = IsMessageId id × IfSome lines (λ lines. AllByRecursion (λ line. IsTrue (is_line line)) lines)
+IsWellFormed (GroupsAre p lines) = AllByRecursion (λ line. IsGroupName line.name) lines
+IsWellFormed fact = ⊤
+
+-- what is said stands together: nothing is both shown and denied, and what is shown twice is shown alike
+pub record Together (facts : List Fact) : Type 0 where
+  pub well_formed : AllByRecursion IsWellFormed facts
+  pub groups : (name : Name) → IsTrue (is_shown_group facts name) → IsFalse (list_any (denies_group name) facts)
+  pub numbers : (name : Name) → AsksStand (asks_of name facts)
+  pub ids : (name : Name) (n : ℕ) → GiveOne (id_in name n) facts
+  pub ids_once : (name : Name) (id : Id) → GiveOne (number_in name id) facts
+  pub articles : (id : Id) → IsTrue (list_any (shows_article id) facts) → IsFalse (list_any (denies_article id) facts)
+  pub heads : (id : Id) → GiveOne (head_in id) facts
+  pub bodies : (id : Id) → GiveOne (body_in id) facts
+
+-- what facts say agrees with one another, but for what they ask of numbers
+pub record AgreeWithin (facts : List Fact) : Type 0 where
+  pub groups : (name : Name) → IsTrue (is_shown_group facts name) → IsFalse (list_any (denies_group name) facts)
+  pub ids : (name : Name) (n : ℕ) → GiveOne (id_in name n) facts
+  pub ids_once : (name : Name) (id : Id) → GiveOne (number_in name id) facts
+  pub articles : (id : Id) → IsTrue (list_any (shows_article id) facts) → IsFalse (list_any (denies_article id) facts)
+  pub heads : (id : Id) → GiveOne (head_in id) facts
+  pub bodies : (id : Id) → GiveOne (body_in id) facts
+
+-- ---- what is said of an id
+
+-- what facts say of an id: whether they mention it, show that it has an article, or deny that, and whether a success names it; and the head and the body that are sent first
+pub record SaidOfArticle : Type 0 where
+  pub is_mentioned : Bool
+  pub is_shown : Bool
+  pub is_denied : Bool
+  pub is_sent : Bool
+  pub head : Option (List Line)
+  pub body : Option (List Line)
+
+abbrev pub said_of : List Fact → Id → SaidOfArticle
+said_of facts id = record {
+  is_mentioned = is_mentioned facts id;
+  is_shown = list_any (shows_article id) facts;
+  is_denied = list_any (denies_article id) facts;
+  is_sent = is_sent facts id;
+  head = first_given (head_in id) facts;
+  body = first_given (body_in id) facts;
+}
+
+-- nothing is said of the id
+abbrev pub said_nothing : SaidOfArticle
+said_nothing = record { is_mentioned = false; is_shown = false; is_denied = false; is_sent = false; head = None; body = None }
+
+-- what is said of an id in all, where more is said behind what was
+abbrev pub join_said : SaidOfArticle → SaidOfArticle → SaidOfArticle
+join_said before more = record {
+  is_mentioned = before.is_mentioned || more.is_mentioned;
+  is_shown = before.is_shown || more.is_shown;
+  is_denied = before.is_denied || more.is_denied;
+  is_sent = before.is_sent || more.is_sent;
+  head = option_or before.head more.head;
+  body = option_or before.body more.body;
+}
+
+-- ---- more facts
+
+-- what is given twice is the same
+abbrev pub AreSame : {A : Type 0} → Option A → Option A → Type 0
+AreSame more before = IfSome more (λ x. IfSome before (λ y. x ≡ y))
+
+-- what more facts give is what was given before, if anything was
+abbrev pub GiveSame : {A : Type 0} → (Fact → Option A) → List Fact → List Fact → Type 0
+GiveSame f facts more = AreSame (first_given f more) (first_given f facts)
+
+-- the groups that more facts show aren't denied, and those that they deny aren't shown
+pub record JoinNames (facts more : List Fact) : Type 0 where
+  pub groups : (name : Name) → IsTrue (is_shown_group more name) → IsFalse (list_any (denies_group name) facts)
+  pub no_groups : (name : Name) → IsTrue (list_any (denies_group name) more) → IsFalse (is_shown_group facts name)
+
+-- what more facts ask of each group stands together with what was asked
+abbrev pub JoinNumbers : List Fact → List Fact → Type 0
+JoinNumbers facts more = (name : Name) → AsksStand (asks_of name facts ++ asks_of name more)
+
+-- the ids that more facts give at numbers, and the numbers of ids, were given alike
+pub record JoinIds (facts more : List Fact) : Type 0 where
+  pub ids : (name : Name) (n : ℕ) → GiveSame (id_in name n) facts more
+  pub ids_once : (name : Name) (id : Id) → GiveSame (number_in name id) facts more
+
+-- the article that is shown isn't denied, one that is denied isn't shown, and the head and the body that are sent were sent alike
+pub record JoinArticle (before more : SaidOfArticle) : Type 0 where
+  pub shown : IsTrue more.is_shown → IsFalse before.is_denied
+  pub denied : IsTrue more.is_denied → IsFalse before.is_shown
+  pub head : AreSame more.head before.head
+  pub body : AreSame more.body before.body
+
+-- what more facts say of each id joins what was said of it
+abbrev pub JoinArticles : List Fact → List Fact → Type 0
+JoinArticles facts more = (id : Id) → JoinArticle (said_of facts id) (said_of more id)
+
+-- more facts join those before
+pub record Join (facts more : List Fact) : Type 0 where
+  pub well_formed : AllByRecursion IsWellFormed more
+  pub names : JoinNames facts more
+  pub numbers : JoinNumbers facts more
+  pub ids : JoinIds facts more
+  pub articles : JoinArticles facts more

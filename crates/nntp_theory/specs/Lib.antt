@@ -1,0 +1,9 @@
+pub mod Answered
+pub mod Classes
+pub mod Conflict
+pub mod Given
+pub mod Inner
+pub mod Outcome
+pub mod Permitted
+pub mod Reading
+pub mod Together
