@@ -2,13 +2,13 @@
 use Rattle.std.proofs.Common.{◌≡◌, ◌≢◌, ℕ, ◌+◌, ◌-◌, ◌*◌, ◌^◌, ◌<◌, ◌≤◌, List, [], ◌∷◌, ◌++◌, length, drop, map, arith, Option, None, Some, Bool, true, false}
 use Rattle.std.proofs.{Common.{refl, sym, ◌∙◌, ap, subst, append_assoc, length-append, MatchOption, inl, inr}, lemmas.List.{append-nil, map-append, drop_at}}
 use Rattle.std.{proofs.lemmas.Bool.{false≢true, eqb-true, eqb-false}, specs.Prelude.{◌==◌, nat_lt, ⊤}}
-use Rattle.nntp_wire.specs.{Octets.{crlf}, Lines.{HasNoCrlf, lines_of_stream}, Answer.{Asked, Response, Spells}, Frame.{HasFrame, framed, frame_octets}}
+use Rattle.nntp_wire.specs.{Octets.{crlf}, Lines.{HasNoCrlf, lines_of_stream}, Answer.{Asked, Response, Spells}, Frame.{HasFrame, frame_octets}}
 use Rattle.nntp_wire.specs.{Inner.{Prompts.{prompt_kind}, Search.{IsFrameThrough}}, Session.{closes}, declared.framing.FrameSearch.{FrameSearch}}
 use Rattle.nntp_wire.proofs.{SearchLemmas.{line_searched-more, frame_searched-more}, SpellLemmas.{one-frame}, StreamLemmas.{lines-first, lines-joined}}
 use Rattle.nntp_pair.specs.declared.{class.PairClass.{PairClass, TheVariants.{Surplus, Cut, Malformed}}, searches.Searches.{Searches}}
-use Rattle.nntp_pair.specs.{declared.{octet_counts.OctetCounts.{OctetCounts}, side.Side.{Side, TheVariants.{Client, Server}}}, Pairing.{Paired, Unpaired}}
-use Rattle.nntp_pair.specs.{Pairing.{IsNext, IsAnswered, Awaits, AreNext, IsBad, IsCut, IsMalformed, streams, asked_at, HasNext}, Inner.Pairing.{places_from}}
-use Rattle.nntp_pair.specs.Inner.{Feeding.{Fed, IsFed, EndsForGood, left_of, with_octets}, Sides.{given, count_of}, Searching.{left_from, BeginsWithPlace}}
+use Rattle.nntp_pair.specs.{declared.{octet_counts.OctetCounts.{OctetCounts}, side.Side.{Side, TheVariants.{Server}}}, Pairing.{Paired, Unpaired, IsNext}}
+use Rattle.nntp_pair.specs.{Pairing.{IsAnswered, Awaits, IsBad, IsCut, IsMalformed, streams, asked_at, HasNext}, Inner.{Pairing.{places_from}, Feeding.{Fed}}}
+use Rattle.nntp_pair.specs.Inner.{Feeding.{IsFed, EndsForGood, left_of, with_octets}, Sides.{given, count_of}, Searching.{left_from, BeginsWithPlace}}
 use Rattle.nntp_pair.{specs.Inner.Searching.{IsForNext, AreSearched, AreThrough, IsInStep}, proofs.{NextLemmas.{one-awaited}, PairingLemmas.{AreNext-push}}}
 use Rattle.nntp_pair.proofs.PairingLemmas.{frame-more}
 
@@ -45,15 +45,7 @@ is_greeted index some = grind (arith)
 
 -- behind the greeting the octets begin with the place of their first line
 pub line-place : (index : ℕ) (client line rest : List ℕ) → 0 < index → HasNoCrlf line → client ≡ (line ++ crlf) ++ rest → BeginsWithPlace (nat_lt 0 index) client (Some line) rest
-line-place index client line rest some is_line whole =
-    let greeted = is_greeted index some in
-    record {
-      front = line ++ crlf;
-      whole = whole;
-      places = λ more. ap (λ b. places_from b (client ++ more)) greeted
-          ∙ ap (λ t. map Some (lines_of_stream t)) (ap (λ t. t ++ more) whole ∙ append_assoc (line ++ crlf) rest more)
-          ∙ ap (map Some) (lines-first line (rest ++ more) is_line);
-    }
+line-place index client line rest some is_line whole = grind (arith, is_greeted, append_assoc, lines-first)
 
 -- at no octets more
 pub begins-here : (index : ℕ) (client : List ℕ) (place : Option (List ℕ)) (rest : List ℕ)
@@ -85,16 +77,12 @@ frame-searched index is_closed client server client_piece server_piece (Some sea
 -- with more octets of both streams the searches have come as far
 pub searched-more : (index : ℕ) (is_closed : Bool) (client server client_piece server_piece : List ℕ) (searches : Searches) → AreSearched (left_from index is_closed client server) client searches
     → AreSearched (left_from index is_closed (client ++ client_piece) (server ++ server_piece)) (client ++ client_piece) searches
-searched-more index is_closed client server client_piece server_piece searches are = record {
-  line = line_searched-more client client_piece searches.line are.line;
-  frame = frame-searched index is_closed client server client_piece server_piece searches.frame are.frame;
-}
+searched-more index is_closed client server client_piece server_piece searches are = search (arith, line_searched-more, frame-searched)
 
 -- where there is room for octets of a side, the server's stay few enough
 pub counted-small : (side : Side) (counts : OctetCounts) (octets : List ℕ) → counts.server < 2 ^ 64
     → count_of side counts + length octets < 2 ^ 64 → counts.server + length (given Server side octets) < 2 ^ 64
-counted-small Client counts octets small room = omega arith
-counted-small Server counts octets small room = room
+counted-small side counts octets h i = grind arith
 
 -- searches that have gone through the octets that are held
 pub in-step : (index : ℕ) (is_closed : Bool) (client server held_client held_server : List ℕ) (count : ℕ) (searches : Searches) → client ≡ held_client → server ≡ held_server
@@ -131,29 +119,17 @@ pub next-of : (left : Unpaired) (place : Option (List ℕ)) (pair : Paired) (res
     → IsAnswered place left.server pair.initial pair.response rest → (behind : Unpaired) × IsNext left pair behind
 next-of left place pair rest awaits index line answered = (
   record { index = left.index + 1; places = awaits.places; server = rest; is_closed = closes (asked_at pair.line) pair.response },
-  record {
-    index = index;
-    is_open = awaits.is_open;
-    place = awaits.first ∙ ap (λ p. p ∷ awaits.places) (sym line);
-    answered = subst (λ p. IsAnswered p left.server pair.initial pair.response rest) (sym line) answered;
-    next_index = refl;
-    closing = refl;
-  },
+  grind arith,
 )
 
 -- a frame takes two octets at least
 pub frame-shorter : (place : Option (List ℕ)) (server initial : List ℕ) (block : Option (List ℕ)) (rest : List ℕ)
     → HasFrame (asked_at place) server initial block rest → length rest + 2 ≤ length server
-frame-shorter place server initial block rest has =
-    let whole : length server ≡ length (frame_octets initial block ++ rest) = ap length has.whole in
-    omega (arith, whole, length-append (frame_octets initial block) rest, length-append (initial ++ crlf) (framed block), length-append initial crlf)
+frame-shorter place server initial block rest has = grind (arith, length-append)
 
 -- a frame that spells nothing is bad for good
 pub malformed-for_good : (left : Unpaired) (place : Option (List ℕ)) → Awaits left place → IsMalformed (asked_at place) left.server → EndsForGood Malformed left
-malformed-for_good left place awaits why = (
-  (λ none. let short = frame-shorter place left.server why.initial why.block why.rest why.frame in let empty : length left.server ≡ 0 = ap length none in absurd (omega arith), (place, awaits, why)),
-  tt,
-)
+malformed-for_good left place awaits why = grind arith
 
 -- where an exchange comes next, its frame is searched
 pub search-there : (left : Unpaired) (frame : Option FrameSearch) → frame ≡ None → MatchOption frame ((place : Option (List ℕ)) → ¬ (Awaits left place)) (IsFrameThrough left.server) → HasNext left → ⊥
@@ -188,28 +164,14 @@ surplus-left left none = at left.is_closed refl left.places refl where
 -- more octets of both streams came
 pub fed-more : (fed : Fed) (client_piece server_piece client server : List ℕ) (pairs : List Paired) → IsFed fed client server pairs
     → IsFed (with_octets client_piece server_piece fed) (client ++ client_piece) (server ++ server_piece) pairs
-fed-more fed client_piece server_piece client server pairs is = record {
-  paired = λ client_more server_more.
-      subst (λ (x : (List ℕ × List ℕ) × (List ℕ × List ℕ)). AreNext (streams x.0.0 x.0.1) pairs (left_from fed.index fed.is_closed x.1.0 x.1.1))
-      (λ i. (
-        (sym (append_assoc client client_piece client_more) i, sym (append_assoc server server_piece server_more) i),
-        (sym (append_assoc fed.client client_piece client_more) i, sym (append_assoc fed.server server_piece server_more) i),
-      ))
-      (is.paired (client_piece ++ client_more) (server_piece ++ server_more));
-  client_came = ap (λ n. n + length client_piece) is.client_came ∙ sym (length-append client client_piece);
-  server_came = ap (λ n. n + length server_piece) is.server_came ∙ sym (length-append server server_piece);
-}
+fed-more fed client_piece server_piece client server pairs is = grind (arith, append_assoc, length-append)
 
 -- ---- behind an exchange
 
 -- the octets behind the next place
 pub behind-place : (is_greeted : Bool) (client slice : List ℕ) (place : Option (List ℕ)) (rest : List ℕ) → slice ≡ client
     → BeginsWithPlace is_greeted client place rest → drop (length slice - length rest) client ≡ rest
-behind-place is_greeted client slice place rest same begins =
-    let long : length slice ≡ length client = ap length same in
-    let parts : length client ≡ length (begins.front ++ rest) = ap length begins.whole in
-    let size : length begins.front ≡ length slice - length rest = omega (arith, length-append begins.front rest) in
-    ap (drop (length slice - length rest)) begins.whole ∙ drop_at begins.front rest (length slice - length rest) size
+behind-place is_greeted client slice place rest same begins = grind (arith, length-append, drop_at)
 
 -- the frame that the search found is that of the response to the next place
 pub next-frame : (index : ℕ) (is_closed : Bool) (client server slice rest behind : List ℕ) (place : Option (List ℕ)) (search : FrameSearch) (initial : List ℕ) (block : Option (List ℕ)) (len : ℕ)

@@ -1,6 +1,6 @@
 -- What the parts of a pairing say of the whole.
-use Rattle.std.proofs.Common.{◌≡◌, ℕ, ◌<◌, ◌≤◌, ◌^◌, List, [], ◌∷◌, ◌++◌, Option, Some, Bool, true, false, refl, sym, ap, subst, ◌∙◌, length, map, count_by}
-use Rattle.std.{proofs.{Common.{cond, ◌+◌, arith, get_or, Fits, w8, length-append}, lemmas.List.Sums.{sum_by-cons}}, specs.Prelude.{is_some}}
+use Rattle.std.proofs.Common.{◌≡◌, ℕ, ◌<◌, ◌≤◌, ◌^◌, List, [], ◌∷◌, Option, Some, Bool, refl, sym, ap, subst, ◌∙◌, length, map, count_by, ◌+◌, arith, get_or}
+use Rattle.std.{proofs.{Common.{Fits, w8, length-append}, lemmas.List.Sums.{sum_by-cons}}, specs.Prelude.{is_some}}
 use Rattle.nntp_wire.specs.{Lines.{lines_of_stream}, Inner.Octets.{are_octets}, Answer.{Asked, Response, group_is, numbers_are, sends, active_are, plain}}
 use Rattle.nntp_wire.{specs.{Answer.{Spells}, Frame.{HasFrame, frame_octets}}, proofs.{OctetLemmas.{octets-fit, octets-parts}, SpellsDecided.{spelling-long}}}
 use Rattle.nntp_pair.specs.{Pairing.{IsMalformed, asked_at}, Inner.Pairing.{IsSpelled, lines_in, places_from}}
@@ -20,10 +20,7 @@ pub spelled : (place : Option (List ℕ)) (server initial : List ℕ) (block : O
 spelled place server initial block rest response asked same has spells fit small =
     let front = octets-parts (frame_octets initial block) rest (sym (ap are_octets has.whole) ∙ octets-fit server fit) in
     let lines = lines-few asked response (frame_octets initial block) spells in
-    let whole : length server ≡ length (frame_octets initial block ++ rest) = ap length has.whole in (
-      record { block = block; spells = subst (λ a. Spells a response (frame_octets initial block)) same spells; octets = front.0 },
-      omega (arith, lines, whole, length-append (frame_octets initial block) rest),
-    )
+    grind (arith, length-append)
 
 -- a frame that spells nothing
 pub malformed : (place : Option (List ℕ)) (server initial : List ℕ) (block : Option (List ℕ)) (rest : List ℕ) (asked : Asked) → asked ≡ asked_at place
@@ -39,11 +36,8 @@ malformed place server initial block rest asked same has nothing =
 
 some-count : (lines : List (List ℕ)) → count_by is_some (map Some lines) ≡ length lines
 some-count [] = refl
-some-count (line ∷ lines) =
-    let first : count_by is_some (map Some (line ∷ lines)) ≡ 1 + count_by is_some (map Some lines) = sum_by-cons (λ o. cond (is_some o) 1 0) (Some line) (map Some lines) in
-    omega (arith, some-count lines)
+some-count (line ∷ lines) = search (arith, sum_by-cons, some-count lines)
 
 -- the places with a line are those of the client's lines
 pub lines-count : (is_greeted : Bool) (client : List ℕ) → count_by is_some (places_from is_greeted client) ≡ length (lines_of_stream client)
-lines-count true client = some-count (lines_of_stream client)
-lines-count false client = some-count (lines_of_stream client)
+lines-count is_greeted client = grind (arith, some-count)

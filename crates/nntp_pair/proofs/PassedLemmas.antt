@@ -1,17 +1,15 @@
 -- A frame that spells nothing is passed over in one way, and only where the pairing would end at it.
-use Rattle.std.proofs.Common.{◌≡◌, ◌≢◌, ◌↔◌, ℕ, ◌+◌, ◌<◌, List, ◌∷◌, ◌++◌, length, drop, Option, None, Some, MatchOption, Bool, true, false, not, refl, sym}
-use Rattle.std.{proofs.{Common.{◌∙◌, ap, subst, arith, length-append}, lemmas.Bool.{true≢false}}, specs.Prelude.{is_some}}
-use Rattle.nntp_wire.specs.{Octets.{crlf}, Answer.{Asked, Spells, code_of, is_block_due}, Inner.Frame.{FrameParts, IsFrame}, Frame.{HasFrame, is_due_by}}
-use Rattle.nntp_wire.specs.{Frame.{framed, frame_octets}, Misspelling.{misspelling}, declared.misspelling.Misspelling.{Misspelling, TheVariants.{WrongBlock}}}
+use Rattle.std.proofs.Common.{◌≡◌, ◌≢◌, ◌↔◌, ℕ, ◌+◌, ◌<◌, List, ◌∷◌, length, drop, Option, None, Some, MatchOption, Bool, true, false, not, refl, sym, ◌∙◌, ap}
+use Rattle.std.{proofs.{Common.{subst, arith, length-append}, lemmas.Bool.{true≢false}}, specs.Prelude.{is_some}}
+use Rattle.nntp_wire.specs.{Answer.{Asked, Spells, code_of, is_block_due}, Inner.Frame.{FrameParts, IsFrame}, Frame.{HasFrame, is_due_by, frame_octets}}
+use Rattle.nntp_wire.specs.{Misspelling.{misspelling}, declared.misspelling.Misspelling.{Misspelling, TheVariants.{WrongBlock}}}
 use Rattle.nntp_wire.proofs.{MisspelledFrames.{misspelled-alone}, MisspellingsAreSo.{so}, SpellLemmas.{one-frame}}
 use Rattle.nntp_pair.specs.{declared.class.PairClass.TheVariants.{Malformed}, Pairing.{Unpaired, IsPassedOver, Awaits, IsBad, IsMalformed, Ending, bad, Ends}}
 use Rattle.nntp_pair.{specs.Pairing.{asked_at}, proofs.NextLemmas.{same_unpaired, one-awaited, one-end}}
 
 -- a frame takes octets
 pub frame-takes : (place : Option (List ℕ)) (server initial : List ℕ) (block : Option (List ℕ)) (rest : List ℕ) → HasFrame (asked_at place) server initial block rest → length rest < length server
-frame-takes place server initial block rest has =
-    let whole : length server ≡ length (frame_octets initial block ++ rest) = ap length has.whole in
-    omega (arith, whole, length-append (frame_octets initial block) rest, length-append (initial ++ crlf) (framed block), length-append initial crlf)
+frame-takes place server initial block rest has = grind (arith, length-append)
 
 pub passed-shorter : (a b : Unpaired) (line : Option (List ℕ)) (initial : List ℕ) (block : Option (List ℕ)) → IsPassedOver a line initial block b → length b.server < length a.server
 passed-shorter a b line initial block passed = frame-takes line a.server initial block b.server passed.frame
@@ -20,23 +18,15 @@ passed-shorter a b line initial block passed = frame-takes line a.server initial
 pub one-passed : (a b c : Unpaired) (line also : Option (List ℕ)) (initial other : List ℕ) (block next : Option (List ℕ))
     → IsPassedOver a line initial block b → IsPassedOver a also other next c → (line ≡ also) × (initial ≡ other) × (block ≡ next) × (b ≡ c)
 one-passed a b c line also initial other block next p q =
-    let places : line ∷ b.places ≡ also ∷ c.places = sym p.place ∙ q.place in
     let same : line ≡ also = cc in
     let behind : b.places ≡ c.places = cc in
     let here : HasFrame (asked_at also) a.server initial block b.server = subst (λ l. HasFrame (asked_at l) a.server initial block b.server) same p.frame in
     let one = one-frame (asked_at also) a.server initial other block next b.server c.server here q.frame in
-    (same, one.0, one.1, same_unpaired b c (p.next_index ∙ sym q.next_index) behind one.2 (p.stays_open ∙ sym q.stays_open))
+    grind (arith, same_unpaired)
 
 -- the pairing would end there
 pub passed-ends : (a b : Unpaired) (line : Option (List ℕ)) (initial : List ℕ) (block : Option (List ℕ)) → IsPassedOver a line initial block b → Ends a (bad Malformed)
-passed-ends a b line initial block passed = (
-  λ none. let empty : length a.server ≡ 0 = ap length none in let less = passed-shorter a b line initial block passed in omega arith,
-  (
-    line,
-    record { is_open = passed.is_open; places = b.places; first = passed.place },
-    record { initial = initial; block = block; rest = b.server; frame = passed.frame; nothing = passed.nothing },
-  ),
-)
+passed-ends a b line initial block passed = grind arith
 
 -- in no other way
 pub passed-no-other : (e : Ending) (a b : Unpaired) (line : Option (List ℕ)) (initial : List ℕ) (block : Option (List ℕ)) → IsPassedOver a line initial block b → Ends a e → e ≡ bad Malformed
@@ -45,8 +35,7 @@ passed-no-other e a b line initial block passed ends = one-end e (bad Malformed)
 -- a frame that spells nothing is passed over
 pub malformed-passed : (a : Unpaired) (place : Option (List ℕ)) (awaits : Awaits a place) (why : IsMalformed (asked_at place) a.server)
     → IsPassedOver a place why.initial why.block (record { index = a.index + 1; places = awaits.places; server = why.rest; is_closed = false })
-malformed-passed a place awaits why =
-    record { is_open = awaits.is_open; place = awaits.first; frame = why.frame; nothing = why.nothing; next_index = refl; stays_open = refl }
+malformed-passed a place awaits why = grind arith
 
 -- so there is one to pass over exactly where the pairing ends at one
 pub passed-exactly : (a : Unpaired) → Ends a (bad Malformed)

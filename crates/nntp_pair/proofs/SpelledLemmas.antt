@@ -128,5 +128,4 @@ pub bad-unspelled : (client server : List ℕ) (pairs : List Paired) (class : Pa
     → StaysOpen (prompts_of client) responses → ¬ (AreSpelled (prompts_of client) responses server [])
 bad-unspelled client server pairs class responses pairing stays spelled =
     let whole = spelled-whole client server pairs (bad class) responses pairing spelled stays in
-    let same : bad class ≡ end whole.1 = whole.2 in
     cc

@@ -1,6 +1,6 @@
 -- What is said with the words of `Pairing.antt`, and needn't be believed.
 use Rattle.std.specs.Prelude.{◌≡◌, ℕ, Bool, true, false, List, ◌++◌, Option, Some, map, length, IsTrue, ⊤}
-use Rattle.nntp_wire.specs.{Inner.Octets.{are_octets}, Lines.{lines_of_stream}, Answer.{to, Response, numbers_are, active_are, Spells}, Frame.{frame_octets}}
+use Rattle.nntp_wire.specs.{Inner.Octets.{are_octets}, Lines.{lines_of_stream}, Answer.{Response, numbers_are, active_are, Spells}, Frame.{frame_octets}}
 use Rattle.nntp_pair.specs.{declared.class.PairClass.{PairClass, TheVariants.{Surplus, Cut, Malformed}}, Pairing.{places_of, asked_at, Paired, Unpaired}}
 use Rattle.nntp_pair.specs.Pairing.{AreNext, responses_of}
 
