@@ -1,8 +1,8 @@
 -- What comes next in a pairing is determined.
-use Rattle.std.proofs.{Common.{◌≡◌, ℕ, ◌<◌, List, [], ◌∷◌, length, Option, sym, ◌∙◌, ap, subst, inl, inr, arith, length-append}, lemmas.Bool.{false≢true}}
+use Rattle.std.proofs.Common.{◌≡◌, ℕ, ◌<◌, List, ◌∷◌, length, Option, sym, ◌∙◌, ap, subst, arith, length-append}
 use Rattle.nntp_wire.{specs.{Answer.{Response, Spells}, Frame.{frame_octets}}, proofs.{SpellLemmas.{one-frame}, ResponseLemmas.{one-response}}}
-use Rattle.nntp_pair.specs.{declared.class.PairClass.{PairClass, TheVariants.{Surplus, Cut, Malformed}}, Pairing.{Paired, Unpaired, IsAnswered, IsNext, Awaits}}
-use Rattle.nntp_pair.specs.Pairing.{IsBad, Ending, end, bad, Ends, asked_at}
+use Rattle.nntp_pair.specs.{declared.class.PairClass.{PairClass, TheVariants.{Malformed}}, Pairing.{Paired, Unpaired, IsAnswered, IsNext, Awaits, IsBad}}
+use Rattle.nntp_pair.specs.Pairing.{Ending, end, bad, Ends, asked_at}
 
 -- pairs of the same parts are the same
 same_paired : (p q : Paired) → p.index ≡ q.index → p.line ≡ q.line → p.initial ≡ q.initial → p.response ≡ q.response → p ≡ q
@@ -30,7 +30,6 @@ next-shorter a b x next = answered-shorter x.line a.server x.initial x.response 
 pub one-next : (a b c : Unpaired) (x y : Paired) → IsNext a x b → IsNext a y c → (x ≡ y) × (b ≡ c)
 one-next a b c x y n m =
     let line : x.line ≡ y.line = cc in
-    let behind : b.places ≡ c.places = cc in
     let here : IsAnswered y.line a.server x.initial x.response b.server = subst (λ p. IsAnswered p a.server x.initial x.response b.server) line n.answered in
     let same = one-answered y.line a.server x.initial y.initial x.response y.response b.server c.server here m.answered in
     grind (arith, same_paired, same_unpaired)
@@ -45,14 +44,12 @@ one-awaited a place other p q = let places : place ∷ p.places ≡ other ∷ q.
 
 -- where a pair comes next, nothing is bad
 next-no-bad : (class : PairClass) (a b : Unpaired) (x : Paired) → IsNext a x b → IsBad class a → ⊥
-next-no-bad Surplus a b x next (inl closed) = false≢true (sym next.is_open ∙ closed)
-next-no-bad Surplus a b x next (inr none) = let places : x.line ∷ b.places ≡ [] = sym next.place ∙ none in cc
-next-no-bad Cut a b x next (place, awaits, none) = grind arith
 next-no-bad Malformed a b x next (place, awaits, why) =
     let here : IsAnswered place a.server x.initial x.response b.server = subst (λ p. IsAnswered p a.server x.initial x.response b.server) (awaited a b x place next awaits) next.answered in
     let same = one-frame (asked_at place) a.server x.initial why.initial here.block why.block b.server why.rest here.frame why.frame in
     let octets : frame_octets x.initial here.block ≡ frame_octets why.initial why.block = ap (λ l. frame_octets l here.block) same.0 ∙ ap (frame_octets why.initial) same.1 in
     why.nothing x.response (subst (Spells (asked_at place) x.response) octets here.spells)
+next-no-bad class a b x next h = grind arith
 
 -- nor does a pairing end there
 pub next-no-end : (e : Ending) (a b : Unpaired) (x : Paired) → IsNext a x b → Ends a e → ⊥

@@ -1,10 +1,10 @@
 -- A pairing is determined, and stays when more octets follow.
-use Rattle.std.proofs.Common.{◌≡◌, ◌≢◌, ℕ, ◌+◌, List, [], ◌∷◌, ◌++◌, length, drop, map, arith, Option, Some, refl, sym, ◌∙◌, ap, subst, inl, append_assoc}
+use Rattle.std.proofs.Common.{◌≡◌, ◌≢◌, ℕ, ◌+◌, List, [], ◌∷◌, ◌++◌, length, drop, map, arith, Option, Some, refl, sym, ◌∙◌, ap, subst, append_assoc}
 use Rattle.std.proofs.lemmas.List.{map-append}
 use Rattle.nntp_wire.{specs.Frame.{HasFrame}, proofs.StreamLemmas.{lines-joined}}
-use Rattle.nntp_pair.specs.{declared.class.PairClass.{PairClass, TheVariants.{Surplus, Cut, Malformed}}, Pairing.{Paired, Unpaired, IsNext, AreNext, Awaits}}
-use Rattle.nntp_pair.specs.{Pairing.{IsBad, Ending, bad, Ends, IsPairing, streams, asked_at, places_of}, Inner.Pairing.{IsLasting, with_more}}
-use Rattle.nntp_pair.proofs.NextLemmas.{one-next, next-no-end, one-end}
+use Rattle.nntp_pair.specs.{declared.class.PairClass.{PairClass, TheVariants.{Malformed}}, Pairing.{Paired, Unpaired, IsNext, AreNext, Awaits, IsBad, Ending}}
+use Rattle.nntp_pair.{specs.{Pairing.{bad, Ends, IsPairing, streams, asked_at, places_of}, Inner.Pairing.{IsLasting, with_more}}, proofs.NextLemmas.{one-next}}
+use Rattle.nntp_pair.proofs.NextLemmas.{next-no-end, one-end}
 
 -- one more pair
 pub AreNext-push : (pairs : List Paired) (a b c : Unpaired) (x : Paired) → AreNext a pairs b → IsNext b x c → AreNext a (pairs ++ (x ∷ [])) c
@@ -83,13 +83,12 @@ awaits-more places octets left place awaits = record { is_open = awaits.is_open;
 
 -- what no octets can mend stays bad
 pub bad-stays : (class : PairClass) (places : List (Option (List ℕ))) (octets : List ℕ) (left : Unpaired) → IsLasting class left → IsBad class left → IsBad class (with_more places octets left)
-bad-stays Surplus places octets left lasting why = inl lasting
-bad-stays Cut places octets left lasting why = absurd lasting
 bad-stays Malformed places octets left lasting (place, awaits, why) = (
   place,
   awaits-more places octets left place awaits,
   record { initial = why.initial; block = why.block; rest = why.rest ++ octets; frame = frame-more place left.server why.initial why.block why.rest octets why.frame; nothing = why.nothing },
 )
+bad-stays class places octets left lasting why = grind arith
 
 pub some-stay : (octets more : List ℕ) → octets ≢ [] → octets ++ more ≢ []
 some-stay [] more some none = some refl

@@ -4,8 +4,8 @@ use Rattle.std.{proofs.{Common.{subst, arith, length-append}, lemmas.Bool.{true�
 use Rattle.nntp_wire.specs.{Answer.{Asked, Spells, code_of, is_block_due}, Inner.Frame.{FrameParts, IsFrame}, Frame.{HasFrame, is_due_by, frame_octets}}
 use Rattle.nntp_wire.specs.{Misspelling.{misspelling}, declared.misspelling.Misspelling.{Misspelling, TheVariants.{WrongBlock}}}
 use Rattle.nntp_wire.proofs.{MisspelledFrames.{misspelled-alone}, MisspellingsAreSo.{so}, SpellLemmas.{one-frame}}
-use Rattle.nntp_pair.specs.{declared.class.PairClass.TheVariants.{Malformed}, Pairing.{Unpaired, IsPassedOver, Awaits, IsBad, IsMalformed, Ending, bad, Ends}}
-use Rattle.nntp_pair.{specs.Pairing.{asked_at}, proofs.NextLemmas.{same_unpaired, one-awaited, one-end}}
+use Rattle.nntp_pair.specs.{declared.class.PairClass.TheVariants.{Malformed}, Pairing.{Unpaired, IsPassedOver, Awaits, IsBad, IsMalformed, bad, Ends, asked_at}}
+use Rattle.nntp_pair.proofs.NextLemmas.{same_unpaired, one-awaited}
 
 -- a frame takes octets
 pub frame-takes : (place : Option (List ℕ)) (server initial : List ℕ) (block : Option (List ℕ)) (rest : List ℕ) → HasFrame (asked_at place) server initial block rest → length rest < length server
@@ -27,10 +27,6 @@ one-passed a b c line also initial other block next p q =
 -- the pairing would end there
 pub passed-ends : (a b : Unpaired) (line : Option (List ℕ)) (initial : List ℕ) (block : Option (List ℕ)) → IsPassedOver a line initial block b → Ends a (bad Malformed)
 passed-ends a b line initial block passed = grind arith
-
--- in no other way
-pub passed-no-other : (e : Ending) (a b : Unpaired) (line : Option (List ℕ)) (initial : List ℕ) (block : Option (List ℕ)) → IsPassedOver a line initial block b → Ends a e → e ≡ bad Malformed
-passed-no-other e a b line initial block passed ends = one-end e (bad Malformed) a ends (passed-ends a b line initial block passed)
 
 -- a frame that spells nothing is passed over
 pub malformed-passed : (a : Unpaired) (place : Option (List ℕ)) (awaits : Awaits a place) (why : IsMalformed (asked_at place) a.server)
