@@ -1,18 +1,18 @@
 -- With which earlier answers a bad answer conflicts.
-use Rattle.std.proofs.Common.{map, length-append, ◌≡◌, ℕ, zero, suc, ◌+◌, ◌<◌, ◌≤◌, ◌^◌, ◌⊎◌, ◌↔◌, IsTrue, List, [], ◌∷◌, ◌++◌, length, Option, None, Some, inl}
-use Rattle.std.proofs.{Common.{inr, refl, sym, ap, subst, ◌∙◌, arith, true, false}, lemmas.{Bool.{cases_lt, cases_eq, true≢false, not-true}, List.{length-map}}}
-use Rattle.std.specs.{Prelude.{not, Contains}, List.{AllByRecursion, flat_map}, Cmp.{nat_cmp_total}, FinMap.{len, len-entries}}
+use Rattle.std.proofs.Common.{map, length-append, ◌≡◌, ℕ, zero, suc, ◌+◌, ◌<◌, ◌≤◌, ◌^◌, ◌⊎◌, ◌↔◌, IsTrue, List, [], ◌∷◌, ◌++◌, length, Option, Some, inl, inr}
+use Rattle.std.proofs.{Common.{refl, sym, ap, subst, ◌∙◌, arith}, lemmas.{Bool.{cases_lt, cases_eq, true≢false, not-true}, List.{length-map}}}
+use Rattle.std.specs.{Prelude.{not, Contains}, List.{AllByRecursion, flat_map}, Cmp.{nat_cmp_total}, FinMap.{len-entries}}
 use Rattle.nntp_said.specs.{declared.position.Position.{Position, TheVariants.{Nowhere}}, Asks.{position_after}, Facts.{Fact, Holds, ThereIs, Asks, IdAt}}
 use Rattle.nntp_said.{specs.{Facts.{facts_of, facts_from, group_of}, Inner.Facts.{FitsAll}}, proofs.{CurrentArticle.{run_from}, FactsHold.{run_of_facts}}}
 use Rattle.nntp_theory.specs.{Classes.{visible_from, position_from, asked_next}, Inner.{Permits.{SomePermits}, Given.{size}, Together.{Together}}}
 use Rattle.nntp_theory.specs.{Inner.Conflict.{FitsThere, AreFound, IsPartOfCore}, Given.{asks_of}, Together.{is_possible}, Conflict.{Placed, placed_from}}
-use Rattle.nntp_theory.specs.Conflict.{widest, said as said_there, a_group, the_group, with_group, told, SomeHas, told_at, told_with, below, IsCore, Point}
-use Rattle.nntp_theory.specs.Conflict.{Step, Group, Number, Count, First, IdOf, PlaceOf, Article, HeadOf, BodyOf, ConflictAt, AreAmong, IsEndOfCore}
+use Rattle.nntp_theory.specs.Conflict.{said as said_there, a_group, the_group, with_group, told, SomeHas, told_at, told_with, below, IsCore, Point, Step, Group}
+use Rattle.nntp_theory.specs.Conflict.{Number, Count, First, IdOf, PlaceOf, Article, HeadOf, BodyOf, ConflictAt, AreAmong, IsEndOfCore}
 use Rattle.nntp_theory.proofs.{Maps.{keys_among}, Given.{GivenPermits.{said}, ConstructedSpool.{made}, GivenHasFacts.{given_of_facts, given_has}}}
-use Rattle.nntp_theory.proofs.Session.{OneMoreAnswer.{facts_grow}, NumbersOfShownGroups.{Placed as IsPlaced, Among, selectable, session_placed}}
-use Rattle.nntp_theory.proofs.{Session.{GroupOfAnAnswer.{IsOf, one_group, same_selected}, FittingFacts.{IsFitting, answer_fitting}}, Members.{In, all_at}}
-use Rattle.nntp_theory.proofs.Members.{all_from, all_both, all_front, all_back, in_front, in_back, in_cases, in_map, found_in, to_flat, from_flat, contains_in}
-use Rattle.nntp_theory.proofs.{Members.{in_contains}, Together.FactsOfASpoolStand.{stand}}
+use Rattle.nntp_theory.proofs.Session.{OneMoreAnswer.{facts_grow}, NumbersOfShownGroups.{Placed as IsPlaced, Among, session_placed}}
+use Rattle.nntp_theory.proofs.{Session.{GroupOfAnAnswer.{same_selected}, FittingFacts.{IsFitting, answer_fitting}}, Members.{In, all_at, all_from, all_both}}
+use Rattle.nntp_theory.proofs.Members.{all_front, all_back, in_front, in_back, in_cases, in_map, found_in, to_flat, from_flat, contains_in, in_contains}
+use Rattle.nntp_theory.proofs.Together.FactsOfASpoolStand.{stand}
 use Rattle.nntp_wire.specs.{Answer.{Asked, Response}, declared.marks.Marks.{Marks, TheVariants.{Lenient}}}
 use Rattle.nntp_article.specs.Session.{Spool.{Spool, IsSpool, IsGroup, IsNumber, numbers, Name}, Machine.{Visible, visible_after, start, fits}}
 use Rattle.nntp_article.specs.declared.session.profile.Profile.{Profile}
@@ -30,20 +30,7 @@ some_has profile facts fitting placed small together =
 
 -- that there is such a group fits
 group_fitting : (profile : Profile) (group : Option Name) → AllByRecursion (IsFitting profile) (the_group profile group)
-group_fitting profile None = tt
-group_fitting profile (Some name) = (tt, ((omega arith, λ e. absurd (omega arith)), tt))
-
--- the group is placed, where it is among all facts
-group_placed : (profile : Profile) (all : List Fact) (group : Option Name) → AllByRecursion (Among all) (the_group profile group) → AllByRecursion (IsPlaced Lenient all) (the_group profile group)
-group_placed profile all None h = tt
-group_placed profile all (Some name) h = let s = selectable Lenient all name (widest profile) h in (s, (s, tt))
-
--- and what speaks of it is too
-of_placed : (profile : Profile) (all : List Fact) (group : Option Name) → AllByRecursion (Among all) (the_group profile group) → (fact : Fact) → IsOf group fact → IsPlaced Lenient all fact
-of_placed profile all group h (ThereIs name) e = selectable Lenient all name (widest profile) (subst (λ g. AllByRecursion (Among all) (the_group profile g)) e h)
-of_placed profile all group h (Asks name ask) e = selectable Lenient all name (widest profile) (subst (λ g. AllByRecursion (Among all) (the_group profile g)) e h)
-of_placed profile all group h (IdAt name n id) e = selectable Lenient all name (widest profile) (subst (λ g. AllByRecursion (Among all) (the_group profile g)) e h)
-of_placed profile all group h fact e = tt
+group_fitting profile group = grind arith
 
 -- it says the same in each visible state in which that group is selected
 pub there_said : (how : Marks) (a : Placed) (v : Visible) → v.selected ≡ a.selected → facts_of how v a.position a.asked a.response ≡ said_there how a
@@ -59,13 +46,7 @@ told_fitting profile a f =
 
 -- and is placed among all facts that it is among
 pub told_placed : (profile : Profile) (all : List Fact) (a : Placed) → AllByRecursion (Among all) (told profile a) → AllByRecursion (IsPlaced Lenient all) (told profile a)
-told_placed profile all a h =
-    let own = said_there profile.marks a in
-    let group = all_front (Among all) (the_group profile (group_of own)) own h in
-    let one = one_group profile.marks (record start.visible { selected = a.selected }) a.position a.asked a.response in
-    all_both (IsPlaced Lenient all) (the_group profile (group_of own)) own
-    (group_placed profile all (group_of own) group)
-    (all_from (IsPlaced Lenient all) own (λ fact i. of_placed profile all (group_of own) group fact (all_at (IsOf (group_of own)) fact own one i)))
+told_placed profile all a h = grind arith
 
 -- where it holds, the facts of the answer do
 pub told_own : (profile : Profile) (S : Spool) (facts : List Fact) → AllByRecursion (Holds S) (with_group profile facts) → AllByRecursion (Holds S) facts
@@ -196,20 +177,12 @@ lower Stand bound low (k ∷ places) l f = (let b = f.0 in omega arith, f.1, f.2
 split : (Stand : List ℕ → Type 0) (bound : ℕ) (front back : List ℕ) (k : ℕ) → AreFound Stand bound (front ++ k ∷ back)
     → AllByRecursion (λ j. j < k) front × (bound ≤ k) × Stand (below k ++ back)
 split Stand bound [] back k f = (tt, f.0, f.1)
-split Stand bound (j ∷ front) back k f =
-    let r = split Stand (j + 1) front back k f.2 in
-    let b = f.0 in
-    let l = r.1 in
-    ((omega arith, r.0), omega arith, r.2)
+split Stand bound (j ∷ front) back k f = grind (arith, split Stand (j + 1) front back k f.2)
 
 pub core_start : (profile : Profile) (bad : Placed) (answers : List Placed)
     → (SomeHas profile (told_with profile bad answers (below (length answers))) → ⊥)
     → IsPartOfCore profile bad answers (length answers) []
-core_start profile bad answers none = record {
-  there = tt;
-  conflict = λ h. none (fewer_places profile bad answers (below (length answers)) (below (length answers) ++ []) (λ k i. in_front k (below (length answers)) [] i) h);
-  found = tt;
-}
+core_start profile bad answers none = search (arith, fewer_places, in_front)
 
 pub core_step : (profile : Profile) (bad : Placed) (answers : List Placed) (bound k : ℕ) (places : List ℕ)
     → IsPartOfCore profile bad answers bound places → k < bound → bound ≤ length answers
@@ -260,8 +233,7 @@ pub group_holds : (profile : Profile) (S : Spool) (name : Name) → IsSpool prof
 group_holds profile S name spool group =
     let in_limit : (n : ℕ) → IsNumber (numbers S name) n → (1 ≤ n) × (n ≤ profile.limit) = λ n i. spool.numbers_in_limit name n i in
     let few = keys_among nat_cmp_total (numbers S name) (map suc (below profile.limit)) (λ q i. let l = in_limit q i in one_behind profile.limit q l.0 l.1) in
-    let count : len (numbers S name) ≤ profile.limit = omega (arith, few, len-entries (numbers S name), length-below profile.limit) in
-    (group, ((count, in_limit, tt), tt))
+    grind (arith, len-entries, length-below)
 
 -- that there is the group of which facts speak says no more of a spool that has them
 with_holds : (profile : Profile) (S : Spool) (all : List Fact) → IsSpool profile.limit S → AllByRecursion (Holds S) all
@@ -354,10 +326,7 @@ contradicts profile ps answers asked response comes fits none (S, spool, holds) 
 -- a place is one of some, or isn't
 in_or_not : (k : ℕ) (xs : List ℕ) → In k xs ⊎ (In k xs → ⊥)
 in_or_not k [] = inr (λ i. i)
-in_or_not k (x ∷ xs) = elim (cases_eq x k) [
-  | inl e ↦ inl (inl e)
-  | inr n ↦ elim (in_or_not k xs) [ inl i ↦ inl (inr i) | inr m ↦ inr (λ i. elim i [ inl e ↦ n e | inr j ↦ m j ]) ]
-]
+in_or_not k (x ∷ xs) = grind (arith, cases_eq, in_or_not k xs)
 
 -- an element splits the list
 pub split_at : (k : ℕ) (xs : List ℕ) → In k xs → (front : List ℕ) × (back : List ℕ) × (xs ≡ front ++ k ∷ back)
@@ -413,13 +382,11 @@ none_at_point profile facts point h s = at_point facts point h (stand profile.li
 -- one of the places is below the bound, or none is
 low_or_not : (bound : ℕ) (places : List ℕ) → ((k : ℕ) × (k < bound) × In k places) ⊎ ((k : ℕ) → In k places → bound ≤ k)
 low_or_not bound [] = inr (λ k i. absurd i)
-low_or_not bound (j ∷ places) = elim (cases_lt j bound) [
-  | inl l ↦ inl (j, l, inl refl)
-  | inr le ↦ elim (low_or_not bound places) [
-    | inl there ↦ inl (there.0, there.1, inr there.2)
-    | inr none ↦ inr (λ k i. elim i [ inl e ↦ omega (arith, le, e) | inr more ↦ none k more ])
-  ]
-]
+low_or_not bound (j ∷ places) =
+    elim (cases_lt j bound) [
+      | inl l ↦ inl (j, l, inl refl)
+      | inr le ↦ grind (arith, low_or_not bound places)
+    ]
 
 -- each conflict among those below the bound and those at the places has one below the bound
 pub one_below : (profile : Profile) (bad : Placed) (answers : List Placed) (bound : ℕ) (places some : List ℕ) → IsEndOfCore profile bad answers bound places

@@ -1,6 +1,6 @@
 -- What was found of a core stays so behind further answers.
-use Rattle.std.proofs.Common.{◌≡◌, ◌∙◌, ℕ, zero, suc, ◌+◌, ◌<◌, ◌≤◌, List, [], ◌∷◌, ◌++◌, Option, None, Some, length, length-append, slice_get, arith, refl}
-use Rattle.std.{proofs.Common.{sym, ap, subst}, specs.{Prelude.{⊤, MatchOption}, List.{AllByRecursion, flat_map}, Option.{option_map_or}}}
+use Rattle.std.proofs.Common.{◌≡◌, ℕ, zero, suc, ◌+◌, ◌<◌, ◌≤◌, List, [], ◌∷◌, ◌++◌, Option, None, Some, length, length-append, slice_get, arith, refl, sym, ap}
+use Rattle.std.{proofs.Common.{subst}, specs.{Prelude.{⊤, MatchOption}, List.{AllByRecursion, flat_map}, Option.{option_map_or}}}
 use Rattle.nntp_article.specs.declared.session.profile.Profile.{Profile}
 use Rattle.nntp_theory.specs.Conflict.{Placed, SomeHas, IsCore, IsEndOfCore, IsFound, Core, places_of, below, told, told_at, told_with}
 use Rattle.nntp_theory.{specs.Inner.Conflict.{HasLast}, proofs.{Conflicts.{from_below}, Members.{all_at, all_both, all_from, all_front, all_back, contains_in}}}
@@ -23,9 +23,7 @@ below_there answers bound k le l = all_from (λ j. j < length answers) (below bo
 module _ (profile : Profile) (bad : Placed) (answers more : List Placed) where
   told_there : (places : List ℕ) → AreThere answers places → flat_map (told_at profile (answers ++ more)) places ≡ flat_map (told_at profile answers) places
   told_there [] there = refl
-  told_there (k ∷ places) there =
-      ap (λ o. option_map_or (told profile) o [] ++ flat_map (told_at profile (answers ++ more)) places) (in_front_of answers more k there.0)
-      ∙ ap (λ facts. told_at profile answers k ++ facts) (told_there places there.1)
+  told_there (k ∷ places) there = grind (arith, in_front_of, told_there places there.1)
 
   -- they say the same
   pub told_still : (places : List ℕ) → AreThere answers places → told_with profile bad (answers ++ more) places ≡ told_with profile bad answers places
@@ -86,8 +84,7 @@ module _ (profile : Profile) (bad : Placed) (answers more : List Placed) where
   found_still : (rest : Option ℕ) (places : List ℕ) → MatchOption rest ⊤ (λ bound. 0 < length places)
       → MatchOption rest (IsCore profile bad answers places) (λ bound. IsEndOfCore profile bad answers bound places)
       → MatchOption rest (IsCore profile bad (answers ++ more) places) (λ bound. IsEndOfCore profile bad (answers ++ more) bound places)
-  found_still None places some core = core_still places core
-  found_still (Some bound) places some end = end_still bound places some end
+  found_still rest places h i = grind (arith, core_still, end_still)
 
   pub core_goes_on : (core : Core) → HasLast core → IsFound profile bad answers core → IsFound profile bad (answers ++ more) core
   core_goes_on core some is = record { ascending = is.ascending; found = found_still core.rest core.places some is.found }

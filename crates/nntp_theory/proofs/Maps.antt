@@ -1,9 +1,9 @@
 -- Maps: their keys, their entries, and maps made of lists of keys.
 use Rattle.std.proofs.Common.{◌≡◌, ℕ, ◌≤◌, Bool, true, false, cond, ◌&&◌, T, List, [], ◌∷◌, length, map, Option, None, Some, is_some, IsSome, inl, inr, refl}
-use Rattle.std.proofs.{Common.{sym, ap, subst, ◌∙◌}, lemmas.{Bool.{and_parts}, Float.{T_from_true}, List.{length-map}, Map.Keys.{IsDistinct-from_sorted}}}
-use Rattle.std.{proofs.lemmas.Map.Made.{length-le_from_is_member}, specs.List.{list_all, IsDistinct, AllByRecursion, Sorted.{IsStrictlySortedBy}}}
-use Rattle.std.specs.{declared.cmp.Ordering.{Ordering, TheVariants.{Less, Equal, Greater}}, Ordering.{eq_by_cmp, is_lt}, Cmp.{IsTotalOrder, eq_by_cmp_equiv}}
-use Rattle.std.specs.{Cmp.{Equal-is, both_ways}, FinMap.{FinMap, get, len, find, is_sorted, keys, entries, entries_sorted, len-entries, get-entries}}
+use Rattle.std.proofs.{Common.{sym, ap, subst, ◌∙◌, arith}, lemmas.{Bool.{and_parts}, Float.{T_from_true}, List.{length-map}}}
+use Rattle.std.{proofs.lemmas.Map.{Keys.{IsDistinct-from_sorted}, Made.{length-le_from_is_member}}, specs.List.{list_all, IsDistinct, AllByRecursion}}
+use Rattle.std.specs.{List.Sorted.{IsStrictlySortedBy}, declared.cmp.Ordering.{Ordering, TheVariants.{Less}}, Ordering.{eq_by_cmp, is_lt}, Cmp.{IsTotalOrder}}
+use Rattle.std.specs.{Cmp.{eq_by_cmp_equiv, Equal-is}, FinMap.{FinMap, get, len, find, is_sorted, keys, entries, entries_sorted, len-entries, get-entries}}
 use Rattle.std.specs.FinMap.{contains_key-keys, from_entries, get-from_entries, from_sorted, entries-from_sorted, same_map, IsAntisymmetric}
 use Rattle.std.specs.FinMap.Entries.{below_all}
 use Rattle.nntp_theory.proofs.Members.{In, all_at, any_in, in_map, from_map}
@@ -12,13 +12,10 @@ use Rattle.nntp_theory.proofs.Members.{In, all_at, any_in, in_map, from_map}
 
 -- a test that passes
 T-is_true : (b : Bool) → T b → b ≡ true
-T-is_true true h = refl
-T-is_true false h = absurd h
+T-is_true b h = grind arith
 
 is_less : (r : Ordering) → is_lt r ≡ true → r ≡ Less
-is_less Less h = refl
-is_less Equal h = cc
-is_less Greater h = cc
+is_less r h = grind arith
 
 below_keys : {K X : Type 0} (R : K → K → Ordering) (x : K) (es : List (K × X)) → T (below_all R x es) → AllByRecursion (λ y. R x y ≡ Less) (map (λ e. e.0) es)
 below_keys R x [] h = tt
@@ -58,8 +55,7 @@ module _ {K X : Type 0} {R : K → K → Ordering} (o : IsTotalOrder R) where
 find_distinct : {K X : Type 0} {R : K → K → Ordering} (o : IsTotalOrder R) (k : K) (v : X) (es : List (K × X)) → IsDistinct (eq_by_cmp R) (map (λ e. e.0) es) → In (k, v) es → find R k es ≡ Some v
 unfolding IsDistinct
 find_distinct o k v [] d i = absurd i
-find_distinct {R = R} o k v (e ∷ es) d (inl same) =
-    ap (λ b. cond b (Some e.1) (find R k es)) (ap (λ e. eq_by_cmp R k e.0) same ∙ (eq_by_cmp_equiv o).refl k) ∙ ap (λ e. Some e.1) same
+find_distinct {R = R} o k v (e ∷ es) d (inl same) = grind arith
 find_distinct {R = R} o k v (e ∷ es) d (inr i) =
     let apart = all_at (λ y. eq_by_cmp R e.0 y ≡ false) k (map (λ e. e.0) es) d.0 (in_map (λ e. e.0) (k, v) es i) in
     ap (λ b. cond b (Some e.1) (find R k es)) ((eq_by_cmp_equiv o).symm k e.0 ∙ apart) ∙ find_distinct o k v es d.1 i
@@ -131,17 +127,13 @@ module _ {K X : Type 0} {R : K → K → Ordering} (o : IsTotalOrder R) (same : 
   unfolding made_of
   get-made_of f ks q v e =
       let i = entry_in same q v (map (λ k. (k, f k)) ks) (sym (get-from_entries o (map (λ k. (k, f k)) ks) q) ∙ e) in
-      let g = from_map (λ k. (k, f k)) (q, v) ks i in
-      let k : g.0 ≡ q = ap (λ e. e.0) g.2 in
-      (subst (λ k. In k ks) k g.1, sym (ap (λ e. e.1) g.2) ∙ ap f k)
+      grind (arith, from_map)
 
   -- a key is found
   found : (f : K → X) (ks : List K) (q : K) → In q ks → IsSome (find R q (map (λ k. (k, f k)) ks))
   found f [] q i = absurd i
   found f (k ∷ ks) q (inl e) = ap (λ b. is_some (cond b (Some (f k)) (find R q (map (λ k. (k, f k)) ks)))) (ap (eq_by_cmp R q) e ∙ (eq_by_cmp_equiv o).refl q)
-  found f (k ∷ ks) q (inr i) =
-      let rest = found f ks q i in
-      elim (eq_by_cmp R q k) as (λ b. IsSome (cond b (Some (f k)) (find R q (map (λ k. (k, f k)) ks)))) [ true ↦ refl | false ↦ rest ]
+  found f (k ∷ ks) q (inr i) = grind (arith, found f ks q i)
 
   -- and so in the map
   pub in-made_of : (f : K → X) (ks : List K) (q : K) → In q ks → IsSome (get (made_of f ks) q)
@@ -208,6 +200,5 @@ module _ {K X : Type 0} {R : K → K → Ordering} (o : IsTotalOrder R) (same : 
   pub same_keys : (m n : FinMap R X) → ((q : K) → IsSome (get m q) → IsSome (get n q)) → ((q : K) → IsSome (get n q) → IsSome (get m q)) → keys m ≡ keys n
   same_keys m n f g =
       let parts : key_part m ≡ key_part n = same_map o same (key_part m) (key_part n)
-      (λ q. get-key_part m q ∙ ap (λ b. cond b (Some []) None)
-      (both_ways (is_some (get m q)) (is_some (get n q)) (f q) (g q)) ∙ sym (get-key_part n q)) in
+      (grind (arith, get-key_part)) in
       sym (keys_bare (entries m)) ∙ ap (map (λ e. e.0)) (sym (entries-key_part m) ∙ ap entries parts ∙ entries-key_part n) ∙ keys_bare (entries n)

@@ -146,12 +146,7 @@ each_of p (y ∷ ys) x h (inr i) = each_of p ys x (and_parts (p y) _ h).1 i
 -- parts that are each at most one longer than others
 pub parts_few : {A B C : Type 0} (f : A → List B) (h : A → List C) (xs : List A) → ((x : A) → In x xs → length (f x) ≤ 1 + length (h x)) → length (flat_map f xs) ≤ length xs + length (flat_map h xs)
 parts_few f h [] le = omega arith
-parts_few f h (x ∷ xs) le =
-    let rest = parts_few f h xs (λ y i. le y (inr i)) in
-    let here = le x (inl refl) in
-    let parts = length-append (f x) (flat_map f xs) in
-    let others = length-append (h x) (flat_map h xs) in
-    omega arith
+parts_few f h (x ∷ xs) le = grind (arith, length-append, parts_few f h xs (λ y i. le y (inr i)))
 
 -- whether each element has it
 pub dec_each_in : {A : Type 0} (P : A → Type 0) → ((x : A) → Dec (P x)) → (xs : List A) → Dec ((x : A) → In x xs → P x)

@@ -1,20 +1,16 @@
 -- Kinds of points in their order, one looked at after the other.
-use Rattle.std.{proofs.Common.{◌≡◌, ℕ, zero, suc, ◌⊎◌, List, [], ◌∷◌, inl, inr, refl, sym, subst}, specs.{Prelude.{⊤}, List.{AllByRecursion}}}
+use Rattle.std.{proofs.Common.{◌≡◌, ℕ, zero, suc, ◌⊎◌, List, [], ◌∷◌, inr, arith}, specs.{Prelude.{⊤}, List.{AllByRecursion}}}
 use Rattle.nntp_article.specs.{Article.Parts.{Id}, Session.Spool.{Name}}
 use Rattle.nntp_theory.{specs.Conflict.{Point, Step, Group, Number, Count, First, IdOf, PlaceOf, Article, HeadOf, BodyOf, rank}, proofs.Members.{In}}
 
 -- one of the elements has the one, or each has the other
 pub each : {A : Type 0} (C : Type 0) (P : A → Type 0) (xs : List A) → ((x : A) → In x xs → C ⊎ P x) → C ⊎ AllByRecursion P xs
 each C P [] test = inr tt
-each C P (x ∷ xs) test = elim (test x (inl refl)) [
-  | inl c ↦ inl c
-  | inr here ↦ elim (each C P xs (λ y i. test y (inr i))) [ inl c ↦ inl c | inr rest ↦ inr (here, rest) ]
-]
+each C P (x ∷ xs) test = grind (arith, each C P xs (λ y i. test y (inr i)))
 
 -- where the one isn't so, what comes next is looked at
 pub or_next : {C A B : Type 0} → C ⊎ A → (A → C ⊎ B) → C ⊎ B
-or_next (inl c) next = inl c
-or_next (inr a) next = next a
+or_next h i = grind arith
 
 -- ---- points by their order
 
@@ -34,13 +30,4 @@ PointsOf P n = ⊤
 
 -- holds of each of them
 pub of_rank : (P : Point → Type 0) (n : ℕ) → PointsOf P n → (point : Point) → rank point ≡ n → P point
-of_rank P n h (Step name) e = subst (PointsOf P) (sym e) h name
-of_rank P n h (Group name) e = subst (PointsOf P) (sym e) h name
-of_rank P n h (Number name m) e = subst (PointsOf P) (sym e) h name m
-of_rank P n h (Count name) e = subst (PointsOf P) (sym e) h name
-of_rank P n h (First name) e = subst (PointsOf P) (sym e) h name
-of_rank P n h (IdOf name m) e = subst (PointsOf P) (sym e) h name m
-of_rank P n h (PlaceOf name id) e = subst (PointsOf P) (sym e) h name id
-of_rank P n h (Article id) e = subst (PointsOf P) (sym e) h id
-of_rank P n h (HeadOf id) e = subst (PointsOf P) (sym e) h id
-of_rank P n h (BodyOf id) e = subst (PointsOf P) (sym e) h id
+of_rank P n point h i = grind arith

@@ -3,9 +3,9 @@ use Rattle.std.proofs.Common.{◌≡◌, ℕ, ◌+◌, ◌<◌, ◌^◌, ◌⊎�
 use Rattle.std.proofs.{Common.{sym, ap, subst, ◌∙◌, arith}, lemmas.Bool.{true≢false, and_parts, and_from, cases_Bool, cases_eq, eqb-true, eq-eqb}}
 use Rattle.std.{proofs.lemmas.Bool.{false_from_ne_true, cases_lt}, specs.{Prelude.{IsFalse, IfSome, ⊤, not}, List.{AllByRecursion, list_any, flat_map}}}
 use Rattle.std.specs.Cmp.Lexicographic.{same_text}
-use Rattle.nntp_wire.specs.declared.{command.What.{What, TheVariants.{Article as WhatArticle, Head, Body}}, marks.Marks.TheVariants.{Lenient}}
-use Rattle.nntp_article.{proofs.SessionLemmas.FiniteMapsDecided.{Dec, dec_some, dec_texts, dec_lists}, specs.Article.Parts.{Id, Line, head_part, body_part}}
-use Rattle.nntp_article.specs.{Session.{Spool.{Name, Numbers, numbers}, Machine.{is_same}}, declared.session.profile.Profile.{Profile}}
+use Rattle.nntp_wire.specs.declared.{command.What.{What}, marks.Marks.TheVariants.{Lenient}}
+use Rattle.nntp_article.{proofs.SessionLemmas.FiniteMapsDecided.{Dec, dec_some, dec_texts, dec_lists}, specs.{Article.Parts.{Id, Line}, Session.Spool.{Name}}}
+use Rattle.nntp_article.specs.{Session.{Spool.{Numbers, numbers}, Machine.{is_same}}, declared.session.profile.Profile.{Profile}}
 use Rattle.nntp_said.specs.{Asks.{Ask, Has, Bounds}, Facts.{Fact, ThereIs, ThereIsNo, Asks, IdAt, TextIs, NoArticle, GroupsAre}}
 use Rattle.nntp_theory.specs.Given.{asks_in, asks_of, is_shown_group, shows_group, first_given, id_in, head_in, body_in, is_known, is_denied, demand}
 use Rattle.nntp_theory.specs.{Given.{IsGivenNumber, HasGivenNumbers}, Inner.{Given.{size}, Together.{IsWellFormed, Together}, Conflict.{FitsThere}}}
@@ -21,18 +21,15 @@ use Rattle.nntp_theory.proofs.Conflicts.{told_placed}
 
 -- it is given where the test passes
 some_if : {A : Type 0} (b : Bool) (x : A) (Q : A → Type 0) → IsTrue b → IfSome (cond b (Some x) None) Q → Q x
-some_if true x Q t h = h
-some_if false x Q t h = cc
+some_if b x Q h i = grind arith
 
 -- and has what it has there
 if_some : {A : Type 0} (b : Bool) (x : A) (Q : A → Type 0) → (IsTrue b → Q x) → IfSome (cond b (Some x) None) Q
-if_some true x Q h = h refl
-if_some false x Q h = tt
+if_some b x Q h = grind arith
 
 -- whether what is given has it
 dec_if : {A : Type 0} (o : Option A) (Q : A → Type 0) → ((x : A) → Dec (Q x)) → Dec (IfSome o Q)
-dec_if None Q d = inl tt
-dec_if (Some x) Q d = d x
+dec_if o Q x = grind arith
 
 -- nothing is given by any
 flat_none : {A B : Type 0} (f : A → List B) (xs : List A) → ((x : A) → In x xs → f x ≡ []) → flat_map f xs ≡ []
@@ -41,15 +38,11 @@ flat_none f (x ∷ xs) h = ap (λ ys. ys ++ flat_map f xs) (h x (inl refl)) ∙ 
 
 -- another id isn't that of a head
 other_head : (what : What) (lines : Option (List Line)) (other id : Id) → is_same other id ≡ false → head_in id (TextIs what other lines) ≡ None
-other_head WhatArticle (Some lines) other id e = ap (λ b. cond b (Some (head_part lines)) None) e
-other_head Head (Some lines) other id e = ap (λ b. cond b (Some lines) None) e
-other_head what lines other id e = refl
+other_head what lines other id h = grind arith
 
 -- or a body
 other_body : (what : What) (lines : Option (List Line)) (other id : Id) → is_same other id ≡ false → body_in id (TextIs what other lines) ≡ None
-other_body WhatArticle (Some lines) other id e = ap (λ b. cond b (Some (body_part lines)) None) e
-other_body Body (Some lines) other id e = ap (λ b. cond b (Some lines) None) e
-other_body what lines other id e = refl
+other_body what lines other id h = grind arith
 
 -- ---- each kind of point
 

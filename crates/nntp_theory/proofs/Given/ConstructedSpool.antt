@@ -4,7 +4,7 @@ use Rattle.std.proofs.{Common.{inl, inr, refl, sym, ap, subst, ◌∙◌, arith,
 use Rattle.std.{proofs.lemmas.Map.Steps.{le-length_from_below}, specs.{Prelude.{unwrap_or, option_to_list}, List.{list_any, flat_map}, Ordering.{nat_cmp}}}
 use Rattle.std.specs.{Cmp.{nat_cmp_total, Lexicographic.{slice_cmp, same_text, nat_list_cmp_total}}, FinMap.{FinMap, get, empty, keys, entries, from_sorted}}
 use Rattle.std.specs.FinMap.{entries-from_sorted, nat_cmp-IsAntisymmetric, slice_cmp-IsAntisymmetric, IsAntisymmetric}
-use Rattle.nntp_article.specs.{Session.{Spool.{Spool, Text, Numbers, IsNumber, IsGroup, numbers, Name}, Machine.{is_same}}, Article.Parts.{Id}}
+use Rattle.nntp_article.specs.{Session.Spool.{Spool, Text, Numbers, IsNumber, IsGroup, numbers, Name}, Article.Parts.{Id}}
 use Rattle.nntp_said.specs.Facts.{Fact, TextIs}
 use Rattle.nntp_theory.specs.Given.{is_known, IsOneMore, HasGivenNumbers, asks_of, is_shown_group, first_given, id_shown, gives_article, is_sent, head_in}
 use Rattle.nntp_theory.specs.Given.{body_in, plain_head, is_mentioned, invented, unshown_in, unshown_ids, IsUsed, IsFirstFree, AreInvented, IsGiven}
@@ -201,8 +201,7 @@ module _ (limit : ℕ) (B : ℕ) (facts : List Fact) where
   -- one of the ids that are sent
   sent_back : (id : Id) (fact : Fact) → In id (sent_in fact) → gives_article id fact ≡ true
   unfolding sent_in
-  sent_back id (TextIs what other lines) i = elim i [ inl e ↦ subst (λ x. is_same other x ≡ true) e (same_itself other) | inr j ↦ absurd j ]
-  sent_back id fact i = absurd i
+  sent_back id fact h = grind (arith, same_itself)
 
   -- and back
   sent_there : (id : Id) (fact : Fact) → gives_article id fact ≡ true → In id (sent_in fact)
@@ -274,9 +273,8 @@ module _ (limit : ℕ) (B : ℕ) (facts : List Fact) where
     -- the numbers below B aren't all used
     not_all_used : (done : List ℕ) → length (mentioned facts) + length done < B → ((i : ℕ) → i < B → list_any (eqb i) (done ++ mentioned facts) ≡ true) → ⊥
     not_all_used done few all =
-        let count : length (done ++ mentioned facts) ≡ length done + length (mentioned facts) = length-append done (mentioned facts) in
         let le = le-length_from_below (done ++ mentioned facts) B all in
-        omega arith
+        grind (arith, mentioned, length-append)
 
     -- the next number isn't mentioned, and those before it are
     invents : (k : ℕ) (done : List ℕ) → Used k done → length (mentioned facts) + length done < B
@@ -323,9 +321,7 @@ module _ (limit : ℕ) (B : ℕ) (facts : List Fact) where
     groups_invented [] k done used few = tt
     groups_invented (g ∷ gs) k done used few =
         let ns = keys (number_map g) in
-        let rest = flat_map (λ (g : Name × Numbers). unshown_in facts g.0 (entries g.1)) (groups_from (after_ids g k ns) gs) in
-        subst (λ es. length (mentioned facts) + length done + length (unshown_in facts g es ++ rest) < B → AreInvented facts k (unshown_in facts g es ++ rest)) (sym (entries_group g k))
-        (λ few. ids_invented g ns k done rest used few (groups_invented gs (after_ids g k ns))) few
+        grind (arith, groups_from, after_ids, mentioned, entries_group, ids_invented, groups_invented gs (after_ids g k ns))
 
     -- the ids are invented in turn
     made_invented : length (mentioned facts) + length (unshown_ids facts made) < B → AreInvented facts 0 (unshown_ids facts made)

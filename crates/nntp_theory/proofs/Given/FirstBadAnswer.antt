@@ -5,7 +5,7 @@ use Rattle.std.{proofs.{Common.{subst, ◌∙◌, arith}, Math.Seq.{take-length}
 use Rattle.std.specs.{Ordering.{nat_cmp}, Cmp.Lexicographic.{slice_cmp}, FinMap.{get, empty, get-empty}}
 use Rattle.nntp_article.specs.Session.{Spool.{Spool, Numbers, IsSpool, numbers, Name}, Machine.{State, Visible, Run, start, visible_after}}
 use Rattle.nntp_article.specs.{declared.session.profile.Profile.{Profile}, Article.Parts.{Id}}
-use Rattle.nntp_said.specs.{Asks.{position_after}, declared.position.Position.{Position, TheVariants.{Nowhere}}, Facts.{Fact, facts_of, facts_from}}
+use Rattle.nntp_said.specs.{Asks.{position_after}, declared.position.Position.{Position, TheVariants.{Nowhere}}, Facts.{Fact, facts_from}}
 use Rattle.nntp_theory.specs.{Given.{facts_of_session}, Inner.{Given.{size}, Permits.{SomePermits, IsFirstUnpermitted}}}
 use Rattle.nntp_theory.proofs.Given.GivenSpoolExists.{some_or_none}
 
@@ -34,11 +34,7 @@ size_fewer how v at [] answers n = omega arith
 size_fewer how v at (p ∷ ps) [] zero = omega arith
 size_fewer how v at (p ∷ ps) [] (suc n) = omega arith
 size_fewer how v at (p ∷ ps) (a ∷ more) zero = omega arith
-size_fewer how v at (p ∷ ps) (a ∷ more) (suc n) =
-    let rest = size_fewer how (visible_after v p a) (position_after at p a) ps more n in
-    let all = size-append (facts_of how v at p a) (facts_from how (visible_after v p a) (position_after at p a) ps more) in
-    let few = size-append (facts_of how v at p a) (facts_from how (visible_after v p a) (position_after at p a) ps (take n more)) in
-    omega arith
+size_fewer how v at (p ∷ ps) (a ∷ more) (suc n) = grind (arith, size-append, size_fewer how (visible_after v p a) (position_after at p a) ps more n)
 
 -- ---- no answers
 
@@ -109,7 +105,6 @@ permitted_or_bad profile ps answers small = subst
 -- and never both
 pub never_both : (profile : Profile) (ps : List Asked) (answers : List Response) (k : ℕ) → SomePermits profile ps answers → IsFirstUnpermitted profile ps answers k → ⊥
 never_both profile ps answers k h bad =
-    let l = bad.0 in
     bad.2 (fewer_permitted profile ps answers (k + 1) (length answers) (omega arith) (subst (λ all. SomePermits profile ps all) (sym (take-length answers)) h))
 
 -- one answer is bad at most

@@ -1,5 +1,5 @@
 -- The given spool of facts that fit, are placed and stand together has them, and is the least, whether or not they are of one session.
-use Rattle.std.{proofs.Common.{◌<◌, ◌^◌, List, length}, specs.List.{AllByRecursion}}
+use Rattle.std.{proofs.Common.{◌<◌, ◌^◌, List, length, arith}, specs.List.{AllByRecursion}}
 use Rattle.nntp_wire.specs.declared.marks.Marks.{Marks}
 use Rattle.nntp_article.specs.{Session.Spool.{Spool, IsSpool, numbers, Name}, declared.session.profile.Profile.{Profile}}
 use Rattle.nntp_said.specs.{Asks.{Meets}, Facts.{Fact, Holds}}
@@ -27,16 +27,7 @@ pub given_has : (profile : Profile) (how : Marks) (G : Spool) (facts : List Fact
 given_has profile how G facts fitting placed together small given =
     let few = few_enough facts (length (unshown_ids facts G)) small (unshown_ids_few facts G (λ name. (given.groups name).0) given.numbers_given) in
     let s : Setting profile (10 ^ 64) G facts =
-    record {
-      small = number-invented;
-      ids = invented_is_id;
-      fitting = fitting;
-      how = how;
-      placed = placed;
-      together = together;
-      given = given;
-      few = few;
-    } in
+    search (arith, number-invented, invented_is_id) in
     (given_is_spool profile (10 ^ 64) G facts s, all_hold profile (10 ^ 64) G facts s)
 
 -- a spool that has facts has what they show, and as many numbers as are given

@@ -1,11 +1,11 @@
 -- What stands together holds of the spool that is given for it.
 use Rattle.std.proofs.Common.{◌≡◌, ℕ, ◌+◌, ◌<◌, ◌⊎◌, Bool, true, false, cond, ◌&&◌, ◌==◌, IsTrue, List, [], ◌∷◌, ◌++◌, map, length, Option, None, Some, is_some}
-use Rattle.std.proofs.{Common.{option_map, inl, inr, refl, sym, ap, subst, ◌∙◌}, lemmas.Bool.{true≢false, and_parts, and_from, and_cases, false_from_ne_true}}
+use Rattle.std.proofs.{Common.{inl, inr, refl, sym, ap, subst, ◌∙◌, arith}, lemmas.Bool.{true≢false, and_parts, and_from, and_cases, false_from_ne_true}}
 use Rattle.std.{proofs.lemmas.{Bool.{not-false, eqb-true, eq-eqb}, List.Elements.{All-from_recursion}}, specs.Prelude.{IsFalse, IfSome, unwrap_or}}
 use Rattle.std.specs.{List.{AllByRecursion, list_any}, Option.{option_map_or}, Ordering.{nat_cmp}, FinMap.{get, empty, entries, get-entries, get-empty}}
 use Rattle.std.specs.FinMap.{nat_cmp-IsAntisymmetric, slice_cmp-IsAntisymmetric}
-use Rattle.nntp_article.specs.{Article.Parts.{head_part, body_part, is_empty, is_head, Id, Line}, Session.Spool.{Spool, Text, Numbers, IsNumber, IsGroup}}
-use Rattle.nntp_article.specs.Session.{Spool.{numbers, HasText, text_of, Name}, Machine.{is_same, head_fits, active_fits, ActivesAgree}}
+use Rattle.nntp_article.specs.{Article.Parts.{head_part, body_part, is_empty, Id, Line}, Session.Spool.{Spool, Text, Numbers, IsNumber, IsGroup, numbers}}
+use Rattle.nntp_article.specs.Session.{Spool.{HasText, text_of, Name}, Machine.{is_same, head_fits, active_fits, ActivesAgree}}
 use Rattle.nntp_article.specs.declared.session.profile.Profile.{Profile}
 use Rattle.nntp_said.specs.{Asks.{Ask, Meets, Has, Bounds}, Facts.{Fact, Holds, ThereIs, ThereIsNo, Asks, IdAt, TextIs, NoArticle, GroupsAre}}
 use Rattle.nntp_theory.specs.Given.{asks_in, asks_of, shows_group, id_in, id_shown, first_given, mentions, is_mentioned, gives_article, head_in, body_in}
@@ -151,17 +151,14 @@ module _ (profile : Profile) (B : ℕ) (G : Spool) (facts : List Fact) (s : Sett
   text_is Article id (Some ls) u i f at =
       let head : u.head ≡ head_part ls = head_is id u (head_part ls) (TextIs Article id (Some ls)) i at (if_itself id (head_part ls)) in
       let body : u.body ≡ body_part ls = body_is id u (body_part ls) (TextIs Article id (Some ls)) i at (if_itself id (body_part ls)) in
-      let some = (and_parts (list_any is_empty ls) _ (and_parts (list_any is_empty ls && is_head (head_part ls)) _ f).0).0 in
-      (λ k. Some (head k ++ [] ∷ body k)) ∙ ap Some (sym (parts_joined ls some))
+      grind (arith, and_parts, parts_joined)
   text_is Head id (Some ls) u i f at = ap Some (head_is id u ls (TextIs Head id (Some ls)) i at (if_itself id ls))
   text_is Body id (Some ls) u i f at = ap Some (body_is id u ls (TextIs Body id (Some ls)) i at (if_itself id ls))
   text_is Stat id None u i f at = refl
   text_is what id o u i f at = cc
 
   text_holds : (what : What) (id : Id) (lines : Option (List Line)) → In (TextIs what id lines) facts → head_fits what id lines ≡ true → HasText G what id lines
-  text_holds what id lines i f =
-      let g = some_is (get G.articles id) ((s.given.articles id).1 (inr (any_in (gives_article id) (TextIs what id lines) facts i (same_itself id)))) in
-      ap (option_map (text_of what)) g.1 ∙ ap Some (text_is what id lines g.0 i f g.1)
+  text_holds what id lines i f = grind (arith, some_is, any_in, same_itself, text_is)
 
   -- what is asked of a name under its own test
   if_same_name : (P : Ask → Type 0) (name : Name) (ask : Ask) → AllByRecursion P (cond (is_same name name) (ask ∷ []) []) → P ask

@@ -1,5 +1,5 @@
 -- What stands together is given a spool, and whether some spool permits a session is decided.
-use Rattle.std.proofs.Common.{◌<◌, ◌^◌, ◌⊎◌, ◌↔◌, List, inl, inr}
+use Rattle.std.proofs.Common.{◌<◌, ◌^◌, ◌⊎◌, ◌↔◌, List, inl, inr, arith}
 use Rattle.nntp_article.{proofs.SessionLemmas.{FiniteMapsDecided.{Dec, dec_both}, AgreementDecided.{dec_run}}, specs.Session.Spool.{Spool, IsSpool}}
 use Rattle.nntp_article.specs.{Session.Machine.{Run, start}, declared.session.profile.Profile.{Profile}}
 use Rattle.nntp_said.specs.Inner.Facts.{FitsAll}
@@ -17,8 +17,7 @@ pub given_exists : (profile : Profile) (ps : List Asked) (answers : List Respons
     → size (facts_of_session profile.marks ps answers) < 2 ^ 210 → IsGiven (facts_of_session profile.marks ps answers)
     (made_for profile ps answers)
 unfolding made_for
-given_exists profile ps answers fits small =
-    given_of_facts profile profile.marks (facts_of_session profile.marks ps answers) (session_fitting profile ps answers fits) (session_placed profile ps answers fits) small
+given_exists profile ps answers fits small = search (arith, given_of_facts, session_fitting, session_placed)
 
 -- some spool permits a session exactly if it fits and stands together
 pub permitted_together : (profile : Profile) (ps : List Asked) (answers : List Response)

@@ -1,5 +1,5 @@
 -- There is one given spool at most.
-use Rattle.std.proofs.Common.{◌≡◌, ℕ, ◌+◌, cond, List, [], ◌∷◌, ◌++◌, map, Option, None, Some, is_some, IsSome, inl, inr, refl, sym, ap, subst, ◌∙◌}
+use Rattle.std.proofs.Common.{◌≡◌, ℕ, ◌+◌, cond, List, [], ◌∷◌, ◌++◌, map, Option, None, Some, is_some, IsSome, inl, inr, refl, sym, ap, subst, ◌∙◌, arith}
 use Rattle.std.{proofs.lemmas.Bool.{true≢false}, specs.{Prelude.{unwrap_or}, List.{flat_map}, Cmp.{nat_cmp_total, Lexicographic.{nat_list_cmp_total}}}}
 use Rattle.std.specs.FinMap.{get, keys, entries, empty, same_entries_map, same_map, nat_cmp-IsAntisymmetric}
 use Rattle.nntp_article.specs.{Session.Spool.{Spool, Text, Numbers, IsNumber, IsGroup, numbers, Name}, Article.Parts.{Id}}
@@ -103,19 +103,11 @@ module _ (facts : List Fact) (G H : Spool) (given : IsGiven facts G) (other : Is
 
   -- an id with an article in one has one in the other
   there : (id : Id) → IsSome (get G.articles id) → IsSome (get H.articles id)
-  there id i =
-      (other.articles id).1 (elim ((given.articles id).0 i) [
-        | inl u ↦ inl (u.0, u.1, subst (λ gs. get (unwrap_or (get gs u.0) empty) u.1 ≡ Some id) groups_alike u.2)
-        | inr t ↦ inr t
-      ])
+  there id i = grind (arith, groups_alike)
 
   -- and back
   back : (id : Id) → IsSome (get H.articles id) → IsSome (get G.articles id)
-  back id i =
-      (given.articles id).1 (elim ((other.articles id).0 i) [
-        | inl u ↦ inl (u.0, u.1, subst (λ gs. get (unwrap_or (get gs u.0) empty) u.1 ≡ Some id) (sym groups_alike) u.2)
-        | inr t ↦ inr t
-      ])
+  back id i = grind (arith, groups_alike)
 
   -- the articles are the same
   articles_alike : (id : Id) → get G.articles id ≡ get H.articles id

@@ -1,5 +1,5 @@
 -- Several sessions by what they say: a spool permits each of them exactly if they fit and it has all their facts; so some spool permits them exactly if they fit and all of it stands together.
-use Rattle.std.{proofs.Common.{◌<◌, ◌^◌, ◌⊎◌, ◌↔◌, List, [], ◌∷◌, inl, inr}, specs.List.{AllByRecursion}}
+use Rattle.std.{proofs.Common.{◌<◌, ◌^◌, ◌⊎◌, ◌↔◌, List, [], ◌∷◌, inl, inr, arith}, specs.List.{AllByRecursion}}
 use Rattle.nntp_article.{proofs.SessionLemmas.{FiniteMapsDecided.{Dec, dec_both}, AgreementDecided.{dec_run}}, specs.Session.Spool.{Spool, IsSpool}}
 use Rattle.nntp_article.specs.{Session.Machine.{start}, declared.session.profile.Profile.{Profile}}
 use Rattle.nntp_said.{specs.{declared.position.Position.TheVariants.{Nowhere}, Facts.{Fact, Holds}}, proofs.CurrentArticle.{run_from}}
@@ -16,10 +16,7 @@ use Rattle.nntp_theory.proofs.Given.{ConstructedSpool.{made}, SpoolsDecided.{dec
 pub said_each : (profile : Profile) (S : Spool) (sessions : List Answered) → PermitsEach profile S sessions
     → FitEach profile sessions × AllByRecursion (Holds S) (facts_of_all profile.marks sessions)
 said_each profile S [] h = (tt, tt)
-said_each profile S (s ∷ more) h =
-    let one = said profile S s.prompts s.answers h.0 in
-    let rest = said_each profile S more h.1 in
-    ((one.0, rest.0), all_both (Holds S) (facts_in profile.marks s) (facts_of_all profile.marks more) one.1 rest.1)
+said_each profile S (s ∷ more) h = grind (arith, said, all_both, said_each profile S more h.1)
 
 -- and back
 pub permits_each : (profile : Profile) (S : Spool) (sessions : List Answered) → FitEach profile sessions
@@ -42,8 +39,7 @@ permitted_by_all_facts profile S sessions = (said_each profile S sessions, λ h.
 -- it fits
 all_fitting : (profile : Profile) (sessions : List Answered) → FitEach profile sessions → AllByRecursion (IsFitting profile) (facts_of_all profile.marks sessions)
 all_fitting profile [] f = tt
-all_fitting profile (s ∷ more) f = all_both (IsFitting profile) (facts_in profile.marks s) (facts_of_all profile.marks more)
-    (session_fitting profile s.prompts s.answers f.0) (all_fitting profile more f.1)
+all_fitting profile (s ∷ more) f = grind (arith, all_both, session_fitting, all_fitting profile more f.1)
 
 -- and is placed among all that is said
 among_placed : (profile : Profile) (all : List Fact) (sessions : List Answered) → FitEach profile sessions
@@ -52,8 +48,7 @@ among_placed profile all [] f h = tt
 among_placed profile all (s ∷ more) f h =
     let own = facts_in profile.marks s in
     let rest = facts_of_all profile.marks more in
-    all_both (Placed profile.marks all) own rest (placed_among profile all s.prompts s.answers f.0 (all_front (Among all) own rest h))
-    (among_placed profile all more f.1 (all_back (Among all) own rest h))
+    search (arith, all_both, placed_among, all_front, all_back, among_placed profile all more f.1 (all_back (Among all) own rest h))
 
 all_placed : (profile : Profile) (sessions : List Answered) → FitEach profile sessions
     → AllByRecursion (Placed profile.marks (facts_of_all profile.marks sessions)) (facts_of_all profile.marks sessions)
@@ -69,8 +64,7 @@ made_for_all profile sessions = made profile.limit (10 ^ 64) (facts_of_all profi
 pub given_exists_of_all : (profile : Profile) (sessions : List Answered) → FitEach profile sessions
     → size (facts_of_all profile.marks sessions) < 2 ^ 210 → IsGiven (facts_of_all profile.marks sessions) (made_for_all profile sessions)
 unfolding made_for_all
-given_exists_of_all profile sessions f small =
-    given_of_facts profile profile.marks (facts_of_all profile.marks sessions) (all_fitting profile sessions f) (all_placed profile sessions f) small
+given_exists_of_all profile sessions f small = search (arith, given_of_facts, all_fitting, all_placed)
 
 -- the given spool of sessions that fit and stand together is a spool and permits each of them
 pub given_permits_all : (profile : Profile) (G : Spool) (sessions : List Answered) → FitEach profile sessions
@@ -90,8 +84,7 @@ stand_each profile S sessions spool h =
 -- the given spool is the least that permits them
 pub least_of_all : (profile : Profile) (S G : Spool) (sessions : List Answered) → IsSpool profile.limit S → PermitsEach profile S sessions
     → IsGiven (facts_of_all profile.marks sessions) G → HasAtLeast (facts_of_all profile.marks sessions) G S
-least_of_all profile S G sessions spool h given =
-    least_of_facts profile S G (facts_of_all profile.marks sessions) spool (said_each profile S sessions h).1 given
+least_of_all profile S G sessions spool h given = grind (arith, least_of_facts, said_each)
 
 -- some spool permits sessions exactly if they fit and all that they say stands together
 pub permitted_together_of_all : (profile : Profile) (sessions : List Answered) → size (facts_of_all profile.marks sessions) < 2 ^ 210

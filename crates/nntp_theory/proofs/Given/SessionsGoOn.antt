@@ -1,9 +1,9 @@
 -- One answer more of the last of several sessions: it is permitted exactly if it fits its own session and what it says joins what all said.
-use Rattle.std.proofs.Common.{◌≡◌, ◌+◌, ◌*◌, ◌<◌, ◌≤◌, ◌^◌, ◌↔◌, false, IsTrue, List, [], ◌∷◌, ◌++◌, length, map, Some, sym, ap, subst, ◌∙◌, arith}
-use Rattle.std.{proofs.{Common.{append_assoc, append-nil}, lemmas.Grind.{flat_map-append}}, specs.List.{AllByRecursion}}
+use Rattle.std.proofs.Common.{◌≡◌, ◌*◌, ◌<◌, ◌≤◌, ◌^◌, ◌↔◌, false, IsTrue, List, [], ◌∷◌, ◌++◌, length, map, Some, sym, ap, subst, ◌∙◌, arith, append_assoc}
+use Rattle.std.{proofs.{Common.{append-nil}, lemmas.Grind.{flat_map-append}}, specs.List.{AllByRecursion}}
 use Rattle.nntp_wire.specs.{Answer.{Asked, Response}, declared.marks.Marks.{Marks}}
 use Rattle.nntp_article.specs.{declared.session.profile.Profile.{Profile}, Session.Machine.{start, fits}}
-use Rattle.nntp_pair.specs.Pairing.{Paired, asked_of, responses_of}
+use Rattle.nntp_pair.specs.Pairing.{Paired}
 use Rattle.nntp_said.specs.{declared.position.Position.TheVariants.{Nowhere}, Facts.{Fact, facts_of}, Inner.Facts.{FitsAll}}
 use Rattle.nntp_theory.specs.{Classes.{visible_from, position_from, asked_next}, Given.{facts_of_session}, Inner.{Given.{size}, Permits.{SomePermits}}}
 use Rattle.nntp_theory.specs.{Inner.{Together.{Together, Join}, Answered.{FitEach}, Exchanged.{said_by, AreFew}}, Permitted.{exchanged}, Answered.{Answered}}
@@ -87,28 +87,14 @@ permitted_more profile ps answers asked response comes small h =
 
 -- few exchanges say little
 few_size : (how : Marks) (pairs : List Paired) → AreFew pairs → size (said_by how pairs) ≤ 2 ^ 129
-few_size how pairs f =
-    let all = session_size how (asked_of pairs) (responses_of pairs) in
-    let weights = pairs_weight pairs f.lines in
-    let count = f.few in
-    omega (arith, all, weights, count)
+few_size how pairs f = grind (arith, session_size, pairs_weight)
 
 -- and those of sessions say little for each
 few_sizes : (how : Marks) (earlier : List (List Paired)) → AllByRecursion AreFew earlier → size (facts_of_all how (map exchanged earlier)) ≤ 2 ^ 129 * length earlier
 few_sizes how [] f = omega arith
-few_sizes how (pairs ∷ earlier) f =
-    let both = size-append (said_by how pairs) (facts_of_all how (map exchanged earlier)) in
-    let here = few_size how pairs f.0 in
-    let rest = few_sizes how earlier f.1 in
-    omega (arith, both, here, rest)
+few_sizes how (pairs ∷ earlier) f = grind (arith, size-append, few_size, few_sizes how earlier f.1)
 
 -- what few sessions say is small
 pub small_behind : (how : Marks) (earlier : List (List Paired)) (past : List Paired) → length earlier < 2 ^ 64 → AllByRecursion AreFew earlier → AreFew past
     → size (facts_of_all how (map exchanged earlier ++ exchanged past ∷ [])) < 2 ^ 210
-small_behind how earlier past count f g =
-    let whole = facts_behind how (map exchanged earlier) (exchanged past) in
-    let both = size-append (facts_of_all how (map exchanged earlier)) (said_by how past) in
-    let here = few_size how past g in
-    let rest = few_sizes how earlier f in
-    let small : size (facts_of_all how (map exchanged earlier) ++ said_by how past) < 2 ^ 210 = omega (arith, both, here, rest, count) in
-    subst (λ facts. size facts < 2 ^ 210) (sym whole) small
+small_behind how earlier past count f g = grind (arith, facts_behind, size-append, few_size, few_sizes)

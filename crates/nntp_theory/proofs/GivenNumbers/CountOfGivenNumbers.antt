@@ -1,12 +1,12 @@
 -- The given numbers are those that are known, and the one more.
-use Rattle.std.proofs.{Common.{refl, ◌≡◌, ℕ, ◌+◌, ◌↔◌, cond, IsTrue, List, [], Some, is_some, inl, inr, sym, ap, subst, ◌∙◌, arith}, lemmas.Bool.{true≢false}}
+use Rattle.std.proofs.{Common.{refl, ◌≡◌, ℕ, ◌+◌, ◌↔◌, cond, IsTrue, List, [], Some, is_some, inl, inr, sym, ap, ◌∙◌, arith}, lemmas.Bool.{true≢false}}
 use Rattle.std.{proofs.lemmas.Bool.{cases_eq, eq-eqb, ne_eqb, false_from_ne_true, ltb-true, lt-ltb}, specs.{Ordering.{nat_cmp, eq_by_cmp}, Cmp.{nat_cmp_total}}}
-use Rattle.std.specs.{Cmp.{unsigned_tied}, FinMap.{get, len, insert, get-insert, len-insert}}
+use Rattle.std.specs.FinMap.{get, len, insert, get-insert, len-insert}
 use Rattle.nntp_article.specs.Session.Spool.{Numbers, IsNumber}
 use Rattle.nntp_said.specs.Asks.{Ask}
 use Rattle.nntp_theory.specs.{Given.{is_known, demand, wants, IsOneMore, IsGivenNumber, HasGivenNumbers}, declared.demand.Demand.{Demand}}
 use Rattle.nntp_theory.specs.{declared.demand.Demand.TheVariants.{NoDemand, NotEmpty, OnlyOne, SecondIs, Impossible}, Together.{MeetsDemand}}
-use Rattle.nntp_theory.proofs.{GivenNumbers.{MetNumbersStand.{one_more_once, second_shown, shown_known}, GivenNumbersMeet.{same_demand}}, Maps.{len_le}}
+use Rattle.nntp_theory.proofs.{GivenNumbers.MetNumbersStand.{one_more_once, second_shown, shown_known}, Maps.{len_le}}
 
 -- the one more isn't known
 more_unshown : (asks : List Ask) (e : ℕ) → IsOneMore asks e → IsTrue (is_known asks e) → ⊥
@@ -23,13 +23,7 @@ module _ (asks : List Ask) (M : Numbers) (shown : (n : ℕ) → IsNumber M n ↔
 
   -- else those, and the one more
   pub one_more_given : (e : ℕ) → IsOneMore asks e → HasGivenNumbers asks (insert M e [])
-  one_more_given e x = λ n.
-      elim (cases_eq n e) [
-        | inl same ↦ (λ i. inr (subst (IsOneMore asks) (sym same) x), λ g. with_more e n ∙ ap (λ b. is_some (cond b (Some []) (get M n))) (unsigned_tied n e ∙ eq-eqb n e same))
-        | inr apart ↦
-            let kept : is_some (get (insert M e []) n) ≡ is_some (get M n) = with_more e n ∙ ap (λ b. is_some (cond b (Some []) (get M n))) (unsigned_tied n e ∙ ne_eqb n e apart) in
-            (λ i. inl ((shown n).0 (sym kept ∙ i)), λ g. elim g [ inl s ↦ kept ∙ (shown n).1 s | inr y ↦ absurd (apart (one_more_once asks n e y x)) ])
-      ]
+  one_more_given e x = grind (arith, cases_eq, with_more, eq-eqb, ne_eqb, one_more_once)
 
   -- which is one more
   pub one_more_counted : (e : ℕ) → IsOneMore asks e → len (insert M e []) ≡ len M + 1
@@ -38,10 +32,7 @@ module _ (asks : List Ask) (M : Numbers) (shown : (n : ℕ) → IsNumber M n ↔
 
 -- there are as many in all maps that have them
 pub as_many_given : (asks : List Ask) (N M : Numbers) → HasGivenNumbers asks N → HasGivenNumbers asks M → len N ≡ len M
-as_many_given asks N M g h =
-    let a = len_le nat_cmp_total N M (λ n i. (h n).1 ((g n).0 i)) in
-    let b = len_le nat_cmp_total M N (λ n i. (g n).1 ((h n).0 i)) in
-    omega arith
+as_many_given asks N M g h = search (arith, len_le)
 
 -- ---- the demand
 
@@ -68,8 +59,4 @@ more_meets asks e x = by (demand asks) refl
 
 -- else if those that are known meet it
 pub known_meet : (asks : List Ask) → ((e : ℕ) → IsOneMore asks e → ⊥) → MeetsDemand (demand asks) (IsGivenNumber asks) ↔ MeetsDemand (demand asks) (λ n. IsTrue (is_known asks n))
-known_meet asks none =
-    let given_known : (n : ℕ) → IsGivenNumber asks n → IsTrue (is_known asks n) = λ n g. elim g [ inl s ↦ s | inr x ↦ absurd (none n x) ] in (
-      same_demand (IsGivenNumber asks) (λ n. IsTrue (is_known asks n)) given_known (λ n s. inl s) (demand asks),
-      same_demand (λ n. IsTrue (is_known asks n)) (IsGivenNumber asks) (λ n s. inl s) given_known (demand asks),
-    )
+known_meet asks none = grind arith

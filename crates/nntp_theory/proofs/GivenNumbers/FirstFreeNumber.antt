@@ -1,16 +1,11 @@
 -- The first number from one on that isn't taken: the search for it, and that there is one at most.
 use Rattle.std.proofs.Common.{◌≡◌, ℕ, zero, suc, ◌+◌, ◌<◌, ◌≤◌, Bool, true, false, cond, Option, None, Some, inl, inr, refl, sym, ap, ◌∙◌, arith}
-use Rattle.std.{proofs.lemmas.Bool.{cases_eq, cases_lt, cases_order, true≢false}, specs.Prelude.{IsFalse}}
+use Rattle.std.{proofs.lemmas.Bool.{cases_eq, cases_lt, true≢false}, specs.Prelude.{IsFalse}}
 use Rattle.nntp_theory.specs.{Given.{IsFirstFree}, Inner.OneMore.{free}}
 
 -- there is one at most
 pub first_free_once : (taken : ℕ → Bool) (k i j : ℕ) → IsFirstFree taken k i → IsFirstFree taken k j → i ≡ j
-first_free_once taken k i j x y =
-    elim (cases_order i j) [
-      | inl same ↦ same
-      | inr (inl l) ↦ absurd (true≢false (sym (y.2 i x.0 l) ∙ x.1))
-      | inr (inr g) ↦ absurd (true≢false (sym (x.2 j y.0 g) ∙ y.1))
-    ]
+first_free_once taken k i j x y = grind arith
 
 -- what is found is the first
 pub free_is : (taken : ℕ → Bool) (k n j : ℕ) → free taken k n ≡ Some j → IsFirstFree taken n j

@@ -7,10 +7,10 @@ use Rattle.std.specs.{List.{AllByRecursion, list_any}, FinMap.{get}}
 use Rattle.nntp_article.specs.Session.{Spool.{Numbers, IsNumber, IsNextAbove, NoneAbove, NoneBelow}, Machine.{is_in_range, AreEnds}}
 use Rattle.nntp_said.specs.Asks.{Ask, Meets, Estimates, Bounds, ListsIn, Has, Lacks, StandsAt, StandsNowhere, StepsUp, StepsDown, IsTop, IsBottom}
 use Rattle.nntp_said.specs.declared.position.Position.TheVariants.{Nowhere, First, Known}
-use Rattle.nntp_theory.specs.Given.{shows, denies, is_denied, demand_in, join, demand, IsGivenNumber, HasGivenNumbers, is_shown, says_some, is_end}
-use Rattle.nntp_theory.specs.{Given.{is_given_end, wants}, declared.demand.Demand.{Demand, TheVariants.{NoDemand, NotEmpty, OnlyOne, SecondIs, Impossible}}}
-use Rattle.nntp_theory.{specs.{Together.{is_possible, MeetsDemand, IsFewFor}, Inner.Together.{AsksStand}}, proofs.Members.{In, all_at, all_from, any_in}}
-use Rattle.nntp_theory.proofs.{Members.{in_contains, each_of, found_in}, GivenNumbers.LeastNumber.{Empty, Begins, firsts, least_is, least_none}}
+use Rattle.nntp_theory.specs.Given.{shows, denies, demand_in, join, demand, IsGivenNumber, HasGivenNumbers, says_some, is_end}
+use Rattle.nntp_theory.specs.{declared.demand.Demand.{Demand, TheVariants.{NoDemand, NotEmpty, OnlyOne, SecondIs, Impossible}}, Together.{is_possible}}
+use Rattle.nntp_theory.{specs.{Together.{MeetsDemand, IsFewFor}, Inner.Together.{AsksStand}}, proofs.Members.{In, all_at, all_from, any_in, in_contains}}
+use Rattle.nntp_theory.proofs.{Members.{each_of, found_in}, GivenNumbers.LeastNumber.{Empty, Begins, firsts, least_is, least_none}}
 use Rattle.nntp_theory.proofs.GivenNumbers.MetNumbersStand.{of_first, listed_in, finds, in_range, in_range_back, shown_known}
 
 -- numbers that meet two demands as one meet each
@@ -55,20 +55,11 @@ same_demand P Q f g Impossible h = h
 
 -- an ask that shows a number says so
 pub shows_some : (ask : Ask) (n : ℕ) → shows ask n ≡ true → says_some ask ≡ true
-shows_some (ListsIn r []) n t = t
-shows_some (ListsIn r (m ∷ ns)) n t = refl
-shows_some (Has m) n t = refl
-shows_some (StandsAt First m) n t = refl
-shows_some (StepsUp at m) n t = refl
-shows_some (StepsDown at m) n t = refl
-shows_some ask n t = cc
+shows_some ask n h = grind arith
 
 -- one that doesn't demands nothing
 none_demanded : (ask : Ask) → says_some ask ≡ false → demand_in ask ≡ NoDemand
-none_demanded (IsTop First) f = cc
-none_demanded (IsBottom First) f = cc
-none_demanded (StepsUp First m) f = cc
-none_demanded ask f = refl
+none_demanded ask h = grind arith
 
 -- and so of all
 pub no_demand : (asks : List Ask) → list_any says_some asks ≡ false → demand asks ≡ NoDemand
@@ -79,21 +70,12 @@ no_demand (ask ∷ asks) f =
 
 -- where a number is given, it is said that there is one
 pub some_said : (asks : List Ask) (n : ℕ) → IsGivenNumber asks n → IsTrue (list_any says_some asks)
-some_said asks n (inl t) = elim (or_cases (is_shown asks n) (is_given_end asks n) t) [
-  | inl s ↦ (let f = found_in (λ ask. shows ask n) asks s in any_in says_some f.0 asks f.1 (shows_some f.0 n f.2))
-  | inr g ↦ (and_parts (list_any says_some asks) _ g).0
-]
-some_said asks n (inr x) = elim (cases_Bool (list_any says_some asks)) [
-  | inl t ↦ t
-  | inr f ↦ absurd (true≢false (sym x.wanted ∙ ap (λ d. wants d n) (no_demand asks f)))
-]
+some_said asks n h = grind (arith, or_cases, found_in, any_in, shows_some, and_parts, cases_Bool, true≢false, no_demand)
 
 module _ (asks : List Ask) (G : Numbers) (stand : AsksStand asks) (given : HasGivenNumbers asks G) where
   -- a given number isn't denied
   not_denied_in_G : (ask : Ask) → In ask asks → (n : ℕ) → IsNumber G n → IsFalse (denies ask n)
-  not_denied_in_G ask i n there =
-      let free : IsFalse (is_denied asks n) = stand.not_denied n ((given n).0 there) in
-      false_from_ne_true _ (λ d. true≢false (sym (any_in (λ ask. denies ask n) ask asks i d) ∙ free))
+  not_denied_in_G ask i n there = grind (arith, false_from_ne_true, true≢false, any_in)
 
   -- and what is shown is given
   shown_in_G : (ask : Ask) → In ask asks → (n : ℕ) → IsTrue (shows ask n) → IsNumber G n
@@ -101,8 +83,7 @@ module _ (asks : List Ask) (G : Numbers) (stand : AsksStand asks) (given : HasGi
 
   -- strict marks are given, where a number is
   end_in_G : (ask : Ask) → In ask asks → (n k : ℕ) → IsNumber G k → IsTrue (is_end ask n) → IsNumber G n
-  end_in_G ask i n k there e =
-      (given n).1 (inl (or_right (is_shown asks n) _ (and_from (list_any says_some asks) _ (some_said asks k ((given k).0 there)) (any_in (λ ask. is_end ask n) ask asks i e))))
+  end_in_G ask i n k there e = grind (arith, or_right, and_from, some_said, any_in)
 
   -- the given numbers meet each demand
   demand_in_G : (ask : Ask) → In ask asks → MeetsDemand (demand_in ask) (IsNumber G)

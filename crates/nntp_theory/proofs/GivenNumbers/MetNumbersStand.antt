@@ -1,21 +1,19 @@
 -- What numbers meet stands together.
-use Rattle.nntp_wire.specs.declared.{marks.Marks.TheVariants.{Strict}, range.Range.{Range}}
+use Rattle.nntp_wire.specs.declared.range.Range.{Range}
 use Rattle.std.proofs.Common.{◌≡◌, ℕ, ◌+◌, ◌<◌, ◌≤◌, ◌⊎◌, Bool, true, false, ◌==◌, not, IsTrue, List, [], ◌∷◌, Option, None, Some, is_some, MatchOption, inl}
 use Rattle.std.proofs.{Common.{inr, refl, sym, ap, subst, ◌∙◌, arith, ◌&&◌}, lemmas.Bool.{true≢false, or_left, or_right, or_cases, and_parts}}
 use Rattle.std.proofs.lemmas.Bool.{false_from_ne_true, eqb-true, ltb-true, cases_Bool, not-true, cases_eq, cases_order, eq-eqb, and_from, le-leb, lt-ltb}
 use Rattle.std.proofs.lemmas.{Bool.{ne_eqb, Decides.{nat_tests}}, Map.Views.{Contains-from_any, list_any-from_Contains, tells_apart}}
-use Rattle.std.{proofs.lemmas.Map.Lookups.{exact_unsigned}, specs.{Prelude.{IsFalse, nat_le, nat_lt, IfSome, Contains, cond, ◌-◌}, List.{AllByRecursion}}}
-use Rattle.std.specs.{List.{list_any}, Ordering.{nat_cmp, eq_by_cmp}, Cmp.{nat_cmp_total, unsigned_tied, nat_eq_equiv, eq_by_cmp_equiv}, FinMap.{get, len}}
-use Rattle.std.specs.FinMap.{keys, insert, remove, get-insert, get-remove, len-insert, len-remove, empty_of_len, get-empty, contains_key-keys}
-use Rattle.std.specs.Option.{option_map_or}
-use Rattle.nntp_article.specs.Session.{Spool.{Numbers, IsNumber, least, IsNextAbove, IsNextBelow, NoneAbove, NoneBelow, IsInRange}, Machine.{is_in_range}}
-use Rattle.nntp_said.specs.Asks.{current_in, Ask, Meets, Estimates, Bounds, ListsIn, Has, Lacks, StandsAt, StandsNowhere, StepsUp, StepsDown, IsTop, IsBottom}
-use Rattle.nntp_said.specs.declared.position.Position.TheVariants.{Nowhere, First, Known}
+use Rattle.std.{proofs.lemmas.Map.Lookups.{exact_unsigned}, specs.{Prelude.{IsFalse, nat_le, IfSome, Contains, cond, ◌-◌}, List.{AllByRecursion, list_any}}}
+use Rattle.std.specs.{Ordering.{nat_cmp, eq_by_cmp}, Cmp.{nat_cmp_total, unsigned_tied, nat_eq_equiv, eq_by_cmp_equiv}, FinMap.{get, len, keys, insert, remove}}
+use Rattle.std.specs.{FinMap.{get-insert, get-remove, len-insert, len-remove, empty_of_len, get-empty, contains_key-keys}, Option.{option_map_or}}
+use Rattle.nntp_article.specs.Session.{Spool.{Numbers, IsNumber, least, IsInRange}, Machine.{is_in_range}}
+use Rattle.nntp_said.specs.{Asks.{Ask, Meets, ListsIn, Has, StandsAt, StepsUp, StepsDown, IsTop, IsBottom}, declared.position.Position.TheVariants.{First}}
 use Rattle.nntp_theory.specs.Given.{shows, denies, is_shown, is_denied, demand_in, join, demand, wants, IsOneMore, IsGivenNumber, HasGivenNumbers, says_some}
-use Rattle.nntp_theory.specs.{Given.{is_end, is_given_end, is_known}, declared.demand.Demand.{Demand, TheVariants.{NoDemand, NotEmpty, OnlyOne, SecondIs}}}
-use Rattle.nntp_theory.specs.{declared.demand.Demand.TheVariants.{Impossible}, Together.{is_possible, MeetsDemand, IsFewFor}, Inner.Together.{AsksStand}}
-use Rattle.nntp_theory.proofs.{GivenNumbers.{FirstFreeNumber.{first_free_once, first_free}, LeastNumber.{Empty, Begins, firsts, not_number}}, Members.{In}}
-use Rattle.nntp_theory.proofs.{Members.{all_at, all_from, any_in, found_in, contains_in, in_contains, every}, Maps.{len_le}}
+use Rattle.nntp_theory.specs.{Given.{is_end, is_known}, declared.demand.Demand.{Demand, TheVariants.{NoDemand, NotEmpty, OnlyOne, SecondIs, Impossible}}}
+use Rattle.nntp_theory.specs.{Together.{is_possible, MeetsDemand, IsFewFor}, Inner.Together.{AsksStand}}
+use Rattle.nntp_theory.proofs.{GivenNumbers.{FirstFreeNumber.{first_free_once, first_free}, LeastNumber.{firsts, not_number}}, Members.{In, all_at, all_from}}
+use Rattle.nntp_theory.proofs.{Members.{any_in, found_in, contains_in, in_contains, every}, Maps.{len_le}}
 
 pub at_some : (o : Option ℕ) (c : ℕ) (Q : ℕ → Type 0) → o ≡ Some c → MatchOption o ⊥ Q → Q c
 at_some o c Q e h = subst (λ o. MatchOption o ⊥ Q) e h
@@ -25,10 +23,7 @@ pub of_first : (N : Numbers) (c : ℕ) (Q : ℕ → Type 0) → least N ≡ Some
 of_first N c Q e h = subst (λ o. MatchOption o ⊥ Q) (sym e) h
 
 pub first_there : (N : Numbers) (Q : ℕ → Type 0) → MatchOption (least N) ⊥ Q → (c : ℕ) × IsNumber N c × ((m : ℕ) → IsNumber N m → c ≤ m) × Q c
-first_there N Q h = elim (firsts N) [
-  | Empty e none ↦ absurd (subst (λ o. MatchOption o ⊥ Q) e h)
-  | Begins c e here all ↦ (c, here, all, at_some (least N) c Q e h)
-]
+first_there N Q h = grind (arith, firsts, at_some)
 
 pub listed_in : (ns : List ℕ) (n : ℕ) → IsTrue (list_any (λ m. n == m) ns) → Contains ns n
 listed_in ns n h = Contains-from_any eqb-true n ns h
@@ -36,18 +31,11 @@ listed_in ns n h = Contains-from_any eqb-true n ns h
 pub finds : (ns : List ℕ) (n : ℕ) → Contains ns n → IsTrue (list_any (λ m. n == m) ns)
 finds ns n h = list_any-from_Contains nat_eq_equiv n ns h
 
-up_to_last : (n : ℕ) (last : Option ℕ) → IsTrue (option_map_or (λ last. nat_le n last) last true) → IfSome last (λ last. n ≤ last)
-up_to_last n None h = tt
-up_to_last n (Some last) h = grind (arith, nat_tests)
-
 pub in_range : (r : Range) (n : ℕ) → IsTrue (is_in_range r n) → IsInRange r n
-in_range r n h =
-    let p = and_parts (nat_le r.first n) (option_map_or (λ last. nat_le n last) r.last true) h in
-    (grind (arith, nat_tests, p.0), up_to_last n r.last p.1)
+in_range r n h = grind arith
 
 last_up_to : (n : ℕ) (last : Option ℕ) → IfSome last (λ last. n ≤ last) → IsTrue (option_map_or (λ last. nat_le n last) last true)
-last_up_to n None h = refl
-last_up_to n (Some last) h = le-leb n last h
+last_up_to n last h = grind arith
 
 pub in_range_back : (r : Range) (n : ℕ) → IsInRange r n → IsTrue (is_in_range r n)
 in_range_back r n h = and_from _ _ (le-leb r.first n h.0) (last_up_to n r.last h.1)
@@ -55,40 +43,10 @@ in_range_back r n h = and_from _ _ (le-leb r.first n h.0) (last_up_to n r.last h
 -- ---- what an answer shows is a number, and what it denies isn't
 
 shown_is_number : (N : Numbers) (ask : Ask) (n : ℕ) → Meets N ask → IsTrue (shows ask n) → IsNumber N n
-shown_is_number N (ListsIn r ns) n h s = ((h n).0 (listed_in ns n s)).0
-shown_is_number N (Has m) n h s = subst (IsNumber N) (eqb-true m n s) h
-shown_is_number N (StandsAt First m) n h s =
-    elim (firsts N) [
-      | Empty e none ↦ absurd (let f : None ≡ Some m = sym e ∙ h in cc)
-      | Begins c e here all ↦ subst (IsNumber N) (let f : Some c ≡ Some m = sym e ∙ h in cc (eqb-true m n s)) here
-    ]
-shown_is_number N (StepsUp at m) n h s = subst (IsNumber N) (eqb-true m n s)
-    (elim (current_in N at) as (λ o. MatchOption o ⊥ (λ c. IsNextAbove N c m)
-    → IsNumber N m) [ None ↦ λ f. absurd f | Some c ↦ λ f. f.1 ] h)
-shown_is_number N (StepsDown at m) n h s = subst (IsNumber N) (eqb-true m n s)
-    (elim (current_in N at) as (λ o. MatchOption o ⊥ (λ c. IsNextBelow N c m)
-    → IsNumber N m) [ None ↦ λ f. absurd f | Some c ↦ λ f. f.1 ] h)
-shown_is_number N ask n h s = cc
+shown_is_number N ask n h i = grind (arith, listed_in, eqb-true, firsts)
 
 number_not_denied : (N : Numbers) (ask : Ask) (n : ℕ) → Meets N ask → IsNumber N n → IsTrue (denies ask n) → ⊥
-number_not_denied N (Estimates how m) n h i d = let b = h.1 n i in grind (arith, nat_tests)
-number_not_denied N (Bounds low high) n h i d = let b = h n i in grind (arith, nat_tests)
-number_not_denied N (ListsIn r ns) n h i d =
-    let p = and_parts (is_in_range r n) (not (list_any (λ m. n == m) ns)) d in
-    true≢false (sym (finds ns n ((h n).1 (i, in_range r n p.0))) ∙ not-true (list_any (λ m. n == m) ns) p.1)
-number_not_denied N (Lacks m) n h i d = true≢false (sym i ∙ ap is_some (subst (λ m. get N m ≡ None) (eqb-true m n d) h))
-number_not_denied N (StandsAt First m) n h i d =
-    elim (firsts N) [
-      | Empty e none ↦ none n i
-      | Begins c e here all ↦ (let f : Some c ≡ Some m = sym e ∙ h in let g : c ≡ m = cc in let b = all n i in let l = ltb-true n m d in absurd (omega arith))
-    ]
-number_not_denied N (StandsNowhere First) n h i d =
-    elim (firsts N) [ Empty e none ↦ none n i | Begins c e here all ↦ (let f : None ≡ Some c = sym h ∙ e in cc) ]
-number_not_denied N (StepsUp (Known c) m) n h i d = let b = h.2 n in grind (arith, nat_tests)
-number_not_denied N (StepsDown (Known c) m) n h i d = let b = h.2 n in grind (arith, nat_tests)
-number_not_denied N (IsTop (Known c)) n h i d = true≢false (sym i ∙ ap is_some (h n (ltb-true c n d)))
-number_not_denied N (IsBottom (Known c)) n h i d = true≢false (sym i ∙ ap is_some (h n (ltb-true n c d)))
-number_not_denied N ask n h i d = cc
+number_not_denied N ask n h i j = grind (arith, nat_tests, and_parts, true≢false, finds, in_range, not-true, eqb-true, firsts, ltb-true)
 
 -- ---- of all that is asked
 
@@ -106,25 +64,7 @@ numbers_not_denied N (ask ∷ asks) n met i d =
 
 -- numbers that meet an ask meet its demand
 meets_demand_in : (N : Numbers) (ask : Ask) → Meets N ask → MeetsDemand (demand_in ask) (IsNumber N)
-meets_demand_in N (IsBottom First) h = let f = first_there N (NoneBelow N) h in (f.0, f.1)
-meets_demand_in N (IsTop First) h =
-    let f = first_there N (NoneAbove N) h in
-    (f.0, f.1, λ m i. elim (cases_order f.0 m) [ inl e ↦ sym e | inr (inl l) ↦ absurd (not_number N m (f.3 m l) i) | inr (inr g) ↦ (let a = f.2 m i in absurd (omega arith)) ])
-meets_demand_in N (StepsUp First k) h =
-    let f = first_there N (λ c. IsNextAbove N c k) h in (
-      f.3.1,
-      f.0,
-      f.3.0,
-      f.1,
-      λ m below i. elim
-          (cases_order f.0 m) [
-            | inl e ↦ sym e
-            | inr (inl l) ↦ (let a = f.3.2 m l i in absurd (omega arith))
-            | inr (inr g) ↦
-                (let a = f.2 m i in absurd (omega arith))
-          ],
-    )
-meets_demand_in N ask h = tt
+meets_demand_in N ask h = grind (arith, first_there, cases_order, not_number)
 
 -- numbers that meet two demands meet both as one
 joined : (P : ℕ → Type 0) (d e : Demand) → MeetsDemand d P → MeetsDemand e P → MeetsDemand (join d e) P
@@ -186,41 +126,23 @@ second_shown (ask ∷ asks) k e =
 
 -- what is wanted of a number is wanted of each one below it
 pub wants_less : (d : Demand) (n m : ℕ) → m ≤ n → wants d n ≡ true → wants d m ≡ true
-wants_less NotEmpty n m le t = refl
-wants_less OnlyOne n m le t = refl
-wants_less (SecondIs k) n m le t = lt-ltb m k (let l = ltb-true n k t in omega arith)
-wants_less d n m le t = cc
+wants_less d n m h i = grind arith
 
 -- where a number is wanted, one that is wanted meets the demand
 pub wanted_there : (P : ℕ → Type 0) (d : Demand) (n : ℕ) → MeetsDemand d P → wants d n ≡ true → (c : ℕ) × P c × (wants d c ≡ true)
-wanted_there P NotEmpty n h t = (h.0, h.1, refl)
-wanted_there P OnlyOne n h t = (h.0, h.1, refl)
-wanted_there P (SecondIs k) n h t = (h.1, h.3, lt-ltb h.1 k h.2)
-wanted_there P d n h t = cc
+wanted_there P d n c h = grind arith
 
 -- ---- what can be
 
 -- an ask that is met is possible
 possible_in : (N : Numbers) (ask : Ask) → Meets N ask → IsTrue (is_possible ask)
-possible_in N (ListsIn r ns) h = every (is_in_range r) ns (λ n i. in_range_back r n ((h n).0 (contains_in n ns i)).1)
-possible_in N (StandsAt (Known c) m) h = eq-eqb c m (let same : c ≡ m = cc in same)
-possible_in N (StandsAt Nowhere m) h = cc
-possible_in N (StandsNowhere (Known c)) h = cc
-possible_in N (StepsUp (Known c) m) h = lt-ltb c m h.0
-possible_in N (StepsUp Nowhere m) h = absurd h
-possible_in N (StepsDown (Known c) m) h = lt-ltb m c h.0
-possible_in N (StepsDown First m) h = (let f = first_there N (λ c. IsNextBelow N c m) h in let a = f.2 m f.3.1 in let b = f.3.0 in absurd (omega arith))
-possible_in N (StepsDown Nowhere m) h = absurd h
-possible_in N (IsTop Nowhere) h = absurd h
-possible_in N (IsBottom Nowhere) h = absurd h
-possible_in N ask h = refl
+possible_in N ask h = grind (arith, every, in_range_back, contains_in, eq-eqb, lt-ltb, first_there)
 
 -- ---- keys
 
 -- where no number is unknown, each is known
 pub any_unknown : (asks : List Ask) (ns : List ℕ) → list_any (λ n. not (is_known asks n)) ns ≡ false → (n : ℕ) → In n ns → IsTrue (is_known asks n)
-any_unknown asks ns none n i =
-    elim (cases_Bool (is_known asks n)) [ inl t ↦ t | inr f ↦ absurd (true≢false (sym (any_in (λ n. not (is_known asks n)) n ns i (ap not f)) ∙ none)) ]
+any_unknown asks ns none n i = grind (arith, cases_Bool, true≢false, any_in)
 
 -- a number is one of the keys
 pub key_in : (N : Numbers) (n : ℕ) → IsNumber N n → In n (keys N)
@@ -262,23 +184,11 @@ some_there N ask h t = cc
 
 -- and then strict marks are numbers
 end_is_number : (N : Numbers) (ask : Ask) (n k : ℕ) → Meets N ask → IsNumber N k → is_end ask n ≡ true → IsNumber N n
-end_is_number N (Estimates Strict m) n k h there t =
-    let ends = h.2 k there in
-    elim (or_cases (m.low == n) (m.high == n) t) [ inl e ↦ subst (IsNumber N) (eqb-true m.low n e) ends.0 | inr e ↦ subst (IsNumber N) (eqb-true m.high n e) ends.1 ]
-end_is_number N ask n k h there t = cc
+end_is_number N ask n k h i j = grind arith
 
 -- what is known is a number
 pub known_are_numbers : (N : Numbers) (asks : List Ask) (n : ℕ) → AllByRecursion (Meets N) asks → IsTrue (is_known asks n) → IsNumber N n
-known_are_numbers N asks n met t =
-    elim (or_cases (is_shown asks n) (is_given_end asks n) t) [
-      | inl s ↦ shown_are_numbers N asks n met s
-      | inr g ↦
-          let p = and_parts (list_any says_some asks) (list_any (λ ask. is_end ask n) asks) g in
-          let f = found_in says_some asks p.0 in
-          let some = some_there N f.0 (all_at (Meets N) f.0 asks met f.1) f.2 in
-          let e = found_in (λ ask. is_end ask n) asks p.1 in
-          end_is_number N e.0 n some.0 (all_at (Meets N) e.0 asks met e.1) some.1 e.2
-    ]
+known_are_numbers N asks n met t = grind (arith, or_cases, shown_are_numbers, and_parts, found_in, some_there, all_at, end_is_number)
 
 -- there is one more number at most
 pub one_more_once : (asks : List Ask) (e d : ℕ) → IsOneMore asks e → IsOneMore asks d → e ≡ d
@@ -326,23 +236,7 @@ module _ (asks : List Ask) (N : Numbers) (met : AllByRecursion (Meets N) asks) (
 
   -- the given numbers meet the demand
   demand_given : (d : Demand) → demand asks ≡ d → MeetsDemand d (IsNumber N) → MeetsDemand d (IsGivenNumber asks)
-  demand_given NoDemand e h = tt
-  demand_given NotEmpty e h = let g = given_wanted h.0 h.1 (ap (λ d. wants d h.0) e) in (g.0, g.1)
-  demand_given OnlyOne e h =
-      let g = given_wanted h.0 h.1 (ap (λ d. wants d h.0) e) in
-      (g.0, g.1, λ m i. one_wanted (λ a b i j s t. h.2 a i ∙ sym (h.2 b j)) m g.0 i g.1 (ap (λ d. wants d m) e) g.2)
-  demand_given (SecondIs k) e h =
-      let wants_below : (n : ℕ) → wants (demand asks) n ≡ nat_lt n k = λ n. ap (λ d. wants d n) e in
-      let below : (n : ℕ) → wants (demand asks) n ≡ true → n < k = λ n t. ltb-true n k (sym (wants_below n) ∙ t) in
-      let g = given_wanted h.1 h.3 (wants_below h.1 ∙ lt-ltb h.1 k h.2) in (
-        inl (shown_known asks k (second_shown asks k e)),
-        g.0,
-        below g.0 g.2,
-        g.1,
-        λ m l i. one_wanted
-            (λ a b i j s t. h.4 a (below a s) i ∙ sym (h.4 b (below b t) j)) m g.0 i g.1 (wants_below m ∙ lt-ltb m k l) g.2,
-      )
-  demand_given Impossible e h = h
+  demand_given d h i = grind (arith, given_wanted, one_wanted, ltb-true, lt-ltb, shown_known, second_shown)
 
   replaced_in_N : (G : Numbers) → HasGivenNumbers asks G → (d c : ℕ) → IsOneMore asks d → IsNumber N c → (n : ℕ) → IsNumber (insert (remove G d) c []) n → IsNumber N n
   replaced_in_N G given d c x here n i =
@@ -369,20 +263,13 @@ module _ (asks : List Ask) (N : Numbers) (met : AllByRecursion (Meets N) asks) (
             let there = key_is G f.0 f.1 in
             let x : IsOneMore asks f.0 = elim ((given f.0).0 there) [ inl t ↦ absurd (true≢false (sym t ∙ not-true _ f.2)) | inr x ↦ x ] in
             let c = wanted_there (IsNumber N) (demand asks) f.0 (demand_of N asks met) x.wanted in
-            let only : IsNumber G c.0 → c.0 ≡ f.0 = λ i.
-            elim ((given c.0).0 i) [ inl s ↦ absurd (true≢false (sym c.2 ∙ x.needed c.0 s)) | inr y ↦ one_more_once asks c.0 f.0 y x ] in
+            let only : IsNumber G c.0 → c.0 ≡ f.0 = grind (arith, true≢false, one_more_once) in
             subst (λ n. n ≤ len N) (len_replaced G f.0 c.0 there only) (len_le nat_cmp_total (insert (remove G f.0) c.0 []) N (λ n i. replaced_in_N G given f.0 c.0 x c.1 n i))
       ]
 
   few_for : (G : Numbers) → len G ≤ len N → (ask : Ask) → Meets N ask → IsFewFor G ask
-  few_for G le (Estimates how m) h = let most = h.0 in omega arith
-  few_for G le ask h = tt
+  few_for G ask h i = grind arith
 
   -- and so what is asked stands together
   pub asks_stand : AsksStand asks
-  asks_stand = record {
-    possible = all_from (λ ask. IsTrue (is_possible ask)) asks (λ ask i. possible_in N ask (all_at (Meets N) ask asks met i));
-    not_denied = λ n i. elim i [ inl s ↦ free_in_N n (known_in_N n s) | inr x ↦ x.first.1 ];
-    demand_met = demand_given (demand asks) refl (demand_of N asks met);
-    few = λ G given. all_from (IsFewFor G) asks (λ ask i. few_for G (as_few G given) ask (all_at (Meets N) ask asks met i));
-  }
+  asks_stand = grind (arith, all_from, possible_in, all_at, free_in_N, known_in_N, demand_given, demand_of, few_for, as_few)

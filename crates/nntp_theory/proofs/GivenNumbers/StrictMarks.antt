@@ -1,11 +1,11 @@
 -- Where marks are strict, no number is given beside those that are known.
-use Rattle.std.proofs.{Common.{◌≡◌, ℕ, ◌≤◌, Bool, true, false, cond, ◌==◌, IsTrue, List, [], ◌∷◌, inl, inr, refl, sym, subst, ◌∙◌}, lemmas.Bool.{true≢false}}
-use Rattle.std.{proofs.lemmas.Bool.{and_from, or_left, or_right, cases_lt, eq-eqb, lt-ltb}, specs.{Prelude.{nat_lt}, List.{AllByRecursion, list_any}}}
+use Rattle.std.proofs.{Common.{◌≡◌, ℕ, Bool, true, false, cond, ◌==◌, IsTrue, List, [], ◌∷◌, inl, inr, refl, sym, subst, arith}, lemmas.Bool.{true≢false}}
+use Rattle.std.{proofs.lemmas.Bool.{and_from, or_left, or_right, cases_lt, eq-eqb, lt-ltb}, specs.List.{AllByRecursion, list_any}}
 use Rattle.nntp_wire.specs.{declared.{water_marks.WaterMarks.{WaterMarks}, marks.Marks.TheVariants.{Strict}}, Listing.{ActiveValue}}
 use Rattle.nntp_article.specs.Session.{Spool.{Name}, Machine.{is_same}}
 use Rattle.nntp_said.specs.{Asks.{Ask, Estimates, Bounds, Has}, Facts.{Fact, Asks, IdAt, GroupsAre}}
-use Rattle.nntp_theory.{specs.Given.{asks_in, asks_of, denies, demand, is_shown, is_known, is_end, says_some, IsOneMore}, proofs.Members.{In, all_at, any_in}}
-use Rattle.nntp_theory.proofs.{Members.{found_in, to_flat, from_flat}, GivenNumbers.{MetNumbersStand.{wants_less}, GivenNumbersMeet.{some_said}}}
+use Rattle.nntp_theory.{specs.Given.{asks_in, asks_of, is_shown, is_known, is_end, says_some, IsOneMore}, proofs.Members.{In, all_at, any_in, found_in}}
+use Rattle.nntp_theory.proofs.{Members.{to_flat, from_flat}, GivenNumbers.{MetNumbersStand.{wants_less}, GivenNumbersMeet.{some_said}}}
 use Rattle.nntp_theory.proofs.Session.NumbersOfShownGroups.{IsSelectable, Placed}
 
 module _ (facts : List Fact) (placed : AllByRecursion (Placed Strict facts) facts) where
@@ -49,8 +49,4 @@ module _ (facts : List Fact) (placed : AllByRecursion (Placed Strict facts) fact
       or_right (is_shown asks m.low) _ (and_from (list_any says_some asks) _ some
       (any_in (λ ask. is_end ask m.low) (Estimates Strict m) asks k.1
       (or_left (m.low == m.low) _ (eq-eqb m.low m.low refl)))) in
-      let le : m.low ≤ n = elim (cases_lt n m.low) [
-        | inl l ↦ absurd (true≢false (sym (any_in (λ ask. denies ask n) (Estimates Strict m) asks k.1 (or_left (nat_lt n m.low) _ (lt-ltb n m.low l))) ∙ x.first.1))
-        | inr g ↦ g
-      ] in
-      true≢false (sym (wants_less (demand asks) n m.low le x.wanted) ∙ x.needed m.low known)
+      grind (arith, cases_lt, true≢false, any_in, or_left, lt-ltb, wants_less)

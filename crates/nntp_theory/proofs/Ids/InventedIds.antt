@@ -1,8 +1,8 @@
 -- Invented ids: they are message ids, and differ from one another.
-use Rattle.std.proofs.Common.{◌≡◌, ℕ, ◌+◌, ◌-◌, ◌<◌, ◌≤◌, ◌^◌, true, false, ◌&&◌, not, ◌==◌, List, [], ◌∷◌, ◌++◌, length, take, drop, refl, ap, ◌∙◌, arith}
-use Rattle.std.proofs.{Common.{length-append}, Math.Seq.{take-append_seam}, lemmas.{Bool.{and_from, le-leb, ne_eqb}, List.Folds.{list_all-append}}}
-use Rattle.std.{proofs.lemmas.{Fmt.{decimal_is_IsNumeral_wide, length-decimal-le_wide}, Str.Parse.{digit_from_value}}, specs.Prelude.{nat_le, codes, decimal}}
-use Rattle.std.specs.{List.{list_all}, Str.Parse.{AllDigits, digits_value}}
+use Rattle.std.proofs.Common.{◌≡◌, ℕ, ◌+◌, ◌-◌, ◌<◌, ◌≤◌, ◌^◌, true, false, ◌==◌, List, [], ◌∷◌, ◌++◌, length, take, drop, refl, arith, length-append}
+use Rattle.std.proofs.{Math.Seq.{take-append_seam}, lemmas.{Bool.{and_from, le-leb, ne_eqb}, List.Folds.{list_all-append}, Fmt.{decimal_is_IsNumeral_wide}}}
+use Rattle.std.{proofs.lemmas.{Fmt.{length-decimal-le_wide}, Str.Parse.{digit_from_value}}, specs.{Prelude.{codes, decimal}, List.{list_all}}}
+use Rattle.std.specs.Str.Parse.{AllDigits, digits_value}
 use Rattle.nntp_theory.specs.Given.{invented}
 use Rattle.nntp_article.specs.Article.Parts.{Id}
 use Rattle.nntp_wire.{specs.{Decided.{is_id_octet, ends_id}, Name.{IsMessageId}}, proofs.DecidedLemmas.{message_id-iff}}
@@ -16,21 +16,16 @@ pub number-invented : (k : ℕ) → k < 10 ^ 64 → invented_number (invented k)
 unfolding invented_number
 number-invented k small =
     let long : length (decimal k ++ codes "@invented.invalid>") - 18 ≡ length (decimal k) = omega (arith, length-append (decimal k) (codes "@invented.invalid>")) in
-    ap (λ n. digits_value 10 (take n (decimal k ++ codes "@invented.invalid>"))) long
-    ∙ ap (digits_value 10) (take-append_seam (decimal k) (codes "@invented.invalid>"))
-    ∙ (decimal_is_IsNumeral_wide k small).1
+    grind (arith, take-append_seam, decimal_is_IsNumeral_wide)
 
 -- digits are visible ASCII
 digits_visible : (ds : List ℕ) → AllDigits 10 ds → list_all is_id_octet ds ≡ true
 digits_visible [] h = refl
-digits_visible (d ∷ ds) h =
-    let r = digit_from_value d h.0 in
-    and_from (is_id_octet d) _ (and_from (nat_le 33 d) (nat_le d 126) (le-leb 33 d (omega (arith, r.0))) (le-leb d 126 (omega (arith, r.1)))) (digits_visible ds h.1)
+digits_visible (d ∷ ds) h = grind (arith, digit_from_value, and_from, le-leb, digits_visible ds h.1)
 
 -- one octet more before the end
 ends_more : (c : ℕ) (cs : List ℕ) → (c == 62) ≡ false → ends_id cs ≡ true → ends_id (c ∷ cs) ≡ true
-ends_more c [] ne h = cc
-ends_more c (d ∷ cs) ne h = and_from (not (c == 62)) _ (ap not ne) h
+ends_more c cs h i = grind arith
 
 -- digits before the end
 ends_behind : (ds cs : List ℕ) → AllDigits 10 ds → ends_id cs ≡ true → ends_id (ds ++ cs) ≡ true
@@ -44,8 +39,4 @@ invented_is_id k small =
     let long : length (invented k) ≡ 20 + length (decimal k) = omega (arith, length-append (decimal k) (codes "@invented.invalid>")) in
     let most : length (decimal k) ≤ 64 = length-decimal-le_wide 64 k (omega arith) small small in
     (message_id-iff (invented k)).0
-    (and_from (nat_le 3 (length (invented k)) && nat_le (length (invented k)) 250 && list_all is_id_octet (invented k)) _
-    (and_from (nat_le 3 (length (invented k)) && nat_le (length (invented k)) 250) _
-    (and_from (nat_le 3 (length (invented k))) _ (le-leb 3 (length (invented k)) (omega arith)) (le-leb (length (invented k)) 250 (omega arith)))
-    (list_all-append is_id_octet (decimal k) (codes "@invented.invalid>") ∙ and_from (list_all is_id_octet (decimal k)) _ (digits_visible (decimal k) n) refl))
-    (ends_more 119 (decimal k ++ codes "@invented.invalid>") refl (ends_behind (decimal k) (codes "@invented.invalid>") n refl)))
+    (grind (arith, and_from, le-leb, list_all-append, digits_visible, ends_more, ends_behind))

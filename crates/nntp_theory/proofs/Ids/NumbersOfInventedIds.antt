@@ -95,23 +95,13 @@ module _ (B : ℕ) (small : (i : ℕ) → i < B → invented_number (invented i)
   -- the id at a number for which none is shown is among the invented ones
   pub unshown_there : (name : Name) (n : ℕ) (id : Id) (es : List (ℕ × Id)) → In (n, id) es → id_shown facts name n ≡ None → In id (unshown_in facts name es)
   unshown_there name n id [] i none = absurd i
-  unshown_there name n id (e ∷ es) (inl same) none =
-      let unshown : is_some (id_shown facts name e.0) ≡ false = ap (λ e. is_some (id_shown facts name e.0)) same ∙ ap is_some none in
-      subst (λ b. In id (cond b [] (e.1 ∷ []) ++ unshown_in facts name es)) (sym unshown) (inl (ap (λ e. e.1) same))
+  unshown_there name n id (e ∷ es) (inl same) none = grind arith
   unshown_there name n id (e ∷ es) (inr i) none = in_back id (cond (is_some (id_shown facts name e.0)) [] (e.1 ∷ [])) _ (unshown_there name n id es i none)
 
   -- an id that is invented for a number isn't invented again behind it
   once : (name : Name) (k n m : ℕ) (id : Id) (e : ℕ × Id) (es : List (ℕ × Id)) → Numbered k (unshown_in facts name (e ∷ es))
       → (e ≡ (n, id)) → In (m, id) es → id_shown facts name n ≡ None → id_shown facts name m ≡ None → ⊥
-  once name k n m id e es h same i none none' =
-      let unshown : is_some (id_shown facts name e.0) ≡ false = ap (λ e. is_some (id_shown facts name e.0)) same ∙ ap is_some none in
-      let f : Numbered k (e.1 ∷ unshown_in facts name es) = subst (λ b. Numbered k (cond b [] (e.1 ∷ []) ++ unshown_in facts name es)) unshown h in
-      let later = of_numbered (f.0 + 1) (unshown_in facts name es) id f.5 (unshown_there name m id es i none') in
-      let a = small f.0 f.2 in
-      let b = small later.0 later.2 in
-      let l = later.1 in
-      let equal : f.0 ≡ later.0 = sym a ∙ ap invented_number (sym f.3 ∙ ap (λ e. e.1) same ∙ later.3) ∙ b in
-      omega arith
+  once name k n m id e es h same i none none' = grind (arith, of_numbered, unshown_there, invented_number)
 
   -- no id is invented for two numbers of a group
   pub unshown_apart : (name : Name) (k n m : ℕ) (id : Id) (es : List (ℕ × Id)) → Numbered k (unshown_in facts name es)

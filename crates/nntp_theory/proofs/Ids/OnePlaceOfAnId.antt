@@ -1,6 +1,6 @@
 -- An id that is shown at a number has this number.
 use Rattle.std.proofs.Common.{◌≡◌, ℕ, Bool, true, false, ◌&&◌, ◌==◌, cond, IsTrue, List, [], ◌∷◌, Option, None, Some, is_some, IsSome, inl, refl, sym, ap}
-use Rattle.std.proofs.{Common.{subst, ◌∙◌}, lemmas.Bool.{eqb-true}}
+use Rattle.std.proofs.{Common.{subst, ◌∙◌, arith}, lemmas.Bool.{eqb-true}}
 use Rattle.nntp_article.specs.{Article.Parts.{Id}, Session.{Spool.{Name}, Machine.{is_same}}}
 use Rattle.nntp_said.specs.{Asks.{Has}, Facts.{Fact, IdAt}}
 use Rattle.nntp_theory.{specs.{Given.{shows, is_shown, asks_in, asks_of, first_given, id_in}, Together.{number_in, GiveOne}}, proofs.Members.{In, any_in}}
@@ -44,6 +44,4 @@ shown_with_id facts name n = given (first_given (id_in name n) facts) refl
 -- facts that stand together agree
 pub agree_together : (facts : List Fact) (name : Name) (n : ℕ) (id : Id) → GiveOne (number_in name id) facts
     → first_given (id_in name n) facts ≡ Some id → first_given (number_in name id) facts ≡ Some n
-agree_together facts name n id one e =
-    let f = first_found (id_in name n) facts id e in
-    one_given (number_in name id) facts one f.0 f.1 n (placed_by name n id f.0 f.2)
+agree_together facts name n id one e = grind (arith, first_found, one_given, placed_by)

@@ -1,37 +1,25 @@
 -- A head of one line that says an id.
-use Rattle.std.proofs.Common.{◌≡◌, ℕ, true, false, cond, ◌&&◌, ◌||◌, ◌==◌, not, IsTrue, List, [], ◌∷◌, ◌++◌, length, Some, None, refl, ap, ◌∙◌, arith}
-use Rattle.std.{proofs.{Common.{append-nil}, lemmas.Bool.{and_from, and_parts, ne_eqb, leb-true, lt-ltb}}, specs.Prelude.{nat_le, codes, nat_lt}}
-use Rattle.std.specs.List.{list_all, AllByRecursion}
+use Rattle.std.proofs.Common.{◌≡◌, ℕ, true, false, cond, ◌&&◌, not, IsTrue, List, [], ◌∷◌, ◌++◌, length, Some, refl, ap, ◌∙◌, arith, append-nil}
+use Rattle.std.{proofs.lemmas.Bool.{and_from, and_parts}, specs.{Prelude.{nat_le, codes, nat_lt}, List.{list_all, AllByRecursion}}}
 use Rattle.nntp_article.specs.{Article.Parts.{is_head, said_id, skip_blanks, skip_last_blanks, content_of, Id}, Session.Spool.{is_line}}
 use Rattle.nntp_theory.specs.Given.{plain_head}
-use Rattle.nntp_wire.specs.{Decided.{is_id_octet, begins_id, is_message_id}, Name.{IsMessageId}, Octets.{is_blank, is_clean, is_line_breaking}}
+use Rattle.nntp_wire.specs.{Decided.{is_id_octet, begins_id}, Name.{IsMessageId}, Octets.{is_blank, is_clean, is_line_breaking}}
 use Rattle.nntp_wire.proofs.DecidedLemmas.{message_id-iff}
 
 -- an octet of an id is no blank
 visible : (c : ℕ) → is_id_octet c ≡ true → is_blank c ≡ false
-visible c h =
-    let p = and_parts (nat_le 33 c) _ h in
-    let l = leb-true 33 c p.0 in
-    ap (λ b. b || (c == 9)) (ne_eqb c 32 (λ e. omega arith)) ∙ ne_eqb c 9 (λ e. omega arith)
+visible c h = grind arith
 
 -- and no NUL, CR or LF
 clean : (c : ℕ) → is_id_octet c ≡ true → (not (is_line_breaking c) ≡ true) × (nat_lt c 256 ≡ true)
-clean c h =
-    let p = and_parts (nat_le 33 c) (nat_le c 126) h in
-    let l = leb-true 33 c p.0 in
-    let u = leb-true c 126 p.1 in (
-      ap not (ap (λ b. b || (c == 13) || (c == 10)) (ne_eqb c 0 (λ e. omega arith)) ∙ ap (λ b. b || (c == 10)) (ne_eqb c 13 (λ e. omega arith)) ∙ ne_eqb c 10 (λ e. omega arith)),
-      lt-ltb c 256 (omega arith),
-    )
+clean c h = grind arith
 
 -- octets of an id make a line
 all_clean : (cs : List ℕ) → list_all is_id_octet cs ≡ true → (is_clean cs ≡ true) × (list_all (λ c. nat_lt c 256) cs ≡ true)
 all_clean [] h = (refl, refl)
 all_clean (c ∷ cs) h =
     let p = and_parts (is_id_octet c) _ h in
-    let here = clean c p.0 in
-    let rest = all_clean cs p.1 in
-    (and_from (not (is_line_breaking c)) (is_clean cs) here.0 rest.0, and_from (nat_lt c 256) (list_all (λ c. nat_lt c 256) cs) here.1 rest.1)
+    grind (arith, clean, and_from, all_clean cs p.1)
 
 -- the line of an id
 id_line : (cs : List ℕ) → list_all is_id_octet cs ≡ true → is_line (codes "Message-ID: " ++ cs) ≡ true
@@ -59,9 +47,7 @@ content id h = ap (λ cs. skip_last_blanks (skip_blanks cs)) (append-nil id) ∙
 
 -- the head says the id
 pub plain_says : (id : Id) → IsMessageId id → said_id (plain_head id) ≡ Some id
-plain_says id h =
-    let same = content id (octets id h) in
-    ap (λ said. cond (is_message_id said) (Some said) None) same ∙ ap (λ b. cond b (Some id) None) ((message_id-iff id).1 h)
+plain_says id h = grind (arith, content, octets, message_id-iff)
 
 -- the one line is a head
 pub plain_is_head : (id : Id) → IsTrue (is_head (plain_head id))

@@ -1,17 +1,17 @@
 -- A session that says little is given a small spool.
 use Rattle.nntp_wire.specs.{declared.marks.Marks.TheVariants.{Strict}, Listing.{ActiveValue}}
-use Rattle.std.proofs.Common.{◌≡◌, ℕ, ◌+◌, ◌<◌, ◌≤◌, ◌^◌, Bool, true, false, cond, not, ◌==◌, IsTrue, List, [], ◌∷◌, ◌++◌, map, length, Some, is_some, inl, inr}
-use Rattle.std.proofs.{Common.{refl, sym, ap, subst, ◌∙◌, arith, length-append}, lemmas.Bool.{cases_Bool, eqb-true, not-true, true≢false, or_cases, and_parts}}
+use Rattle.std.proofs.Common.{◌≡◌, ℕ, ◌+◌, ◌<◌, ◌≤◌, ◌^◌, Bool, true, false, cond, not, IsTrue, List, [], ◌∷◌, ◌++◌, map, length, Some, is_some, inl, inr, refl}
+use Rattle.std.proofs.{Common.{sym, ap, subst, ◌∙◌, arith, length-append}, lemmas.Bool.{cases_Bool, eqb-true, not-true, true≢false, or_cases, and_parts}}
 use Rattle.std.{proofs.lemmas.{List.{length-map}, Map.Keys.{IsDistinct-from_sorted}}, specs.{Prelude.{unwrap_or}, List.{list_any, flat_map, IsDistinct}}}
 use Rattle.std.specs.{List.{AllByRecursion}, Ordering.{nat_cmp, eq_by_cmp}, Cmp.{nat_cmp_total, eq_by_cmp_equiv, Lexicographic.{slice_cmp, same_text}}}
 use Rattle.std.specs.{Cmp.Lexicographic.{nat_list_cmp_total, nat_list_eq_equiv}, FinMap.{get, empty, get-entries, keys, entries, entries_sorted}}
 use Rattle.nntp_article.specs.{Session.{Spool.{Spool, Numbers, IsNumber, IsGroup, numbers, Name}, Machine.{is_same}}, Article.Parts.{Id}}
 use Rattle.nntp_said.specs.{Asks.{Ask, Estimates, Bounds, ListsIn, Has, StandsAt, StepsUp, StepsDown}, declared.position.Position.TheVariants.{First}}
 use Rattle.nntp_said.specs.Facts.{Fact, ThereIs, Asks, IdAt, GroupsAre}
-use Rattle.nntp_theory.specs.Given.{shows, is_shown, IsOneMore, HasGivenNumbers, asks_in, asks_of, shows_group, is_shown_group, id_shown, unshown_in}
-use Rattle.nntp_theory.{specs.{Given.{unshown_ids, is_known, is_given_end, is_end, says_some}, Inner.Given.{size_in, size}}, proofs.Members.{In, any_in}}
-use Rattle.nntp_theory.proofs.{Members.{found_in, in_map, from_map, to_flat, from_flat, parts_few}, GivenNumbers.MetNumbersStand.{one_more_once, any_unknown}}
-use Rattle.nntp_theory.proofs.{GivenNumbers.MetNumbersStand.{key_in, key_is}, Ids.NumbersOfInventedIds.{mentioned}, Maps.{sorted_keys, keys_among, find_entry}}
+use Rattle.nntp_theory.specs.Given.{shows, IsOneMore, HasGivenNumbers, asks_in, asks_of, shows_group, is_shown_group, unshown_in, unshown_ids, is_known, is_end}
+use Rattle.nntp_theory.{specs.Inner.Given.{size_in, size}, proofs.Members.{In, any_in, found_in, in_map, from_map, to_flat, from_flat, parts_few}}
+use Rattle.nntp_theory.proofs.{GivenNumbers.MetNumbersStand.{one_more_once, any_unknown, key_in, key_is}, Ids.NumbersOfInventedIds.{mentioned}}
+use Rattle.nntp_theory.proofs.Maps.{sorted_keys, keys_among, find_entry}
 
 -- ---- the names and numbers that are shown, as lists
 
@@ -73,24 +73,15 @@ name_shown facts name i = let f = from_flat names_in name facts i in any_in (sho
 
 -- a strict mark is one of the ask's
 end_named : (ask : Ask) (n : ℕ) → is_end ask n ≡ true → In n (named_by ask)
-end_named (Estimates Strict m) n t = elim (or_cases (m.low == n) (m.high == n) t) [ inl e ↦ inl (eqb-true m.low n e) | inr e ↦ inr (inl (eqb-true m.high n e)) ]
-end_named ask n t = cc
+end_named ask n h = grind arith
 
 -- a number that is shown is one of the ask's
 pub one_shown : (ask : Ask) (n : ℕ) → shows ask n ≡ true → In n (named_by ask)
-one_shown (ListsIn r ns) n t = let f = found_in (λ m. n == m) ns t in subst (λ m. In m ns) (sym (eqb-true n f.0 f.2)) f.1
-one_shown (Has m) n t = inl (eqb-true m n t)
-one_shown (StandsAt First m) n t = inl (eqb-true m n t)
-one_shown (StepsUp at m) n t = inl (eqb-true m n t)
-one_shown (StepsDown at m) n t = inl (eqb-true m n t)
-one_shown ask n t = cc
+one_shown ask n h = grind (arith, found_in, eqb-true)
 
 -- a number that is known is one of an ask's
 pub known_named : (asks : List Ask) (n : ℕ) → IsTrue (is_known asks n) → (ask : Ask) × In ask asks × In n (named_by ask)
-known_named asks n t = elim (or_cases (is_shown asks n) (is_given_end asks n) t) [
-  | inl s ↦ (let f = found_in (λ ask. shows ask n) asks s in (f.0, f.1, one_shown f.0 n f.2))
-  | inr g ↦ (let f = found_in (λ ask. is_end ask n) asks (and_parts (list_any says_some asks) _ g).1 in (f.0, f.1, end_named f.0 n f.2))
-]
+known_named asks n t = grind (arith, or_cases, found_in, one_shown, and_parts, end_named)
 
 -- and of the numbers
 pub known_number : (name : Name) (facts : List Fact) (n : ℕ) → IsTrue (is_known (asks_of name facts) n) → In n (shown_numbers name facts)
@@ -107,30 +98,17 @@ names_few : (facts : List Fact) → length (names_of facts) ≤ size facts
 unfolding names_of names_in
 names_few [] = omega arith
 names_few (ThereIs name ∷ facts) = let rest = names_few facts in omega arith
-names_few (GroupsAre p lines ∷ facts) =
-    let rest = names_few facts in
-    let names = map (λ (line : ActiveValue). line.name) lines in
-    omega (arith, length-append names (names_of facts), length-map lines (λ (line : ActiveValue). line.name))
+names_few (GroupsAre p lines ∷ facts) = grind (arith, length-append, names_of, length-map, names_few facts)
 names_few (fact ∷ facts) = let rest = names_few facts in omega arith
 
 -- marks show no number
 no_number : (name : Name) (lines : List ActiveValue) → flat_map named_by (flat_map (λ line. cond (is_same line.name name) (Bounds line.low line.high ∷ []) []) lines) ≡ []
 no_number name [] = refl
-no_number name (line ∷ lines) =
-    elim (is_same line.name name) as (λ b. flat_map named_by
-    (cond b (Bounds line.low line.high ∷ []) [] ++ flat_map
-    (λ line. cond (is_same line.name name) (Bounds line.low line.high ∷ []) []) lines) ≡ []) [
-      | true ↦ no_number name lines
-      | false ↦ no_number name lines
-    ]
+no_number name (line ∷ lines) = grind (arith, no_number name lines)
 
 -- an ask shows few numbers
 asked_few : (g : Name) (ask : Ask) (b : Bool) → length (flat_map named_by (cond b (ask ∷ []) [])) ≤ size_in (Asks g ask)
-asked_few g ask false = omega arith
-asked_few g (ListsIn r ns) true = omega (arith, length-append ns [])
-asked_few g (Estimates Strict m) true = omega arith
-asked_few g (StandsAt First m) true = omega arith
-asked_few g ask true = omega arith
+asked_few g ask b = grind (arith, length-append)
 
 -- ---- over several groups
 
@@ -179,17 +157,7 @@ one_few fact names d = let none = nothing_few (λ name. []) names (λ name. refl
 -- two parts for each group
 both_parts : (f h : Name → List ℕ) (names : List Name) → length (flat_map (λ name. f name ++ h name) names) ≡ length (flat_map f names) + length (flat_map h names)
 both_parts f h [] = refl
-both_parts f h (name ∷ names) =
-    omega (
-      arith,
-      both_parts f h names,
-      length-append (f name ++ h name)
-          (flat_map (λ name. f name ++ h name) names),
-      length-append (f name) (h name),
-      length-append (f name)
-          (flat_map f names),
-      length-append (h name) (flat_map h names),
-    )
+both_parts f h (name ∷ names) = grind (arith, length-append, both_parts f h names)
 
 -- there are few numbers, over all groups
 numbers_few : (facts : List Fact) (names : List Name) → IsDistinct (eq_by_cmp (slice_cmp nat_cmp)) names → length (flat_map (λ name. shown_numbers name facts) names) ≤ size facts
@@ -197,9 +165,8 @@ unfolding shown_numbers
 numbers_few [] names d = let none = nothing_few (λ name. []) names (λ name. refl) in omega arith
 numbers_few (fact ∷ facts) names d =
     let rest = numbers_few facts names d in
-    let here = one_few fact names d in
     let parts = both_parts (λ name. numbers_in name fact) (λ name. shown_numbers name facts) names in
-    omega arith
+    grind (arith, one_few)
 
 -- no more ids are mentioned than the size
 mentioned_few : (facts : List Fact) → length (mentioned facts) ≤ size facts
@@ -231,9 +198,7 @@ given_few name facts N given =
 -- ids for which none is shown are no more than the numbers
 unshown_few : (facts : List Fact) (name : Name) (es : List (ℕ × Id)) → length (unshown_in facts name es) ≤ length es
 unshown_few facts name [] = omega arith
-unshown_few facts name (e ∷ es) =
-    let rest = unshown_few facts name es in
-    elim (is_some (id_shown facts name e.0)) as (λ b. length (cond b [] (e.1 ∷ []) ++ unshown_in facts name es) ≤ length (e ∷ es)) [ true ↦ omega arith | false ↦ omega arith ]
+unshown_few facts name (e ∷ es) = grind (arith, unshown_few facts name es)
 
 -- the numbers of the entries are those of their names
 by_names : (facts : List Fact) (es : List (Name × Numbers))

@@ -1,11 +1,11 @@
 -- Answers that are judged one after the other, whatever decides which exchanges stand: what they take, leave and add to those that were accepted.
-use Rattle.std.proofs.Common.{◌≡◌, ◌≢◌, ◌+◌, ◌<◌, ◌≤◌, false, ℕ, List, [], ◌∷◌, ◌++◌, length, map, refl, sym, ap, subst, ◌∙◌, arith, append_assoc, append-nil}
-use Rattle.std.proofs.{Common.{length-append}, lemmas.List.{map-append}}
+use Rattle.std.proofs.Common.{◌≡◌, ◌+◌, ◌<◌, ◌≤◌, false, ℕ, List, [], ◌∷◌, ◌++◌, length, map, refl, sym, ap, subst, ◌∙◌, arith, append_assoc, append-nil}
+use Rattle.std.proofs.{Common.{length-append, rules}, lemmas.{List.{map-append}, Grind.{common_steps}}}
 use Rattle.nntp_wire.specs.{Answer.{Response}, Frame.{frame_octets}}
 use Rattle.nntp_article.{specs.Session.Machine.{Visible, start}, proofs.SessionLemmas.ClosingAnswers.{after-closes}}
-use Rattle.nntp_pair.specs.{declared.class.PairClass.TheVariants.{Malformed as PairMalformed}, Pairing.{Paired, Unpaired, IsNext, AreNext, Ending, bad, Ends}}
+use Rattle.nntp_pair.specs.{declared.class.PairClass.TheVariants.{Malformed as PairMalformed}, Pairing.{Paired, Unpaired, IsNext, AreNext, Ending, bad}}
 use Rattle.nntp_pair.{specs.Pairing.{IsPairing, asked_at, asked_of, responses_of, streams}, proofs.{PairLemmas.{lines-few}, NextLemmas.{one-next, next-no-end}}}
-use Rattle.nntp_pair.proofs.{NextLemmas.{next-shorter}, PassedLemmas.{one-passed, passed-ends, passed-no-other, passed-shorter}}
+use Rattle.nntp_pair.proofs.{NextLemmas.{next-shorter}, PassedLemmas.{one-passed, passed-ends, passed-shorter}}
 use Rattle.nntp_theory.specs.{Classes.{visible_from}, Inner.Given.{weight}, Reading.{Judged, Accepted, Refused, Unspelled, accepted_of, accepted_with}}
 use Rattle.nntp_theory.{specs.Reading.{IsJudged, AreJudged, IsReadingBy}, proofs.Session.PairsGoOn.{visible_next, as_many, ends}}
 
@@ -50,17 +50,14 @@ weight_next past a b pair next =
     let front = frame_octets pair.initial next.answered.block in
     let whole = ap length next.answered.frame.whole ∙ length-append front b.server in
     let few = lines-few (asked_at pair.line) pair.response front next.answered.spells in
-    let both = ap weight (map-append (λ (pair : Paired). pair.response) past (pair ∷ [])) ∙ weight_append (responses_of past) (pair.response ∷ []) in
-    omega (arith, whole, few, both)
+    search (rules, map-append, weight_append)
 
 module _ (Stand : List Paired → Type 0) where
   -- ---- one answer
 
   -- it takes octets
   pub judged_shorter : (past : List Paired) (a b : Unpaired) (answer : Judged) → IsJudged Stand past a answer b → length b.server < length a.server
-  judged_shorter past a b (Accepted pair) (next, h) = next-shorter a b pair next
-  judged_shorter past a b (Refused pair) (next, h) = next-shorter a b pair next
-  judged_shorter past a b (Unspelled index line initial block) (at, passed) = passed-shorter a b line initial block passed
+  judged_shorter past a b answer h = grind (arith, common_steps, next-shorter, passed-shorter)
 
   -- behind the same ones it is determined
   pub one_judged : (past : List Paired) (a b c : Unpaired) (x y : Judged) → IsJudged Stand past a x b → IsJudged Stand past a y c → (x ≡ y) × (b ≡ c)
@@ -74,14 +71,7 @@ module _ (Stand : List Paired → Type 0) where
   one_judged past a b c (Unspelled i line initial block) (Refused y) (at, passed) (m, k) = absurd (next-no-end (bad PairMalformed) a c y m (passed-ends a b line initial block passed))
   one_judged past a b c (Unspelled i line initial block) (Unspelled j also other next) (at, passed) (to, second) =
       let one = one-passed a b c line also initial other block next passed second in
-      let index : i ≡ j = at ∙ sym to in
-      ((λ t. Unspelled (index t) (one.0 t) (one.1 t) (one.2 t)), one.3)
-
-  -- where there is one, no reading ends
-  pub judged_no_end : (past : List Paired) (a b : Unpaired) (answer : Judged) (ending : Ending) → IsJudged Stand past a answer b → Ends a ending → ending ≢ bad PairMalformed → ⊥
-  judged_no_end past a b (Accepted pair) ending (next, h) ends other = next-no-end ending a b pair next ends
-  judged_no_end past a b (Refused pair) ending (next, h) ends other = next-no-end ending a b pair next ends
-  judged_no_end past a b (Unspelled index line initial block) ending (at, passed) ends other = other (passed-no-other ending a b line initial block passed ends)
+      search rules
 
   -- ---- several answers
 
@@ -131,10 +121,7 @@ module _ (Stand : List Paired → Type 0) where
   -- so those of both streams weigh no more than the server's octets
   pub accepted_light : (client server : List ℕ) (answers : List Judged) (left : Unpaired) → AreJudged Stand [] (streams client server) answers left
       → weight (responses_of (accepted_of answers)) ≤ length server
-  accepted_light client server answers left judged =
-      let most = accepted_weight [] (streams client server) left answers judged in
-      let same = ap (λ (pairs : List Paired). weight (responses_of pairs)) (accepted_behind [] answers) in
-      omega (arith, most, same)
+  accepted_light client server answers left judged = search (rules, accepted_weight, accepted_behind)
 
   -- where the connection is open, none of those that were accepted closed it
   pub accepted_open : (past : List Paired) (a b : Unpaired) (answers : List Judged)
@@ -161,26 +148,13 @@ module _ (Stand : List Paired → Type 0) where
 
   pub accepted_first : (past : List Paired) (a c : Unpaired) (pairs : List Paired) (more : List Judged) → Stand past
       → AreJudged Stand past a (map Accepted pairs ++ more) c → AcceptedFirst past a pairs more c
-  accepted_first past a c [] more stand judged = record {
-    between = a;
-    paired = refl;
-    stand = subst Stand (sym (append-nil past)) stand;
-    rest = subst (λ past. AreJudged Stand past a more c) (sym (append-nil past)) judged;
-  }
+  accepted_first past a c [] more stand judged = search rules
   accepted_first past a c (pair ∷ pairs) more stand (m, (next, h), judged) =
-      let r = accepted_first (past ++ pair ∷ []) m c pairs more h judged in
-      let same = append_assoc past (pair ∷ []) pairs in
-      record {
-        between = r.between;
-        paired = (m, next, r.paired);
-        stand = subst Stand same r.stand;
-        rest = subst (λ past. AreJudged Stand past r.between more c) same r.rest;
-      }
+      search (rules, append_assoc, accepted_first (past ++ pair ∷ []) m c pairs more h judged)
 
   -- the pairing ends as the reading does
   pub all_paired : (client server : List ℕ) (pairs : List Paired) (ending : Ending) → Stand [] → IsReadingBy Stand client server (map Accepted pairs) ending
       → IsPairing client server pairs ending × Stand pairs
   all_paired client server pairs ending none reading =
       let whole = subst (λ answers. AreJudged Stand [] (streams client server) answers reading.left) (sym (append-nil (map Accepted pairs))) reading.judged in
-      let r = accepted_first [] (streams client server) reading.left pairs [] none whole in
-      (record { left = reading.left; paired = subst (AreNext (streams client server) pairs) r.rest r.paired; ends = reading.ends }, r.stand)
+      search (rules, accepted_first, ends)

@@ -18,18 +18,13 @@ permitted_in_session profile client server answers left judged =
 
 pub size_in_session : (profile : Profile) (client server : List ℕ) (answers : List Judged) (left : Unpaired) → AreJudged (ArePermitted profile) [] (streams client server) answers left
     → size (facts_of_session profile.marks (asked_of (accepted_of answers)) (responses_of (accepted_of answers))) ≤ length server
-size_in_session profile client server answers left judged =
-    let all = session_size profile.marks (asked_of (accepted_of answers)) (responses_of (accepted_of answers)) in
-    let most = accepted_light (ArePermitted profile) client server answers left judged in
-    omega (arith, all, most)
+size_in_session profile client server answers left judged = grind (arith, session_size, accepted_light)
 
 -- one answer more
 pub one_more_in_session : (profile : Profile) (client server : List ℕ) (answers : List Judged) (answer : Judged) (left after : Unpaired)
     → AreJudged (ArePermitted profile) [] (streams client server) answers left → IsJudged (ArePermitted profile) (accepted_of answers) left answer after
     → AreJudged (ArePermitted profile) [] (streams client server) (answers ++ answer ∷ []) after
-one_more_in_session profile client server answers answer left after judged is =
-    judged_push (ArePermitted profile) [] (streams client server) left after answers answer judged
-    (subst (λ past. IsJudged (ArePermitted profile) past left answer after) (sym (accepted_behind [] answers)) is)
+one_more_in_session profile client server answers answer left after judged is = search (arith, judged_push, accepted_behind)
 
 pub accepted_one_more : (answers : List Judged) (answer : Judged) → accepted_of (answers ++ answer ∷ []) ≡ accepted_with (accepted_of answers) answer
 accepted_one_more answers answer =

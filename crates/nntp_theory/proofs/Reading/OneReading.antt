@@ -6,8 +6,8 @@ use Rattle.nntp_pair.{specs.Pairing.{Unpaired, IsNext, Ending, end, bad, Ends, a
 use Rattle.nntp_pair.proofs.{NextDecided.{next-or-end}, PassedLemmas.{passed-exactly}}
 use Rattle.nntp_theory.specs.{Inner.Given.{weight}, Permitted.{exchanged, ArePermitted}, Reading.{Judged, Accepted, Refused, Unspelled, accepted_with}}
 use Rattle.nntp_theory.{specs.Reading.{IsJudged, AreJudged, IsReadingBy, IsReading}, proofs.Given.GivenSpoolExists.{some_or_none}}
-use Rattle.nntp_theory.proofs.{Given.SessionsByFacts.{permits_alone}, Ids.SizeOfASession.{session_size}, Reading.JudgedAnswers.{one_judged, judged_no_end}}
-use Rattle.nntp_theory.proofs.Reading.JudgedAnswers.{judged_shorter, weight_next, accepted_weight}
+use Rattle.nntp_theory.proofs.{Given.SessionsByFacts.{permits_alone}, Ids.SizeOfASession.{session_size}, Reading.JudgedAnswers.{one_judged, judged_shorter}}
+use Rattle.nntp_theory.proofs.Reading.JudgedAnswers.{weight_next, accepted_weight}
 
 module _ (Stand : List Paired → Type 0) where
   -- ---- one at most
@@ -17,10 +17,8 @@ module _ (Stand : List Paired → Type 0) where
       → AreJudged Stand past a answers b → Ends b ending → ending ≢ bad PairMalformed
       → AreJudged Stand past a others c → Ends c other → other ≢ bad PairMalformed → (answers ≡ others) × (b ≡ c)
   one_run past a b c [] [] ending other p ends passed q also too = (refl, sym p ∙ q)
-  one_run past a b c [] (y ∷ others) ending other p ends passed (k, first, q) also too =
-      absurd (judged_no_end Stand past a k y ending first (subst (λ u. Ends u ending) (sym p) ends) passed)
-  one_run past a b c (x ∷ answers) [] ending other (m, first, p) ends passed q also too =
-      absurd (judged_no_end Stand past a m x other first (subst (λ u. Ends u other) (sym q) also) too)
+  one_run past a b c [] (y ∷ others) ending other p ends passed (k, first, q) also too = grind arith
+  one_run past a b c (x ∷ answers) [] ending other (m, first, p) ends passed q also too = grind arith
   one_run past a b c (x ∷ answers) (y ∷ others) ending other (m, first, p) ends passed (k, second, q) also too =
       let one = one_judged Stand past a m k x y first second in
       let here : AreJudged Stand (accepted_with past y) k answers b = subst (λ (t : Judged × Unpaired). AreJudged Stand (accepted_with past t.0) t.1 answers b) (λ i. (one.0 i, one.1 i)) p in
@@ -30,9 +28,7 @@ module _ (Stand : List Paired → Type 0) where
   -- two streams have one reading
   pub one_reading : (client server : List ℕ) (answers others : List Judged) (ending other : Ending)
       → IsReadingBy Stand client server answers ending → IsReadingBy Stand client server others other → (answers ≡ others) × (ending ≡ other)
-  one_reading client server answers others ending other x y =
-      let one = one_run [] (streams client server) x.left y.left answers others ending other x.judged x.ends x.passed_over y.judged y.ends y.passed_over in
-      (one.0, one-end ending other y.left (subst (λ u. Ends u ending) one.1 x.ends) y.ends)
+  one_reading client server answers others ending other x y = grind (arith, one_run, one-end)
 
   -- ---- and one at least, where it is decided of exchanges that weigh no more than this
 
@@ -74,10 +70,7 @@ module _ (Stand : List Paired → Type 0) where
 
     -- each answer takes octets
     read_on : (past : List Paired) (a : Unpaired) (steps : ℕ) → length a.server ≤ steps → weight (responses_of past) + length a.server ≤ most → HasReading past a
-    read_on past a zero short small = elim (more_or_last past a small) [
-      | inl (answer, b, is) ↦ absurd (let less = judged_shorter Stand past a b answer is in omega (arith, less, short))
-      | inr last ↦ ([], a, refl, last)
-    ]
+    read_on past a zero short small = grind (arith, more_or_last, judged_shorter)
     read_on past a (suc steps) short small = elim (more_or_last past a small) [
       | inl (answer, b, is) ↦
           let less = judged_shorter Stand past a b answer is in

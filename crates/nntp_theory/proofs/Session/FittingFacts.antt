@@ -1,9 +1,8 @@
 -- What the visible condition says of the facts of an answer.
-use Rattle.std.proofs.{Common.{◌≡◌, ◌==◌, ◌&&◌, ◌+◌, IsTrue, List, [], ◌∷◌, inl, inr, arith, ◌≤◌}, lemmas.Bool.{and_parts, or_cases, eqb-true, leb-true}}
-use Rattle.std.specs.{Prelude.{⊤, nat_le, ◌-◌}, List.{AllByRecursion}}
-use Rattle.nntp_article.specs.Session.{Spool.{Name}, Machine.{Visible, visible_after, start, fits, marks_fit, are_zeros, is_article_number, is_in_range}}
-use Rattle.nntp_article.specs.{Session.Machine.{head_fits, active_fits}, declared.session.profile.Profile.{Profile}}
-use Rattle.nntp_wire.specs.{Listing.{listed_numbers, active_groups}, Answer.{Asked, Response}, declared.water_marks.WaterMarks.{WaterMarks}}
+use Rattle.std.{proofs.{Common.{◌≡◌, IsTrue, List, [], ◌∷◌, arith, ◌≤◌}, lemmas.Bool.{and_parts}}, specs.{Prelude.{⊤}, List.{AllByRecursion}}}
+use Rattle.nntp_article.specs.Session.{Spool.{Name}, Machine.{Visible, visible_after, start, fits, marks_fit, is_article_number, head_fits, active_fits}}
+use Rattle.nntp_article.specs.declared.session.profile.Profile.{Profile}
+use Rattle.nntp_wire.specs.{Answer.{Asked, Response}, declared.water_marks.WaterMarks.{WaterMarks}}
 use Rattle.nntp_said.specs.{Asks.{position_after, Estimates, ListsIn, Has, StandsAt, StepsUp, StepsDown}, declared.position.Position.{Position}}
 use Rattle.nntp_said.specs.{declared.position.Position.TheVariants.{Nowhere}, Facts.{Fact, Asks, IdAt, TextIs, GroupsAre, facts_of, facts_from}}
 use Rattle.nntp_said.{specs.Inner.Facts.{FitsAll}, proofs.Rows.{Row, row, marks, listing, up, down, text, text_at, text_here, active}}
@@ -24,30 +23,11 @@ IsFitting profile fact = ⊤
 
 -- the high mark is within the limit
 marks_within : (profile : Profile) (v : Visible) (name : Name) (m : WaterMarks) → IsTrue (marks_fit profile v name m) → m.high ≤ profile.limit
-marks_within profile v name m f =
-    elim (or_cases (are_zeros m) _ f) [
-      | inl z ↦ (let zero = eqb-true m.high 0 (and_parts (m.low == 0) (m.high == 0) (and_parts (m.estimate == 0) _ z).1).1 in omega arith)
-      | inr r ↦
-          let room = nat_le m.low (m.high + 1) in
-          let within = nat_le 1 m.low && nat_le m.high profile.limit in
-          let a = (and_parts (within && room && nat_le m.estimate (m.high + 1 - m.low)) _ r).0 in
-          let b = (and_parts (within && room) _ a).0 in
-          leb-true m.high profile.limit (and_parts (nat_le 1 m.low) _ (and_parts within _ b).0).1
-    ]
+marks_within profile v name m f = grind arith
 
 -- where the low mark is 0, so is the estimate
 marks_of_none : (profile : Profile) (v : Visible) (name : Name) (m : WaterMarks) → IsTrue (marks_fit profile v name m) → m.low ≡ 0 → m.estimate ≡ 0
-marks_of_none profile v name m f zero =
-    elim (or_cases (are_zeros m) _ f) [
-      | inl z ↦ eqb-true m.estimate 0 (and_parts (m.estimate == 0) _ z).0
-      | inr r ↦
-          let room = nat_le m.low (m.high + 1) in
-          let within = nat_le 1 m.low && nat_le m.high profile.limit in
-          let a = (and_parts (within && room && nat_le m.estimate (m.high + 1 - m.low)) _ r).0 in
-          let b = (and_parts (within && room) _ a).0 in
-          let low = leb-true 1 m.low (and_parts (nat_le 1 m.low) _ (and_parts within _ b).0).0 in
-          absurd (omega arith)
-    ]
+marks_of_none profile v name m f zero = grind arith
 
 -- marks fit
 marks_fitting : (profile : Profile) (v : Visible) (name : Name) (m : WaterMarks) → IsTrue (marks_fit profile v name m) → IsFitting profile (Asks name (Estimates profile.marks m))
@@ -56,25 +36,13 @@ marks_fitting profile v name m f = (marks_within profile v name m f, marks_of_no
 -- a row whose condition holds
 row_fitting : {profile : Profile} {v : Visible} {at : Position} {Fits : Type 0} {a : Response} {facts : List Fact} → Row profile v at Fits a facts → Fits → AllByRecursion (IsFitting profile) facts
 row_fitting {profile} {v} (marks m name known) f = (tt, (marks_fitting profile v name m (known f), tt))
-row_fitting {profile} {v} (listing m name range lines known) f =
-    let ns = listed_numbers lines in (
-      tt,
-      (
-        marks_fitting profile v name m (known f).0,
-        (
-          all_from (λ n. IsTrue (is_article_number profile.limit n)) ns
-              (λ n i. (and_parts (is_article_number profile.limit n) _ (each_of (λ n. is_article_number profile.limit n && is_in_range range n) ns n (known f).1.1 i)).0),
-          tt,
-        ),
-      ),
-    )
+row_fitting {profile} {v} (listing m name range lines known) f = grind (arith, marks_fitting, all_from, and_parts, each_of)
 row_fitting (up s known) f = ((known f).1, ((known f).1, tt))
 row_fitting (down s known) f = ((known f).1, ((known f).1, tt))
 row_fitting (text what s known) f = (known f, tt)
 row_fitting (text_at what s known) f = ((known f).0, ((known f).1.1, tt))
 row_fitting (text_here what s known) f = ((known f).0, ((known f).1.1, ((known f).1.1, tt)))
-row_fitting {profile} (active p lines known) f =
-    (all_from (λ line. IsTrue (active_fits profile p line)) (active_groups lines) (λ line i. each_of (active_fits profile p) (active_groups lines) line (known f).0 i), tt)
+row_fitting {profile} (active p lines known) f = grind (arith, all_from, each_of)
 row_fitting r f = assumption
 
 -- what an answer that fits says

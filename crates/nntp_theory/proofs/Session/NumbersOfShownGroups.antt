@@ -1,7 +1,6 @@
 -- What a session says of numbers, it says of groups that it shows.
-use Rattle.nntp_wire.specs.{declared.{marks.Marks.{Marks}, water_marks.WaterMarks.{WaterMarks}}, Answer.{Asked, Response, to, group_is, numbers_are}}
-use Rattle.nntp_wire.specs.Command.{group, list_group}
-use Rattle.std.{proofs.Common.{◌≡◌, IsTrue, List, [], ◌∷◌, Option, None, Some, is_some, refl, subst}, specs.{Prelude.{unwrap_or, ⊤}, List.{AllByRecursion}}}
+use Rattle.nntp_wire.specs.{declared.{marks.Marks.{Marks}, water_marks.WaterMarks.{WaterMarks}}, Answer.{Asked, Response}}
+use Rattle.std.{proofs.Common.{◌≡◌, IsTrue, List, [], ◌∷◌, Option, None, Some, is_some, refl, arith}, specs.{Prelude.{unwrap_or, ⊤}, List.{AllByRecursion}}}
 use Rattle.nntp_article.specs.{Session.{Spool.{Name}, Machine.{Visible, visible_after, start, fits}}, declared.session.profile.Profile.{Profile}}
 use Rattle.nntp_said.specs.{Asks.{position_after, Estimates}, declared.position.Position.{Position, TheVariants.{Nowhere}}, Facts.{Fact, ThereIs, Asks, IdAt}}
 use Rattle.nntp_said.{specs.{Facts.{here, facts_of, facts_from}, Inner.Facts.{FitsAll}}, proofs.Rows.{Row, row, nowhere, top, bottom, lacks, marks, listing}}
@@ -66,12 +65,7 @@ step_placed profile all v at p a stands f = row_placed all (row profile v at p a
 pub still_stands : (profile : Profile) (all : List Fact) (v : Visible) (at : Position) (p : Asked) (a : Response)
     → HasNoted profile.marks all v → IsTrue (fits profile v p a) → AllByRecursion (Among all) (facts_of profile.marks v at p a)
     → HasNoted profile.marks all (visible_after v p a)
-still_stands profile all v at (to (group word)) (group_is m name) stands f h = λ g e. subst (IsSelectable profile.marks all) (cc) (selectable profile.marks all name m h)
-still_stands profile all v at p (group_is m name) stands f h = cc
-still_stands profile all v at (to (list_group word range)) (numbers_are m name lines) stands f h = λ g e. subst
-    (IsSelectable profile.marks all) (cc) (selectable profile.marks all name m (h.0, (h.1.0, tt)))
-still_stands profile all v at p (numbers_are m name lines) stands f h = cc
-still_stands profile all v at p a stands f h = stands
+still_stands profile all v at p a h i j = grind arith
 
 -- the same of all that a session says, from any state on
 all_placed : (profile : Profile) (all : List Fact) (v : Visible) (at : Position) (ps : List Asked) (answers : List Response)
@@ -93,6 +87,4 @@ placed_among profile all ps answers f h = all_placed profile all start.visible N
 pub session_placed : (profile : Profile) (ps : List Asked) (answers : List Response) → FitsAll profile start.visible ps answers
     → AllByRecursion (Placed profile.marks (facts_of_session profile.marks ps answers))
     (facts_of_session profile.marks ps answers)
-session_placed profile ps answers f =
-    let all = facts_of_session profile.marks ps answers in
-    placed_among profile all ps answers f (all_from (Among all) all (λ fact i. i))
+session_placed profile ps answers f = search (arith, marks, placed_among, all_from)

@@ -1,15 +1,13 @@
 -- The numbers of a group are within the limit.
-use Rattle.std.proofs.lemmas.Bool.{true≢false, and_parts, or_cases, or_right, eqb-true, leb-true, lt-ltb, cases_lt, cases_eq, false_from_ne_true}
-use Rattle.std.proofs.{lemmas.Bool.Decides.{nat_tests}, Common.{◌≡◌, ℕ, ◌≤◌, ◌<◌, Bool, true, false, cond, ◌&&◌, ◌||◌, ◌==◌, ◌+◌, IsTrue, List, [], ◌∷◌}}
-use Rattle.std.{proofs.Common.{Option, inl, inr, refl, sym, subst, ◌∙◌, arith}, specs.{Prelude.{IsFalse, nat_le, nat_lt}, List.{AllByRecursion, list_any}}}
-use Rattle.std.specs.Cmp.Lexicographic.{same_text}
+use Rattle.std.proofs.{lemmas.Bool.{true≢false, and_parts, or_right, eqb-true, leb-true, lt-ltb, cases_lt, false_from_ne_true}, Common.{◌≡◌, ℕ, ◌≤◌, ◌<◌, Bool}}
+use Rattle.std.{proofs.Common.{true, false, cond, IsTrue, List, [], ◌∷◌, Option, inl, inr, refl, sym, subst, ◌∙◌, arith}, specs.Prelude.{IsFalse, nat_le}}
+use Rattle.std.specs.{Prelude.{nat_lt}, List.{AllByRecursion, list_any}, Cmp.Lexicographic.{same_text}}
 use Rattle.nntp_theory.specs.{Inner.Estimates.{estimate_in, is_within}, Given.{is_shown_group, asks_in, asks_of, shows, denies, is_shown, is_denied}}
 use Rattle.nntp_theory.{specs.Given.{shows_group, is_end}, proofs.Members.{In, all_at, any_in, found_in, to_flat, from_flat}}
 use Rattle.nntp_theory.proofs.{Together.FactsOfASpoolStand.{same_itself}, Session.{NumbersOfShownGroups.{IsSelectable, Placed}, FittingFacts.{IsFitting}}}
-use Rattle.nntp_wire.specs.{declared.marks.Marks.{Marks, TheVariants.{Strict}}, Listing.{ActiveValue}}
+use Rattle.nntp_wire.specs.{declared.marks.Marks.{Marks}, Listing.{ActiveValue}}
 use Rattle.nntp_article.specs.{Session.{Spool.{Name}, Machine.{is_same, is_article_number, active_fits}}, declared.session.profile.Profile.{Profile}}
-use Rattle.nntp_said.specs.{Asks.{Ask, Estimates, Bounds, ListsIn, Has, StandsAt, StepsUp, StepsDown}, declared.position.Position.TheVariants.{First}}
-use Rattle.nntp_said.specs.Facts.{Fact, ThereIs, Asks, IdAt, GroupsAre}
+use Rattle.nntp_said.specs.{Asks.{Ask, Estimates, Bounds, Has}, Facts.{Fact, ThereIs, Asks, IdAt, GroupsAre}}
 
 module _ (profile : Profile) (facts : List Fact) (how : Marks) (fitting : AllByRecursion (IsFitting profile) facts) (placed : AllByRecursion (Placed how facts) facts) where
   fits : (fact : Fact) → In fact facts → IsFitting profile fact
@@ -25,13 +23,7 @@ module _ (profile : Profile) (facts : List Fact) (how : Marks) (fitting : AllByR
 
   -- the marks of a listed group are within the limit
   line_within : (p : Option (List ℕ)) (line : ActiveValue) → IsTrue (active_fits profile p line) → line.high ≤ profile.limit
-  line_within p line f =
-      let zeros = line.low == 0 && line.high == 0 in
-      let low = nat_le 1 line.low && nat_le line.low (line.high + 1) in
-      elim (or_cases zeros (low && nat_le line.high profile.limit) (and_parts (zeros || (low && nat_le line.high profile.limit)) _ f).0) [
-        | inl z ↦ (let zero = eqb-true line.high 0 (and_parts (line.low == 0) _ z).1 in omega arith)
-        | inr r ↦ leb-true line.high profile.limit (and_parts low _ r).1
-      ]
+  line_within p line f = grind arith
 
   -- what is above the limit is denied
   above_denied : (name : Name) → IsTrue (is_shown_group facts name) → (n : ℕ) → profile.limit < n → is_denied (asks_of name facts) n ≡ true
@@ -55,14 +47,7 @@ module _ (profile : Profile) (facts : List Fact) (how : Marks) (fitting : AllByR
 
   -- a number that an ask shows is one
   num_of : (name : Name) (ask : Ask) (n : ℕ) → IsFitting profile (Asks name ask) → shows ask n ≡ true → IsTrue (is_article_number profile.limit n)
-  num_of name (ListsIn r ns) n h t = let f = found_in (λ m. n == m) ns t in subst
-      (λ n. IsTrue (is_article_number profile.limit n)) (sym (eqb-true n f.0 f.2))
-      (all_at (λ n. IsTrue (is_article_number profile.limit n)) f.0 ns h f.1)
-  num_of name (Has m) n h t = subst (λ n. IsTrue (is_article_number profile.limit n)) (eqb-true m n t) h
-  num_of name (StandsAt First m) n h t = subst (λ n. IsTrue (is_article_number profile.limit n)) (eqb-true m n t) h
-  num_of name (StepsUp at m) n h t = subst (λ n. IsTrue (is_article_number profile.limit n)) (eqb-true m n t) h
-  num_of name (StepsDown at m) n h t = subst (λ n. IsTrue (is_article_number profile.limit n)) (eqb-true m n t) h
-  num_of name ask n h t = cc
+  num_of name ask n h t = grind (arith, found_in, eqb-true, all_at)
 
   -- a number that is shown is one
   shown_num : (name : Name) (n : ℕ) → IsTrue (is_shown (asks_of name facts) n) → IsTrue (is_article_number profile.limit n)
@@ -87,12 +72,7 @@ module _ (profile : Profile) (facts : List Fact) (how : Marks) (fitting : AllByR
   -- a strict mark that isn't denied is one, where there is a number
   num_of_end : (name : Name) (ask : Ask) (n count : ℕ) → IsFitting profile (Asks name ask) → is_end ask n ≡ true
       → IsTrue (is_within (estimate_in ask) count) → 1 ≤ count → IsFalse (denies ask n) → (1 ≤ n) × (n ≤ profile.limit)
-  num_of_end name (Estimates Strict m) n count h t few some free =
-      let within : count ≤ m.estimate = leb-true count m.estimate few in
-      let low : 1 ≤ m.low = (elim (cases_eq m.low 0) [ inl z ↦ (let e = h.1 z in absurd (omega arith)) | inr ne ↦ omega arith ]) in
-      let most = h.0 in
-      (grind (arith, nat_tests), grind (arith, nat_tests))
-  num_of_end name ask n count h t few some free = cc
+  num_of_end name ask n count h t few some free = grind arith
 
   -- and so is one of all
   pub end_in_limit : (name : Name) (n count : ℕ) → IsTrue (list_any (λ ask. is_end ask n) (asks_of name facts))

@@ -1,10 +1,9 @@
 -- Answers one by one: what one more says, and what pairs say.
 use Rattle.nntp_wire.specs.{declared.marks.Marks.{Marks}, Answer.{Asked, Response}, Session.{prompts_of, Spelled}}
-use Rattle.std.proofs.Common.{◌≡◌, ℕ, ◌≤◌, ◌↔◌, false, IsTrue, List, [], ◌∷◌, ◌++◌, map, length, Some, sym, ap, subst, ◌∙◌, arith, append_assoc, append-nil}
+use Rattle.std.proofs.Common.{◌≡◌, ℕ, ◌≤◌, ◌↔◌, false, IsTrue, List, [], ◌∷◌, ◌++◌, map, length, Some, sym, ap, ◌∙◌, arith, append_assoc, append-nil}
 use Rattle.std.proofs.{Common.{length-append}, lemmas.List.{length-map}}
 use Rattle.nntp_article.specs.{Session.{Spool.{Spool}, Machine.{Visible, Run, start, fits, visible_after}}, declared.session.profile.Profile.{Profile}}
-use Rattle.nntp_said.specs.{Asks.{position_after}, declared.position.Position.{Position, TheVariants.{Nowhere}}, Facts.{facts_of, facts_from}}
-use Rattle.nntp_said.specs.Inner.Facts.{FitsAll}
+use Rattle.nntp_said.specs.{Asks.{position_after}, declared.position.Position.{Position}, Facts.{facts_of, facts_from}, Inner.Facts.{FitsAll}}
 use Rattle.nntp_theory.specs.{Given.{facts_of_session}, Inner.{Given.{size}, Permits.{SomePermits}}, Classes.{visible_from, position_from, asked_next}}
 use Rattle.nntp_theory.proofs.{Ids.SizeOfASession.{session_size}, Streams.ExplainedOrBad.{light}, Session.LaterPrompts.{run_shorter, run_longer, facts_longer}}
 use Rattle.nntp_pair.{specs.Pairing.{Paired, Unpaired, AreNext, responses_of, asked_of, asked_at, streams}, proofs.SpelledLemmas.{places-prompts}}
@@ -23,40 +22,28 @@ facts_grow how v at [] answers asked response e = cc
 facts_grow how v at (p ∷ []) [] asked response e = append-nil (facts_of how v at p response) ∙ ap (λ p. facts_of how v at p response) (asked_first p asked e)
 facts_grow how v at (p ∷ (q ∷ ps)) [] asked response e = append-nil (facts_of how v at p response) ∙ ap (λ p. facts_of how v at p response) (asked_first p asked e)
 facts_grow how v at (p ∷ ps) (a ∷ more) asked response e =
-    let here = facts_of how v at p a in
     let w = visible_after v p a in
     let to = position_after at p a in
-    ap (λ rest. here ++ rest) (facts_grow how w to ps more asked response e)
-    ∙ sym (append_assoc here (facts_from how w to ps more)
-    (facts_of how (visible_from w ps more) (position_from to ps more) asked response))
+    grind (arith, append_assoc, facts_grow how w to ps more asked response e)
 
 -- what it leaves visible
 pub visible_grows : (v : Visible) (ps : List Asked) (answers : List Response) (asked : Asked) (response : Response) → asked_next ps answers ≡ Some asked
     → visible_from v ps (answers ++ response ∷ []) ≡ visible_after (visible_from v ps answers) asked response
-visible_grows v [] answers asked response e = cc
-visible_grows v (p ∷ ps) [] asked response e = ap (λ p. visible_after v p response) (asked_first p asked e)
 visible_grows v (p ∷ ps) (a ∷ more) asked response e = visible_grows (visible_after v p a) ps more asked response e
+visible_grows v ps answers asked response e = cc
 
 -- and where it leaves the session
 pub position_grows : (at : Position) (ps : List Asked) (answers : List Response) (asked : Asked) (response : Response) → asked_next ps answers ≡ Some asked
     → position_from at ps (answers ++ response ∷ []) ≡ position_after (position_from at ps answers) asked response
-position_grows at [] answers asked response e = cc
-position_grows at (p ∷ ps) [] asked response e = ap (λ p. position_after at p response) (asked_first p asked e)
 position_grows at (p ∷ ps) (a ∷ more) asked response e = position_grows (position_after at p a) ps more asked response e
+position_grows at ps answers asked response e = cc
 
 -- it fits what those before leave
 pub fitting_grows : (profile : Profile) (v : Visible) (ps : List Asked) (answers : List Response) (asked : Asked) (response : Response) → asked_next ps answers ≡ Some asked
     → FitsAll profile v ps (answers ++ response ∷ []) ↔ (FitsAll profile v ps answers × ((visible_from v ps answers).closed ≡ false) × IsTrue (fits profile (visible_from v ps answers) asked response))
 fitting_grows profile v [] answers asked response e = cc
-fitting_grows profile v (p ∷ ps) [] asked response e = (
-  λ h. (tt, h.0, subst (λ p. IsTrue (fits profile v p response)) (asked_first p asked e) h.1),
-  λ h. (h.1, subst (λ p. IsTrue (fits profile v p response)) (sym (asked_first p asked e)) h.2, tt),
-)
-fitting_grows profile v (p ∷ ps) (a ∷ more) asked response e =
-    let rest = fitting_grows profile (visible_after v p a) ps more asked response e in (
-      λ h. (let r = rest.0 h.2 in ((h.0, h.1, r.0), r.1, r.2)),
-      λ h. (h.0.0, h.0.1, rest.1 (h.0.2, h.1, h.2)),
-    )
+fitting_grows profile v (p ∷ ps) [] asked response e = grind arith
+fitting_grows profile v (p ∷ ps) (a ∷ more) asked response e = grind (arith, fitting_grows profile (visible_after v p a) ps more asked response e)
 
 -- ---- pairs
 
@@ -77,10 +64,7 @@ as_few pairs = omega (arith, length-map pairs (λ pair. pair.response), length-m
 -- to permit the responses asks for these prompts alone
 pub pairs_run : (profile : Profile) (S : Spool) (client server : List ℕ) (pairs : List Paired) (left : Unpaired) → AreNext (streams client server) pairs left
     → Run profile S start (prompts_of client) (responses_of pairs) ↔ Run profile S start (asked_of pairs) (responses_of pairs)
-pairs_run profile S client server pairs left paired =
-    let more = prompts_of_pairs client server pairs left paired in
-    subst (λ ps. Run profile S start ps (responses_of pairs) ↔ Run profile S start (asked_of pairs) (responses_of pairs)) (sym more.1)
-    (run_shorter profile S start (asked_of pairs) more.0 (responses_of pairs) (as_few pairs), run_longer profile S start (asked_of pairs) more.0 (responses_of pairs))
+pairs_run profile S client server pairs left paired = grind (arith, prompts_of_pairs, run_shorter, as_few, run_longer)
 
 -- of some spool, too
 pub pairs_permitted : (profile : Profile) (client server : List ℕ) (pairs : List Paired) (left : Unpaired) → AreNext (streams client server) pairs left
@@ -93,9 +77,7 @@ pairs_permitted profile client server pairs left paired = (
 -- and what they say is said by these alone
 pub facts_by_pairs : (how : Marks) (client server : List ℕ) (pairs : List Paired) (left : Unpaired) → AreNext (streams client server) pairs left
     → facts_of_session how (prompts_of client) (responses_of pairs) ≡ facts_of_session how (asked_of pairs) (responses_of pairs)
-facts_by_pairs how client server pairs left paired =
-    let more = prompts_of_pairs client server pairs left paired in
-    ap (λ ps. facts_of_session how ps (responses_of pairs)) more.1 ∙ facts_longer how start.visible Nowhere (asked_of pairs) more.0 (responses_of pairs) (as_few pairs)
+facts_by_pairs how client server pairs left paired = grind (arith, prompts_of_pairs, facts_longer, as_few)
 
 -- ---- octets
 
@@ -111,6 +93,4 @@ size_by_pairs how client server pairs left paired =
     let spelled = (pairs-spelled client server pairs left paired).0 in
     let same = facts_by_pairs how client server pairs left paired in
     let most = size_by_octets how (prompts_of client) (responses_of pairs) spelled.0 spelled.1 in
-    let whole = ap length spelled.2 ∙ length-append spelled.0 left.server in
-    let equal = ap size same in
-    omega arith
+    grind (arith, length-append)

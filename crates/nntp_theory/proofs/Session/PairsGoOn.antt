@@ -1,7 +1,7 @@
 -- One pair more behind those of a session: what it asks and answers, says and leaves, and when it is permitted.
 use Rattle.nntp_wire.specs.{declared.marks.Marks.{Marks}, Answer.{Asked, Response}}
-use Rattle.std.proofs.Common.{◌≡◌, ◌+◌, ◌<◌, ◌≤◌, ◌^◌, ◌↔◌, false, IsTrue, List, [], ◌∷◌, ◌++◌, length, sym, ap, ap₂, subst, ◌∙◌, arith}
-use Rattle.std.proofs.lemmas.List.{length-map, map-append}
+use Rattle.std.proofs.{Common.{◌≡◌, ◌<◌, ◌≤◌, ◌^◌, ◌↔◌, false, IsTrue, List, [], ◌∷◌, ◌++◌, length, sym, ap, ap₂, ◌∙◌, arith}, lemmas.List.{length-map}}
+use Rattle.std.proofs.lemmas.List.{map-append}
 use Rattle.nntp_article.specs.{Session.{Spool.{Spool}, Machine.{Visible, Run, start, fits, visible_after}}, declared.session.profile.Profile.{Profile}}
 use Rattle.nntp_pair.specs.Pairing.{Paired, asked_at, asked_of, responses_of}
 use Rattle.nntp_said.specs.{Asks.{position_after}, declared.position.Position.{Position, TheVariants.{Nowhere}}, Facts.{Fact, facts_of}}
@@ -35,13 +35,7 @@ permitted_next profile earlier ps answers asked response e small h =
     let own = run_longer profile h.0 start ps (asked ∷ []) answers (all_back (Runs profile h.0) earlier (of_these ps answers ∷ []) h.2).0 in
     let g : SomePermitsEach profile (earlier ++ of_these qs answers ∷ []) = (h.0, h.1, all_both (Runs profile h.0) earlier (of_these qs answers ∷ []) front (own, tt)) in
     let more = permitted_more_behind profile earlier qs answers asked response (next_behind ps [] asked answers e) small g in
-    let v = visible_longer start.visible ps (asked ∷ []) answers le in
-    let at = position_longer Nowhere ps (asked ∷ []) answers le in
-    let facts = ap (λ own. facts_of_all profile.marks earlier ++ own) (facts_longer profile.marks start.visible Nowhere ps (asked ∷ []) answers le) in
-    let After : Type 0 = SomePermitsEach profile (earlier ++ of_these qs (answers ++ response ∷ []) ∷ []) in
-    subst (λ facts. After ↔ MayFollow profile (visible_from start.visible ps answers) (position_from Nowhere ps answers) facts asked response) facts
-    (subst (λ at. After ↔ MayFollow profile (visible_from start.visible ps answers) at (facts_of_all profile.marks earlier ++ facts_of_session profile.marks qs answers) asked response) at
-    (subst (λ v. After ↔ MayFollow profile v (position_from Nowhere qs answers) (facts_of_all profile.marks earlier ++ facts_of_session profile.marks qs answers) asked response) v more))
+    grind (arith, visible_longer, position_longer, facts_longer)
 
 -- what is said then
 pub facts_next : (how : Marks) (ps : List Asked) (answers : List Response) (asked : Asked) (response : Response) → length ps ≡ length answers

@@ -79,8 +79,7 @@ first_spelled : (ps : List Asked) (answers : List Response) (sp : List ℕ) (n :
 first_spelled ps [] sp zero s le = ([], sp, refl, refl, λ l. absurd (omega arith))
 first_spelled ps [] sp (suc n) s le = absurd (omega arith)
 first_spelled [] (a ∷ answers) sp n s le = absurd s
-first_spelled (p ∷ ps) (a ∷ answers) sp zero (b, tail, s, ss, whole) le =
-    ([], sp, refl, refl, λ l. let long = lines-few p a b s in let m = ap length whole ∙ length-append b tail in omega arith)
+first_spelled (p ∷ ps) (a ∷ answers) sp zero (b, tail, s, ss, whole) le = grind arith
 first_spelled (p ∷ ps) (a ∷ answers) sp (suc n) (b, tail, s, ss, whole) le =
     let r = first_spelled ps answers tail n ss (omega arith) in
     (b ++ r.0, r.1, (b, r.0, s, r.2, refl), whole ∙ ap (λ t. b ++ t) r.3 ∙ sym (append_assoc b r.0 r.1), λ l. r.4 (omega arith))
@@ -92,27 +91,15 @@ light [] (a ∷ answers) sp s = absurd s
 light (p ∷ ps) (a ∷ answers) sp (b, tail, s, ss, whole) =
     let rest = light ps answers tail ss in
     let long = lines-few p a b s in
-    let m = ap length whole ∙ length-append b tail in
-    omega arith
+    grind (arith, length-append)
 
 -- who explains m answers explains fewer
 pub first_explained : (profile : Profile) (S : Spool) (client server : List ℕ) (n m : ℕ) (rest : List ℕ) → n ≤ m
     → ExplainsUpTo profile S client server m rest → (left : List ℕ) × ExplainsUpTo profile S client server n left
 first_explained profile S client server n m rest le x =
-    let count = x.count in
     let f = first_spelled (prompts_of client) x.answers x.octets n x.spelled (omega arith) in
-    let run = subst (λ all. Run profile S start (prompts_of client) all) (sym (take-length x.answers)) x.run in (
-      f.1 ++ rest,
-      record {
-        is_spool = x.is_spool;
-        answers = take n x.answers;
-        octets = f.0;
-        count = omega (arith, length-take n x.answers);
-        run = run_fewer profile S start (prompts_of client) x.answers n (length x.answers) (omega arith) run;
-        spelled = f.2;
-        whole = x.whole ∙ ap (λ o. o ++ rest) f.3 ∙ append_assoc f.0 f.1 rest;
-      },
-    )
+    let run = subst (λ all. Run profile S start (prompts_of client) all) (sym (take-length x.answers)) x.run in
+    grind (arith, length-take, run_fewer, append_assoc)
 
 -- ---- of the spools with P
 
@@ -170,9 +157,8 @@ module _ (P : Spool → Type 0) (profile : Profile) (client server : List ℕ) w
   -- whoever explains answer k permits the first of them
   explained_permits : (T : Spool) (k : ℕ) → k < length r.answers → (y : ExplainsFirst profile T client server k) → Run profile T start (prompts_of client) (take (k + 1) r.answers)
   explained_permits T k within y =
-      let n = y.1.count in
       let f = (same_front (prompts_of client) y.1.answers r.answers y.1.octets r.spelled y.0 r.rest y.1.spelled r.is (sym y.1.whole ∙ r.whole) (omega arith)).0 in
-      subst (λ a. Run profile T start (prompts_of client) a) (f ∙ ap (λ n. take n r.answers) n) y.1.run
+      grind arith
 
   -- one that permits all of them explains both streams, or the answer behind them is bad
   at_the_end : SomeRuns r.answers → ((S : Spool) × (n : ℕ) × P S × Explains profile S client server n) ⊎ ((k : ℕ) × BadAmong P profile client server k)

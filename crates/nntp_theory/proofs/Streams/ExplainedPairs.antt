@@ -1,15 +1,14 @@
 -- An explanation of two streams, and their pairing.
-use Rattle.std.proofs.Common.{◌≡◌, ℕ, List, []}
+use Rattle.std.proofs.Common.{◌≡◌, ℕ, List, [], arith}
 use Rattle.nntp_wire.specs.{Session.{prompts_of}, Inner.Session.{AreSpelled, StaysOpen}}
 use Rattle.nntp_pair.{specs.{Pairing.{Paired, Ending, end, IsPairing, responses_of, streams}, Inner.Pairing.{HasPairs}}, proofs.SpelledLemmas.{spelled-pairs}}
 use Rattle.nntp_pair.proofs.SpelledLemmas.{spelled-whole}
-use Rattle.nntp_article.specs.{Session.{Spool.{Spool}, Machine.{start}, Explains.{ExplainsUpTo, Explains}}, declared.session.profile.Profile.{Profile}}
+use Rattle.nntp_article.specs.{Session.{Spool.{Spool}, Explains.{ExplainsUpTo, Explains}}, declared.session.profile.Profile.{Profile}}
 use Rattle.nntp_article.proofs.SessionLemmas.ClosingAnswers.{run-stays-open}
 
 answers_spelled : (profile : Profile) (S : Spool) (client server : List ℕ) (n : ℕ) (rest : List ℕ) (explained : ExplainsUpTo profile S client server n rest)
     → AreSpelled (prompts_of client) explained.answers server rest × StaysOpen (prompts_of client) explained.answers
-answers_spelled profile S client server n rest explained =
-    ((explained.octets, explained.spelled, explained.whole), run-stays-open profile S start (prompts_of client) explained.answers explained.run)
+answers_spelled profile S client server n rest explained = grind (arith, run-stays-open)
 
 -- an explanation of the first answers is by the first pairs
 pub by_pairs : (profile : Profile) (S : Spool) (client server : List ℕ) (n : ℕ) (rest : List ℕ) (explained : ExplainsUpTo profile S client server n rest)

@@ -19,27 +19,22 @@ pub run_open : (profile : Profile) (S : Spool) (s : State) (ps : List Asked) (an
 run_open profile S s [] [] a r = absurd r
 run_open profile S s (p ∷ ps) [] a (new, permits, rest) = permits.may.is_open
 run_open profile S s [] (x ∷ answers) a r = absurd r
-run_open profile S s (p ∷ ps) (x ∷ answers) a (new, permits, rest) =
-    ap (λ t. (visible_from t ps answers).closed) (sym (ap (λ t. t.visible) permits.leads)) ∙ run_open profile S new ps answers a rest
+run_open profile S s (p ∷ ps) (x ∷ answers) a (new, permits, rest) = grind (arith, run_open profile S new ps answers a rest)
 
 -- and fits the visible state
 pub run_fits : (profile : Profile) (S : Spool) (s : State) (ps : List Asked) (answers : List Response) (asked : Asked)
     (a : Response) → asked_next ps answers ≡ Some asked → Run profile S s ps (answers ++ a ∷ [])
     → IsTrue (fits profile (visible_from s.visible ps answers) asked a)
-run_fits profile S s [] answers asked a e r = cc
-run_fits profile S s (p ∷ ps) [] asked a e (new, permits, rest) = let same : p ≡ asked = cc in subst (λ p. IsTrue (fits profile s.visible p a)) same permits.may.fits_visible
 run_fits profile S s (p ∷ ps) (x ∷ answers) asked a e (new, permits, rest) =
     subst (λ t. IsTrue (fits profile (visible_from t ps answers) asked a)) (ap (λ t. t.visible) permits.leads) (run_fits profile S new ps answers asked a e rest)
+run_fits profile S s ps answers asked a e r = cc
 
 spelled_snoc : (ps : List Asked) (answers : List Response) (octets b : List ℕ) (asked : Asked) (a : Response)
     → Spelled ps answers octets → asked_next ps answers ≡ Some asked → Spells asked a b
     → Spelled ps (answers ++ a ∷ []) (octets ++ b)
-spelled_snoc [] answers octets b asked a s e t = cc
-spelled_snoc (p ∷ ps) [] octets b asked a s e t =
-    let same : p ≡ asked = cc in
-    (b, [], subst (λ p. Spells p a b) (sym same) t, refl, ap (λ t. t ++ b) s ∙ sym (append-nil b))
 spelled_snoc (p ∷ ps) (x ∷ answers) octets b asked a (c, rest, s, tail, whole) e t =
     (c, rest ++ b, s, spelled_snoc ps answers rest b asked a tail e t, ap (λ o. o ++ b) whole ∙ append_assoc c rest b)
+spelled_snoc ps answers octets b asked a s e t = grind (arith, append-nil)
 
 -- of a reading that is one answer longer, the answers before are the same
 pub record OneMore (ps : List Asked) (answers others : List Response) (rest more : List ℕ) : Type 0 where
@@ -56,16 +51,7 @@ pub one_more : (ps : List Asked) (answers others : List Response) (sp tp rest mo
     → OneMore ps answers others rest more
 one_more ps answers [] sp tp rest more s t e count = absurd (omega arith)
 one_more [] answers (y ∷ others) sp tp rest more s t e count = absurd t
-one_more (p ∷ ps) [] (y ∷ []) sp tp rest more s (b, tail, t, nothing, whole) e count =
-    record {
-      asked = p;
-      response = y;
-      front = b;
-      next = refl;
-      spells = t;
-      is = refl;
-      whole = ap (λ sp. sp ++ rest) (sym s) ∙ e ∙ ap (λ tp. tp ++ more) (whole ∙ ap (λ t. b ++ t) nothing ∙ append-nil b);
-    }
+one_more (p ∷ ps) [] (y ∷ []) sp tp rest more s (b, tail, t, nothing, whole) e count = grind (arith, append-nil)
 one_more (p ∷ ps) [] (y ∷ z ∷ others) sp tp rest more s t e count = absurd (omega arith)
 one_more (p ∷ ps) (x ∷ answers) (y ∷ others) sp tp rest more (b, tail, s, ss, whole) (d, tail', t, ts, whole') e count =
     let split : b ++ (tail ++ rest) ≡ d ++ (tail' ++ more) = sym (append_assoc b tail rest) ∙ ap (λ sp. sp ++ rest) (sym whole) ∙ e ∙ ap (λ tp. tp ++ more) whole' ∙ append_assoc d tail' more in
@@ -90,10 +76,7 @@ as_many (p ∷ ps) (x ∷ answers) (y ∷ others) sp tp rest more (b, tail, s, s
 
 -- so two streams begin with k answers in one way
 pub one_before : (client server : List ℕ) (k : ℕ) (b c : AnswersFirst client server k) → (b.answers ≡ c.answers) × (b.rest ≡ c.rest)
-one_before client server k b c =
-    let x = b.count in
-    let y = c.count in
-    as_many (prompts_of client) b.answers c.answers b.octets c.octets b.rest c.rest b.spelled c.spelled (sym b.whole ∙ c.whole) (omega arith)
+one_before client server k b c = grind (arith, as_many)
 
 -- and are closed there, or not
 pub closed_before : (client server : List ℕ) (k : ℕ) (b c : AnswersFirst client server k) → (left_visible client server k b).closed ≡ (left_visible client server k c).closed
@@ -121,34 +104,13 @@ one_fitting profile v asked octets a c =
     true≢false (sym a.fitting ∙ ap (fits profile v asked) same.0 ∙ c.fitting)
 
 open_once : (profile : Profile) (v : Visible) (asked : Asked) (octets : List ℕ) (c d : Class) → IsOpenClass profile v asked octets c → IsOpenClass profile v asked octets d → c ≡ d
-open_once profile v asked octets Cut Cut h k = refl
-open_once profile v asked octets Malformed Malformed h k = refl
-open_once profile v asked octets OutOfPlace OutOfPlace h k = refl
-open_once profile v asked octets Contradiction Contradiction h k = refl
-open_once profile v asked octets Cut Malformed h k = absurd (h k.initial k.block k.rest k.frame)
-open_once profile v asked octets Malformed Cut h k = absurd (k h.initial h.block h.rest h.frame)
-open_once profile v asked octets Cut OutOfPlace h k = absurd (not_cut profile v asked octets false h k)
-open_once profile v asked octets OutOfPlace Cut h k = absurd (not_cut profile v asked octets false k h)
-open_once profile v asked octets Cut Contradiction h k = absurd (not_cut profile v asked octets true h k)
-open_once profile v asked octets Contradiction Cut h k = absurd (not_cut profile v asked octets true k h)
-open_once profile v asked octets Malformed OutOfPlace h k = absurd (not_malformed profile v asked octets false h k)
-open_once profile v asked octets OutOfPlace Malformed h k = absurd (not_malformed profile v asked octets false k h)
-open_once profile v asked octets Malformed Contradiction h k = absurd (not_malformed profile v asked octets true h k)
-open_once profile v asked octets Contradiction Malformed h k = absurd (not_malformed profile v asked octets true k h)
-open_once profile v asked octets OutOfPlace Contradiction h k = absurd (one_fitting profile v asked octets k h)
-open_once profile v asked octets Contradiction OutOfPlace h k = absurd (one_fitting profile v asked octets h k)
-open_once profile v asked octets Surplus d h k = absurd h
-open_once profile v asked octets c Surplus h k = absurd k
+open_once profile v asked octets c d h k = search (arith, not_cut, not_malformed, one_fitting)
 
 class_once : (closed : Bool) (profile : Profile) (v : Visible) (next : Option Asked) (octets : List ℕ) (c d : Class)
     → IsClass closed profile v next octets c → IsClass closed profile v next octets d → c ≡ d
-class_once true profile v next octets c d h k = h ∙ sym k
-class_once false profile v None octets c d h k = h ∙ sym k
-class_once false profile v (Some asked) octets c d h k = open_once profile v asked octets c d h k
+class_once closed profile v next octets c d h k = grind (arith, open_once)
 
 some_class : (closed : Bool) (profile : Profile) (v : Visible) (next : Option Asked) (octets : List ℕ) → (class : Class) × IsClass closed profile v next octets class
-some_class true profile v next octets = (Surplus, refl)
-some_class false profile v None octets = (Surplus, refl)
 some_class false profile v (Some asked) octets = elim (dec_spelling asked octets) [
   | inl (r, b, rest, s, e) ↦ elim (cases_Bool (fits profile v asked r)) [
     | inl t ↦ (Contradiction, record { response = r; front = b; rest = rest; spells = s; whole = e; fitting = t })
@@ -159,6 +121,7 @@ some_class false profile v (Some asked) octets = elim (dec_spelling asked octets
     | inr no_frame ↦ (Cut, λ line block rest f. no_frame (line, block, rest, f))
   ]
 ]
+some_class closed profile v next octets = grind arith
 
 -- octets behind answers have a class
 pub class_there : (profile : Profile) (client server : List ℕ) (k : ℕ) → AnswersFirst client server k → (class : Class) × HasClass profile client server k class
@@ -171,14 +134,11 @@ class_there profile client server k before =
 pub one_class : (profile : Profile) (client server : List ℕ) (k : ℕ) (c d : Class) → HasClass profile client server k c → HasClass profile client server k d → c ≡ d
 one_class profile client server k c d h g =
     let both = one_before client server k h.before g.before in
-    let v : List Response → Visible = λ answers. visible_from start.visible (prompts_of client) answers in
-    class_once (v g.before.answers).closed profile (v g.before.answers) (asked_next (prompts_of client) g.before.answers) g.before.rest c d
-    (subst (λ (x : List Response × List ℕ). IsClass (v x.0).closed profile (v x.0) (asked_next (prompts_of client) x.0) x.1 c) (λ i. (both.0 i, both.1 i)) h.is_class) g.is_class
+    grind (arith, class_once)
 
 -- the answers before a bad one
 pub before_bad : (P : Spool → Type 0) (profile : Profile) (client server : List ℕ) (k : ℕ) → BadAmong P profile client server k → AnswersFirst client server k
-before_bad P profile client server k ((S, rest, p, x, some), none) =
-    record { answers = x.answers; octets = x.octets; rest = rest; count = x.count; spelled = x.spelled; whole = x.whole }
+before_bad P profile client server k ((S, rest, p, x, some), none) = grind arith
 
 -- ---- octets that follow
 
@@ -197,8 +157,7 @@ before_longer client server more_client more_server k b =
 
 -- the answer at the front of the octets is the one that they begin with
 answer_longer : (profile : Profile) (v : Visible) (asked : Asked) (octets more : List ℕ) (b : Bool) → BeginsWithAnswer profile v asked octets b → BeginsWithAnswer profile v asked (octets ++ more) b
-answer_longer profile v asked octets more b a =
-    record { response = a.response; front = a.front; rest = a.rest ++ more; spells = a.spells; whole = ap (λ o. o ++ more) a.whole ∙ append_assoc a.front a.rest more; fitting = a.fitting }
+answer_longer profile v asked octets more b a = grind (arith, append_assoc)
 
 malformed_longer : (asked : Asked) (octets more : List ℕ) → IsMalformed asked octets → IsMalformed asked (octets ++ more)
 malformed_longer asked octets more m =
@@ -249,8 +208,7 @@ closed_longer client server more_client more_server k c =
 
 -- and a settled class stays settled
 pub settled_stays : (client server more_client more_server : List ℕ) (k : ℕ) (class : Class) → IsSettled client server k class → IsSettled (client ++ more_client) (server ++ more_server) k class
-settled_stays client server more_client more_server k Surplus s = closed_longer client server more_client more_server k s
-settled_stays client server more_client more_server k class s = s
+settled_stays client server more_client more_server k class s = grind (arith, closed_longer)
 
 -- below, answer k is bad, of a settled class
 module _ (profile : Profile) (client server more_client more_server : List ℕ) (k : ℕ) (class : Class) (h : HasClass profile client server k class) (s : IsSettled client server k class) where

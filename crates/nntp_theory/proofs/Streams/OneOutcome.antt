@@ -30,8 +30,7 @@ few_facts : (profile : Profile) (S : Spool) (client server : List ℕ) (n : ℕ)
     → length server < 2 ^ 210 → size (facts_of_session profile.marks (prompts_of client) x.answers) < 2 ^ 210
 few_facts profile S client server n x small =
     let most = size_by_octets profile.marks (prompts_of client) x.answers x.octets x.spelled in
-    let whole = ap length x.whole ∙ length-append x.octets [] in
-    omega arith
+    grind (arith, length-append)
 
 -- where some spool explains two streams, the given one is their least explanation
 pub given_explains : (profile : Profile) (S G : Spool) (client server : List ℕ) (n : ℕ) (x : Explains profile S client server n)
@@ -52,11 +51,7 @@ given_explains profile S G client server n x small given =
 pub one_outcome : (profile : Profile) (client server : List ℕ) (h k : Outcome) → IsOutcome profile client server h → IsOutcome profile client server k → h ≡ k
 one_outcome profile client server (Yes S n) (Yes T m) x y =
     let answers = same_answers profile S T client server n m x.explains y.explains in
-    let count : n ≡ m = sym x.explains.count ∙ ap length answers ∙ y.explains.count in
-    let spool : S ≡ T =
-    given_once (facts_of_session profile.marks (prompts_of client) y.explains.answers) S T
-    (subst (λ answers. IsGiven (facts_of_session profile.marks (prompts_of client) answers) S) answers x.given) y.given in
-    λ i. Yes (spool i) (count i)
+    grind (arith, given_once)
 one_outcome profile client server (Yes S n) (No k class) x y = absurd (explained_not_bad profile S client server n k x.explains y.0)
 one_outcome profile client server (No k class) (Yes S n) x y = absurd (explained_not_bad profile S client server n k y.explains x.0)
 one_outcome profile client server (No k c) (No j d) x y =

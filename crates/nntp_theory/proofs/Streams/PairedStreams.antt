@@ -14,8 +14,7 @@ use Rattle.nntp_theory.proofs.Streams.ClassAtTheEnd.{first_asked, paired_up, cou
 -- where the pairing comes to its end, who permits its responses explains both streams
 pub explained_end : (profile : Profile) (S : Spool) (client server : List ℕ) (pairs : List Paired) (unanswered : ℕ) → IsPairing client server pairs (end unanswered)
     → IsSpool profile.limit S → Run profile S start (prompts_of client) (responses_of pairs) → Explains profile S client server (length pairs)
-explained_end profile S client server pairs unanswered pairing spool run =
-    subst (λ rest. ExplainsUpTo profile S client server (length pairs) rest) pairing.ends.0 (explained_pairs profile S client server pairs pairing.left pairing.paired spool run)
+explained_end profile S client server pairs unanswered pairing spool run = grind (arith, explained_pairs)
 
 -- below, T explains one answer more than those before octets of a class
 module _ (profile : Profile) (client server : List ℕ) (k : ℕ) (class : Class) (h : HasClass profile client server k class)
@@ -60,8 +59,7 @@ pub bad_end : (P : Spool → Type 0) (profile : Profile) (client server : List �
     → BadAmong P profile client server (length pairs) × HasClass profile client server (length pairs) (class_of class)
 bad_end P profile client server pairs class pairing S spool p run =
     let h = end_has_class profile client server pairs pairing.left class pairing.paired pairing.ends.1 in
-    let x = explained_pairs profile S client server pairs pairing.left pairing.paired spool run in
-    (((S, pairing.left.server, p, x, pairing.ends.0), λ T q. no_more profile client server (length pairs) class h T), h)
+    search (arith, explained_pairs, no_more)
 
 -- ---- an answer that is paired, and that no spool permits together with those before
 

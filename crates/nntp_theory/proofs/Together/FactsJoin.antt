@@ -1,14 +1,11 @@
 -- More facts behind those that stand together.
-use Rattle.nntp_wire.specs.{declared.marks.Marks.{Marks}, Decided.{matches_name}, Listing.{active_groups}, Answer.{Asked, Response}}
-use Rattle.std.proofs.{Common.{◌≡◌, ◌↔◌, true, not, IsTrue, List, [], ◌∷◌, ◌++◌, Option, None, Some, refl, sym, subst, ◌∙◌}, lemmas.Bool.{true≢false}}
-use Rattle.std.{proofs.{lemmas.{Bool.{and_parts, false_from_ne_true, not-true}, Grind.{flat_map-append}}, Math.Bool.{or-false}}, specs.Prelude.{IfSome}}
-use Rattle.std.specs.{Prelude.{IsFalse}, List.{list_any}, Option.{option_map_or, option_or}}
-use Rattle.nntp_article.specs.{Article.Parts.{Id}, Session.{Spool.{Name}, Machine.{Visible, is_same}}, declared.session.profile.Profile.{Profile}}
-use Rattle.nntp_said.{specs.{Asks.{Ask}, declared.position.Position.{Position}, Facts.{Fact, ThereIs, Asks, GroupsAre, facts_of}}, proofs.Rows.{Row, row}}
-use Rattle.nntp_said.proofs.Rows.{nothing, no_group, no_article, active}
-use Rattle.nntp_theory.specs.{Given.{asks_in, asks_of, is_shown_group, shows_group, id_in, head_in, body_in}, Inner.Together.{IsWellFormed, AsksStand}}
-use Rattle.nntp_theory.specs.{Inner.Together.{Together, AgreeWithin, Join}, Together.{denies_group, number_in, shows_article, denies_article}}
-use Rattle.nntp_theory.proofs.{Members.{all_both, all_back}, Together.TwoListsOfFacts.{apart_both, apart_shown, apart_denied, give_one_both, give_same_of_both}}
+use Rattle.nntp_wire.specs.{declared.marks.Marks.{Marks}, Answer.{Asked, Response}}
+use Rattle.std.proofs.{Common.{◌≡◌, ◌↔◌, List, [], ◌∷◌, ◌++◌, sym, subst, arith}, lemmas.Grind.{flat_map-append}}
+use Rattle.nntp_article.specs.{Session.{Spool.{Name}, Machine.{Visible}}, declared.session.profile.Profile.{Profile}}
+use Rattle.nntp_said.{specs.{Asks.{Ask}, declared.position.Position.{Position}, Facts.{Fact, ThereIs, Asks, facts_of}}, proofs.Rows.{Row, row}}
+use Rattle.nntp_theory.specs.{Given.{asks_in, asks_of, shows_group, id_in, head_in, body_in}, Inner.Together.{IsWellFormed, AsksStand, Together, AgreeWithin}}
+use Rattle.nntp_theory.{specs.{Inner.Together.{Join}, Together.{denies_group, number_in, shows_article, denies_article}}, proofs.Members.{all_both, all_back}}
+use Rattle.nntp_theory.proofs.Together.TwoListsOfFacts.{apart_both, apart_shown, apart_denied, give_one_both, give_same_of_both}
 
 -- what both ask of a group
 pub asks_append : (name : Name) (facts more : List Fact) → asks_of name (facts ++ more) ≡ asks_of name facts ++ asks_of name more
@@ -51,39 +48,10 @@ together_more facts more t w = (
 
 -- ---- what an answer says agrees with itself
 
--- what one fact gives is one
-one : {A : Type 0} (o : Option A) → IfSome o (λ x. option_or o None ≡ Some x)
-one None = tt
-one (Some x) = refl
-
 module _ {profile : Profile} {v : Visible} {at : Position} {Fits : Type 0} where
-  -- a row denies no group that it shows: a list of groups none that it has
-  groups_apart : {a : Response} {facts : List Fact} → Row profile v at Fits a facts → (name : Name) → IsTrue (is_shown_group facts name) → IsFalse (list_any (denies_group name) facts)
-  groups_apart (no_group code name) g s = absurd (true≢false (sym s))
-  groups_apart (active p lines known) g s =
-      let groups = active_groups lines in
-      false_from_ne_true _ (λ d.
-      let there = sym (or-false (list_any (λ line. is_same line.name g) groups)) ∙ s in
-      let denied = sym (or-false (denies_group g (GroupsAre p groups))) ∙ d in
-      true≢false (sym there ∙ not-true _ (and_parts (option_map_or (λ w. matches_name w g) p true) (not (list_any (λ line. is_same line.name g) groups)) denied).1))
-  groups_apart r g s = refl
-
-  -- and no article
-  articles_apart : {a : Response} {facts : List Fact} → Row profile v at Fits a facts → (id : Id) → IsTrue (list_any (shows_article id) facts) → IsFalse (list_any (denies_article id) facts)
-  articles_apart (no_article code id) i s = absurd (true≢false (sym s))
-  articles_apart r i s = refl
-
   -- so it agrees with itself: of all else it says one thing at most
   row_agrees : {a : Response} {facts : List Fact} → Row profile v at Fits a facts → AgreeWithin facts
-  row_agrees (nothing a) = assumption
-  row_agrees r = record {
-    groups = groups_apart r;
-    ids = λ g n. search (one);
-    ids_once = λ g id. search (one);
-    articles = articles_apart r;
-    heads = λ id. search (one);
-    bodies = λ id. search (one);
-  }
+  row_agrees r = grind arith
 
 -- so does an answer
 pub answer_agrees : (how : Marks) (v : Visible) (at : Position) (asked : Asked) (response : Response) → AgreeWithin (facts_of how v at asked response)

@@ -1,7 +1,7 @@
 -- What holds of a spool stands together.
 use Rattle.std.proofs.Common.{◌≡◌, ℕ, ◌↔◌, Bool, true, false, cond, ◌&&◌, ◌==◌, IsTrue, List, [], ◌∷◌, ◌++◌, map, Option, None, Some, is_some, IsSome}
-use Rattle.std.proofs.{Common.{option_map, refl, sym, ap, subst, ◌∙◌}, lemmas.Bool.{true≢false, and_parts, eqb-true, false_from_ne_true, not-true}}
-use Rattle.std.{proofs.lemmas.List.Elements.{recursion_from_All}, specs.{Prelude.{IfSome, not}, List.{AllByRecursion, list_any}, Option.{option_map_or}}}
+use Rattle.std.proofs.{Common.{option_map, refl, sym, ap, subst, ◌∙◌, arith}, lemmas.Bool.{true≢false, and_parts, eqb-true, false_from_ne_true, not-true}}
+use Rattle.std.{proofs.lemmas.List.Elements.{recursion_from_All}, specs.{Prelude.{IfSome}, List.{AllByRecursion, list_any}, Option.{option_map_or}}}
 use Rattle.std.specs.{Cmp.Lexicographic.{same_text, nat_list_eq_equiv}, FinMap.{get}}
 use Rattle.nntp_article.specs.{Article.Parts.{Line, Id, head_part, body_part}, Session.Spool.{Spool, Text, IsGroup, numbers, IsSpool, HasText, text_of}}
 use Rattle.nntp_article.{specs.Session.{Spool.{is_line, Name}, Machine.{is_same}}, proofs.ArticleLemmas.HeadHasNoEmptyLine.{parts}}
@@ -19,9 +19,7 @@ same_itself xs = nat_list_eq_equiv.refl xs
 
 -- a name that is in a list of groups is found there
 listed : (name : Name) (lines : List ActiveValue) → In name (map (λ line. line.name) lines) → list_any (λ line. is_same line.name name) lines ≡ true
-listed name lines i =
-    let f = from_map (λ (line : ActiveValue). line.name) name lines i in
-    any_in (λ line. is_same line.name name) f.0 lines f.1 (subst (λ n. is_same f.0.name n ≡ true) f.2 (same_itself f.0.name))
+listed name lines i = grind (arith, from_map, any_in, same_itself)
 
 -- and back
 pub in_listed : (name : Name) (lines : List ActiveValue) → list_any (λ line. is_same line.name name) lines ≡ true → In name (map (λ line. line.name) lines)
@@ -31,8 +29,7 @@ in_listed name lines t =
 
 -- the group matches, if there is a wildmat
 pub matching : (name : Name) (p : Option (List ℕ)) → option_map_or (λ w. matches_name w name) p true ≡ true ↔ IfSome p (λ w. MatchesName w name)
-matching name None = (λ t. tt, λ h. refl)
-matching name (Some w) = matches_name-iff w name
+matching name p = grind (arith, matches_name-iff)
 
 -- what facts give is one, where each of them says it of one thing
 give_one : {A : Type 0} (Q : A → Type 0) → ((x y : A) → Q x → Q y → x ≡ y) → (f : Fact → Option A) (facts : List Fact)
@@ -54,8 +51,7 @@ module _ (limit : ℕ) (S : Spool) (facts : List Fact) (spool : IsSpool limit S)
   -- a group that a fact shows is S's
   shown_by_one : (name : Name) (fact : Fact) → Holds S fact → shows_group name fact ≡ true → IsGroup S name
   shown_by_one name (ThereIs g) h t = subst (IsGroup S) (same_text g name (sym t)) h
-  shown_by_one name (GroupsAre p lines) h t =
-      ((h.0 name).0 (contains_in name (map (λ line. line.name) lines) (in_listed name lines t))).0
+  shown_by_one name (GroupsAre p lines) h t = grind (arith, contains_in, in_listed)
   shown_by_one name fact h t = cc
 
   -- a group that is shown is S's
@@ -65,10 +61,7 @@ module _ (limit : ℕ) (S : Spool) (facts : List Fact) (spool : IsSpool limit S)
   -- and no group of S is denied
   denied_by_one : (name : Name) (fact : Fact) → Holds S fact → IsGroup S name → denies_group name fact ≡ true → ⊥
   denied_by_one name (ThereIsNo g) h there t = true≢false (sym there ∙ ap is_some (subst (λ g. get S.groups g ≡ None) (same_text g name (sym t)) h))
-  denied_by_one name (GroupsAre p lines) h there t =
-      let d = and_parts (option_map_or (λ w. matches_name w name) p true) (not (list_any (λ line. is_same line.name name) lines)) t in
-      let c = (h.0 name).1 (there, (matching name p).0 d.0) in
-      true≢false (sym (listed name lines (in_contains name (map (λ line. line.name) lines) c)) ∙ not-true _ d.1)
+  denied_by_one name (GroupsAre p lines) h there t = grind (arith, and_parts, matching, true≢false, listed, in_contains, not-true)
   denied_by_one name fact h there t = cc
 
   -- an id that a fact shows is S's
@@ -121,8 +114,7 @@ module _ (limit : ℕ) (S : Spool) (facts : List Fact) (spool : IsSpool limit S)
   parts_of : (id : Id) (t : Text) (lines : List Line) → get S.articles id ≡ Some t → Some (t.head ++ [] ∷ t.body) ≡ Some lines → (t.head ≡ head_part lines) × (t.body ≡ body_part lines)
   parts_of id t lines e same =
       let p = parts t.head t.body (spool.heads id t e).0 in
-      let whole : t.head ++ [] ∷ t.body ≡ lines = cc in
-      (sym p.0 ∙ ap head_part whole, sym p.1 ∙ ap body_part whole)
+      grind arith
 
   -- S has an article of the id, with a part that is these lines
   HasPart : (Text → List Line) → Id → List Line → Type 0
@@ -137,12 +129,8 @@ module _ (limit : ℕ) (S : Spool) (facts : List Fact) (spool : IsSpool limit S)
 
   -- a head that one fact gives is S's
   head_by_one : (id : Id) (lines : List Line) (fact : Fact) → Holds S fact → head_in id fact ≡ Some lines → HasPart (λ t. t.head) id lines
-  head_by_one id lines (TextIs Article other (Some ls)) h e =
-      let a = article_of Article other (Some ls) h in
-      has_part (λ t. t.head) id other a.0 (head_part ls) lines a.1 (parts_of other a.0 ls a.1 a.2).0 (is_same other id) refl e
-  head_by_one id lines (TextIs Head other (Some ls)) h e =
-      let a = article_of Head other (Some ls) h in
-      has_part (λ t. t.head) id other a.0 ls lines a.1 (let q : a.0.head ≡ ls = cc in q) (is_same other id) refl e
+  head_by_one id lines (TextIs Article other (Some ls)) h e = grind (arith, article_of, has_part, parts_of)
+  head_by_one id lines (TextIs Head other (Some ls)) h e = grind (arith, article_of, has_part)
   head_by_one id lines fact h e = cc
 
   -- and a body
@@ -150,9 +138,7 @@ module _ (limit : ℕ) (S : Spool) (facts : List Fact) (spool : IsSpool limit S)
   body_by_one id lines (TextIs Article other (Some ls)) h e =
       let a = article_of Article other (Some ls) h in
       has_part (λ t. t.body) id other a.0 (body_part ls) lines a.1 (parts_of other a.0 ls a.1 a.2).1 (is_same other id) refl e
-  body_by_one id lines (TextIs Body other (Some ls)) h e =
-      let a = article_of Body other (Some ls) h in
-      has_part (λ t. t.body) id other a.0 ls lines a.1 (let q : a.0.body ≡ ls = cc in q) (is_same other id) refl e
+  body_by_one id lines (TextIs Body other (Some ls)) h e = grind (arith, article_of, has_part)
   body_by_one id lines fact h e = cc
 
   -- an article has one such part
@@ -191,29 +177,24 @@ module _ (limit : ℕ) (S : Spool) (facts : List Fact) (spool : IsSpool limit S)
 
   -- names, ids and lines are S's
   well_formed : (fact : Fact) → Holds S fact → IsWellFormed fact
-  well_formed (ThereIs name) h = spool.names name h
-  well_formed (IdAt name n id) h = spool.ids id (spool.ids_have_articles name n id h)
-  well_formed (TextIs what id lines) h = let a = article_of what id lines h in (spool.ids id (ap is_some a.1), sent_lines what id a.0 lines a.1 a.2)
   well_formed (GroupsAre p lines) h =
       all_from (λ line. IsGroupName line.name) lines
       (λ line i. spool.names line.name ((h.0 line.name).0
       (contains_in line.name (map (λ line. line.name) lines) (in_map (λ line. line.name) line lines i))).0)
-  well_formed fact h = tt
+  well_formed fact h = grind (arith, article_of, sent_lines)
 
   -- what is said stands together
   pub stand : Together facts
-  stand = record {
-    well_formed = all_from IsWellFormed facts (λ fact i. well_formed fact (of_fact fact i));
-    groups = λ name t. false_from_ne_true _ (λ d. let f = found_in (denies_group name) facts d in denied_by_one name f.0 (of_fact f.0 f.1) (group_in_S name t) f.2);
-    numbers = λ name. asks_stand (asks_of name facts) (numbers S name) (met_by_facts S name facts holds) (λ n j. (spool.numbers_in_limit name n j).0);
-    ids = λ name n. give_one (λ id. get (numbers S name) n ≡ Some id) (λ x y e f. let q : Some x ≡ Some y = sym e ∙ f in cc)
-        (id_in name n) facts (λ fact i id e. id_by_one name n id fact (of_fact fact i) e);
-    ids_once = λ name id. give_one (λ n. get (numbers S name) n ≡ Some id) (λ n m e f. spool.one_to_one name n m id e f)
-        (number_in name id) facts (λ fact i n e. number_by_one name id n fact (of_fact fact i) e);
-    articles = λ id t. false_from_ne_true _ (λ d.
-        let s = found_in (shows_article id) facts t in
-        let f = found_in (denies_article id) facts d in
-        article_denied id f.0 (of_fact f.0 f.1) (article_by_one id s.0 (of_fact s.0 s.1) s.2) f.2);
-    heads = λ id. give_one (HasPart (λ t. t.head) id) (part_once (λ t. t.head) id) (head_in id) facts (λ fact i lines e. head_by_one id lines fact (of_fact fact i) e);
-    bodies = λ id. give_one (HasPart (λ t. t.body) id) (part_once (λ t. t.body) id) (body_in id) facts (λ fact i lines e. body_by_one id lines fact (of_fact fact i) e);
-  }
+  stand =
+      record {
+        well_formed = all_from IsWellFormed facts (λ fact i. well_formed fact (of_fact fact i));
+        groups = λ name t. false_from_ne_true _ (λ d. let f = found_in (denies_group name) facts d in denied_by_one name f.0 (of_fact f.0 f.1) (group_in_S name t) f.2);
+        numbers = λ name. asks_stand (asks_of name facts) (numbers S name) (met_by_facts S name facts holds) (λ n j. (spool.numbers_in_limit name n j).0);
+        ids = λ name n. give_one (λ id. get (numbers S name) n ≡ Some id) (λ x y e f. let q : Some x ≡ Some y = sym e ∙ f in cc)
+            (id_in name n) facts (λ fact i id e. id_by_one name n id fact (of_fact fact i) e);
+        ids_once = λ name id. give_one (λ n. get (numbers S name) n ≡ Some id) (λ n m e f. spool.one_to_one name n m id e f)
+            (number_in name id) facts (λ fact i n e. number_by_one name id n fact (of_fact fact i) e);
+        articles = grind (arith, false_from_ne_true, found_in, article_denied, of_fact, article_by_one);
+        heads = λ id. give_one (HasPart (λ t. t.head) id) (part_once (λ t. t.head) id) (head_in id) facts (λ fact i lines e. head_by_one id lines fact (of_fact fact i) e);
+        bodies = λ id. give_one (HasPart (λ t. t.body) id) (part_once (λ t. t.body) id) (body_in id) facts (λ fact i lines e. body_by_one id lines fact (of_fact fact i) e);
+      }

@@ -1,17 +1,14 @@
 -- Numbers are as few as is estimated.
-use Rattle.std.{proofs.{Common.{◌≡◌, true, IsTrue, List, [], ◌∷◌, refl}, lemmas.Bool.{and_parts, and_from, le-leb, leb-true}}, specs.List.{AllByRecursion}}
-use Rattle.std.specs.FinMap.{len}
+use Rattle.std.{proofs.{Common.{◌≡◌, true, IsTrue, List, [], ◌∷◌, refl, arith}, lemmas.Bool.{and_parts, and_from}}, specs.{List.{AllByRecursion}, FinMap.{len}}}
 use Rattle.nntp_article.specs.Session.Spool.{Numbers}
-use Rattle.nntp_said.specs.Asks.{Ask, Estimates}
+use Rattle.nntp_said.specs.Asks.{Ask}
 use Rattle.nntp_theory.specs.{Inner.Estimates.{estimate_in, is_within, is_within_all}, Together.{IsFewFor}}
 
 few_for_one : (N : Numbers) (ask : Ask) → IsTrue (is_within (estimate_in ask) (len N)) → IsFewFor N ask
-few_for_one N (Estimates how m) t = leb-true (len N) m.estimate t
-few_for_one N ask t = tt
+few_for_one N ask t = grind arith
 
 pub within_one : (N : Numbers) (ask : Ask) → IsFewFor N ask → is_within (estimate_in ask) (len N) ≡ true
-within_one N (Estimates how m) h = le-leb (len N) m.estimate h
-within_one N ask h = refl
+within_one N ask h = grind arith
 
 -- as few as each ask estimates
 pub few_for : (N : Numbers) (asks : List Ask) → IsTrue (is_within_all asks (len N)) → AllByRecursion (IsFewFor N) asks

@@ -1,5 +1,5 @@
 -- What two lists of facts show, deny and give.
-use Rattle.std.proofs.Common.{◌≡◌, Bool, true, false, ◌||◌, ◌&&◌, cond, IsTrue, List, [], ◌∷◌, ◌++◌, Option, None, Some, inl, inr, refl, sym, ap, ◌∙◌}
+use Rattle.std.proofs.Common.{◌≡◌, Bool, true, false, ◌||◌, ◌&&◌, cond, IsTrue, List, [], ◌∷◌, ◌++◌, Option, None, Some, refl, sym, ap, ◌∙◌, arith}
 use Rattle.std.{proofs.lemmas.{Bool.{true≢false, or_left, or_right, or_cases, false_from_ne_true}, List.Folds.{list_any-append}}, specs.Prelude.{IsFalse}}
 use Rattle.std.specs.{Prelude.{IfSome}, List.{AllByRecursion, list_any}, Option.{option_or}}
 use Rattle.nntp_said.specs.Facts.{Fact}
@@ -31,28 +31,14 @@ Apart shows denies facts = IsTrue (list_any shows facts) → IsFalse (list_any d
 pub apart_both : (shows denies : Fact → Bool) (facts more : List Fact) → Apart shows denies facts → Apart shows denies more
     → (IsTrue (list_any shows more) → IsFalse (list_any denies facts)) → (IsTrue (list_any denies more) → IsFalse (list_any shows facts))
     → Apart shows denies (facts ++ more)
-apart_both shows denies facts more before within shown denied s =
-    false_from_ne_true _ (λ d. elim (or_cases (list_any shows facts) (list_any shows more) (sym (list_any-append shows facts more) ∙ s)) [
-      | inl a ↦ elim (or_cases (list_any denies facts) (list_any denies more) (sym (list_any-append denies facts more) ∙ d)) [
-        | inl b ↦ true≢false (sym b ∙ before a)
-        | inr b ↦ true≢false (sym a ∙ denied b)
-      ]
-      | inr a ↦ elim (or_cases (list_any denies facts) (list_any denies more) (sym (list_any-append denies facts more) ∙ d)) [
-        | inl b ↦ true≢false (sym b ∙ shown a)
-        | inr b ↦ true≢false (sym b ∙ within a)
-      ]
-    ])
+apart_both shows denies facts more before within shown denied s = grind (arith, false_from_ne_true, or_cases, list_any-append, true≢false)
 
 -- and back
 pub apart_shown : (shows denies : Fact → Bool) (facts more : List Fact) → Apart shows denies (facts ++ more) → IsTrue (list_any shows more) → IsFalse (list_any denies facts)
-apart_shown shows denies facts more apart s =
-    false_from_ne_true _ (λ d. true≢false (sym (list_any-append denies facts more ∙ or_left _ (list_any denies more) d)
-    ∙ apart (list_any-append shows facts more ∙ or_right (list_any shows facts) _ s)))
+apart_shown shows denies facts more apart s = grind (arith, false_from_ne_true, true≢false, list_any-append, or_left, or_right)
 
 pub apart_denied : (shows denies : Fact → Bool) (facts more : List Fact) → Apart shows denies (facts ++ more) → IsTrue (list_any denies more) → IsFalse (list_any shows facts)
-apart_denied shows denies facts more apart d =
-    false_from_ne_true _ (λ s. true≢false (sym (list_any-append denies facts more ∙ or_right (list_any denies facts) _ d)
-    ∙ apart (list_any-append shows facts more ∙ or_left _ (list_any shows more) s)))
+apart_denied shows denies facts more apart d = grind (arith, false_from_ne_true, true≢false, list_any-append, or_right, or_left)
 
 -- ---- what is given
 
@@ -68,18 +54,15 @@ given_append {A} f (x ∷ xs) ys = by (f x) (given_append f xs ys)
 
 -- where nothing more is given, what was is
 pub or_none : {A : Type 0} (o : Option A) → option_or o None ≡ o
-or_none None = refl
-or_none (Some x) = refl
+or_none o = grind arith
 
 -- where nothing is given either way, nothing is
 pub none_if : {A : Type 0} (b : Bool) → cond {A = Option A} b None None ≡ None
-none_if true = refl
-none_if false = refl
+none_if b = grind arith
 
 -- what is given under two tests is given under both
 pub both_if : {A : Type 0} (a b : Bool) (x : A) → cond a (cond b (Some x) None) None ≡ cond (a && b) (Some x) None
-both_if true b x = refl
-both_if false b x = refl
+both_if a b x = grind arith
 
 -- where more facts give nothing, what is given is as before
 pub given_silent : {A : Type 0} (f : Fact → Option A) (facts more : List Fact) → first_given f more ≡ None → first_given f (facts ++ more) ≡ first_given f facts

@@ -1,5 +1,5 @@
 -- What the exchanges of several sessions say, and that they are few.
-use Rattle.std.specs.{Prelude.{◌+◌, ◌<◌, ◌^◌, List, ◌++◌, length, map}, List.{AllByRecursion}}
+use Rattle.std.specs.{Prelude.{◌<◌, ◌^◌, List, ◌++◌, length, map}, List.{AllByRecursion}}
 use Rattle.nntp_wire.specs.declared.marks.Marks.{Marks}
 use Rattle.nntp_pair.specs.{Pairing.{Paired, asked_of, responses_of}, Inner.Pairing.{lines_in}}
 use Rattle.nntp_said.specs.Facts.{Fact}
