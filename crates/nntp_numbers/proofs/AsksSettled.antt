@@ -1,5 +1,5 @@
 -- Whether what is asked stands together, from what is shown, the first free number, how many there are, and the demand.
-use Rattle.std.proofs.Common.{◌≡◌, ◌⊎◌, ℕ, ◌+◌, true, false, ◌&&◌, IsTrue, List, [], Option, None, Some, inl, inr, refl, sym, ap, subst, ◌∙◌}
+use Rattle.std.proofs.Common.{◌≡◌, ◌⊎◌, ℕ, ◌+◌, true, false, ◌&&◌, IsTrue, List, [], Option, None, Some, inl, inr, refl, sym, ap, subst, ◌∙◌, arith}
 use Rattle.std.{proofs.lemmas.Bool.{true≢false, and_parts, and_from, false_from_ne_true, ltb-true, lt-ltb}, specs.{Prelude.{◌↔◌}, List.{AllByRecursion}}}
 use Rattle.std.specs.FinMap.{len, insert}
 use Rattle.nntp_article.specs.Session.Spool.{Numbers, IsNumber}
@@ -7,9 +7,9 @@ use Rattle.nntp_said.specs.Asks.{Ask}
 use Rattle.nntp_theory.specs.{Inner.{Conflict.{AreApart}, Together.{AsksStand}, Estimates.{is_within, is_within_all}}, Given.{is_known, is_denied, demand}}
 use Rattle.nntp_theory.specs.{Given.{wants, IsOneMore, IsGivenNumber, HasGivenNumbers}, declared.demand.Demand.{Demand, TheVariants.{NoDemand, NotEmpty}}}
 use Rattle.nntp_theory.specs.{declared.demand.Demand.TheVariants.{OnlyOne, SecondIs, Impossible}, Together.{is_possible, MeetsDemand}}
-use Rattle.nntp_theory.proofs.GivenNumbers.{FirstFreeNumber.{first_free_once}, CountOfGivenNumbers.{none_more, one_more_given, one_more_counted, as_many_given}}
-use Rattle.nntp_theory.proofs.GivenNumbers.{CountOfGivenNumbers.{more_meets}, GivenNumbersMeet.{same_demand}, MetNumbersStand.{second_shown, shown_known}}
-use Rattle.nntp_theory.proofs.{GivenNumbers.MetNumbersStand.{wanted_there}, Together.FewEnough.{few_for, within_all}}
+use Rattle.nntp_theory.proofs.GivenNumbers.CountOfGivenNumbers.{none_more, one_more_given, one_more_counted, as_many_given, more_meets}
+use Rattle.nntp_theory.proofs.GivenNumbers.{GivenNumbersMeet.{same_demand}, MetNumbersStand.{second_shown, shown_known, wanted_there}}
+use Rattle.nntp_theory.proofs.Together.FewEnough.{few_for, within_all}
 use Rattle.nntp_numbers.specs.{Inner.Summary.{PassSoMany, FirstFree, has_room, is_settled, is_met, Looks}, declared.shown.HowMany.{HowMany}}
 use Rattle.nntp_numbers.specs.declared.shown.HowMany.TheVariants.{Absent, Single, Several}
 
@@ -106,37 +106,11 @@ found_is asks d n s w none = true≢false (sym (and_from (is_known asks n) (want
 
 -- where so many are wanted that they meet the demand, they meet it
 pub met_if : (asks : List Ask) (d : Demand) → d ≡ demand asks → (w : HowMany) → PassSoMany (λ n. is_known asks n && wants d n) w → is_met d w ≡ true → MeetsDemand d (Shown asks)
-met_if asks NoDemand is w found t = tt
-met_if asks Impossible is w found t = cc
-met_if asks NotEmpty is Absent found t = cc
-met_if asks NotEmpty is Single found t = (found.0, (and_parts (is_known asks found.0) true found.1).0)
-met_if asks NotEmpty is Several found t = (found.0, (and_parts (is_known asks found.0) true found.3).0)
-met_if asks OnlyOne is Absent found t = cc
-met_if asks OnlyOne is Single (n, here, once) t = (n, (and_parts (is_known asks n) true here).0, λ m s. once m (and_from (is_known asks m) true s refl))
-met_if asks OnlyOne is Several found t = cc
-met_if asks (SecondIs k) is Absent found t = cc
-met_if asks (SecondIs k) is Single (n, here, once) t =
-    let p = and_parts (is_known asks n) (wants (SecondIs k) n) here in
-    (shown_known asks k (second_shown asks k (sym is)), n, ltb-true n k p.1, p.0, λ m l s. once m (and_from (is_known asks m) (wants (SecondIs k) m) s (lt-ltb m k l)))
-met_if asks (SecondIs k) is Several found t = cc
+met_if asks d is w found t = grind (arith, and_parts, and_from, shown_known, second_shown, ltb-true, lt-ltb)
 
 -- and back
 pub is_met_if : (asks : List Ask) (d : Demand) (w : HowMany) → PassSoMany (λ n. is_known asks n && wants d n) w → MeetsDemand d (Shown asks) → is_met d w ≡ true
-is_met_if asks NoDemand w found met = refl
-is_met_if asks Impossible w found met = absurd met
-is_met_if asks NotEmpty Absent found met = absurd (found_is asks NotEmpty met.0 met.1 refl found)
-is_met_if asks OnlyOne Absent found met = absurd (found_is asks OnlyOne met.0 met.1 refl found)
-is_met_if asks (SecondIs k) Absent found met = absurd (found_is asks (SecondIs k) met.1 met.3 (lt-ltb met.1 k met.2) found)
-is_met_if asks NotEmpty Single found met = refl
-is_met_if asks NotEmpty Several found met = refl
-is_met_if asks OnlyOne Single found met = refl
-is_met_if asks (SecondIs k) Single found met = refl
-is_met_if asks OnlyOne Several (n, m, apart, a, b) met =
-    absurd (apart (met.2 n (and_parts (is_known asks n) true a).0 ∙ sym (met.2 m (and_parts (is_known asks m) true b).0)))
-is_met_if asks (SecondIs k) Several (n, m, apart, a, b) met =
-    let p = and_parts (is_known asks n) (wants (SecondIs k) n) a in
-    let q = and_parts (is_known asks m) (wants (SecondIs k) m) b in
-    absurd (apart (met.4 n (ltb-true n k p.1) p.0 ∙ sym (met.4 m (ltb-true m k q.1) q.0)))
+is_met_if asks d w found met = grind arith
 
 module _ (asks : List Ask) (c : ℕ) (e : Option ℕ) (within : (n : ℕ) → is_within e n ≡ is_within_all asks n) where
   -- room for one more where nothing is found
@@ -145,25 +119,16 @@ module _ (asks : List Ask) (c : ℕ) (e : Option ℕ) (within : (n : ℕ) → is
   more_of_room d is none (Some n) free t =
       let p = and_parts (wants d n) (is_within e (c + 1)) t in
       ByMore n
-      (record {
-        needed = λ m s. false_from_ne_true _ (λ w. found_is asks d m s (ap (λ d. wants d m) is ∙ w) none);
-        wanted = sym (ap (λ d. wants d n) is) ∙ p.0;
-        first = free;
-      })
+      (grind (arith, false_from_ne_true, found_is))
       (sym (within (c + 1)) ∙ p.1)
 
   -- and back
   room_of_more : (d : Demand) → d ≡ demand asks → (f : Option ℕ) → FirstFree (is_denied asks) f → (n : ℕ) → IsOneMore asks n → IsTrue (is_within_all asks (c + 1)) → has_room d f c e ≡ true
-  room_of_more d is None free n x few = absurd (true≢false (sym (free n x.first.0) ∙ x.first.1))
-  room_of_more d is (Some m) free n x few =
-      let same : m ≡ n = first_free_once (is_denied asks) 1 m n free x.first in
-      and_from (wants d m) (is_within e (c + 1)) (ap (λ d. wants d m) is ∙ ap (wants (demand asks)) same ∙ x.wanted) (within (c + 1) ∙ few)
+  room_of_more d is f free n x few = grind arith
 
   -- one more isn't needed where a wanted number is shown
   not_needed : (d : Demand) → d ≡ demand asks → (n : ℕ) → (is_known asks n && wants d n) ≡ true → (m : ℕ) → IsOneMore asks m → ⊥
-  not_needed d is n t m x =
-      let p = and_parts (is_known asks n) (wants d n) t in
-      true≢false (sym p.1 ∙ ap (λ d. wants d n) is ∙ x.needed n p.0)
+  not_needed d is n t m x = grind arith
 
   -- by those that are known, where they meet the demand
   by_known : (d : Demand) → d ≡ demand asks → (w : HowMany) → PassSoMany (λ n. is_known asks n && wants d n) w → is_met d w ≡ true → IsTrue (is_within e c) → Ways asks c
@@ -171,17 +136,7 @@ module _ (asks : List Ask) (c : ℕ) (e : Option ℕ) (within : (n : ℕ) → is
 
   -- where they meet it, the test is whether there are few
   few_settle : (d : Demand) (w : HowMany) (f : Option ℕ) → is_met d w ≡ true → is_settled d w f c e ≡ is_within e c
-  few_settle NoDemand w f met = refl
-  few_settle Impossible w f met = cc
-  few_settle NotEmpty Absent f met = cc
-  few_settle NotEmpty Single f met = refl
-  few_settle NotEmpty Several f met = refl
-  few_settle OnlyOne Absent f met = cc
-  few_settle OnlyOne Single f met = refl
-  few_settle OnlyOne Several f met = cc
-  few_settle (SecondIs k) Absent f met = cc
-  few_settle (SecondIs k) Single f met = refl
-  few_settle (SecondIs k) Several f met = cc
+  few_settle d w f met = grind arith
 
   module _ (f : Option ℕ) (free : FirstFree (is_denied asks) f) where
     -- the test that passes tells the way

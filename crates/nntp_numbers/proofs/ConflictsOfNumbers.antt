@@ -57,8 +57,7 @@ module _ (s : Summary) (asks : List Ask) (sum : IsSummary s asks) (bounded : Are
       → IsTally (is_known asks) (demand asks) w c
   known_tally apart w c t =
       let is : (n : ℕ) → (shown_after s.shown [] n || is_end_of (known_ends_in s) n) ≡ is_known asks n =
-      λ n. ap (λ b. b || is_end_of (known_ends_in s) n) (sym (or_none (has s.shown n)) ∙ sum.shown n)
-      ∙ sym (hull_is s asks sum bounded n) ∙ sym (apart_known asks apart n) in
+      grind (arith, or_none, hull_is, apart_known) in
       subst (λ d. IsTally (is_known asks) d w c) sum.demand (same_tally _ (is_known asks) is s.demand w c t)
 
   -- where none of them is wanted, what is found is the one more
@@ -107,7 +106,4 @@ module _ (asks : List Ask) (found : HowMany) (so_many : PassSoMany (λ n. is_kno
 
   -- or else exactly if there is one more
   pub more_met : is_met (demand asks) found ≡ false → (b : Bool) → IsTrue b ↔ ((n : ℕ) × IsOneMore asks n) → IsTrue b ↔ MeetsDemand (demand asks) (IsGivenNumber asks)
-  more_met unmet b more = (
-    λ t. let x = more.0 t in more_meets asks x.0 x.1,
-    λ given. elim (met_by asks given) [ inl met ↦ absurd (true≢false (sym (is_met_if asks (demand asks) found so_many met) ∙ unmet)) | inr x ↦ more.1 x ],
-  )
+  more_met unmet b more = grind (arith, more_meets, met_by, true≢false, is_met_if)

@@ -1,7 +1,7 @@
 -- The intervals that the numbers of a part leave of its own.
 use Rattle.std.proofs.Common.{◌≡◌, ℕ, ◌+◌, ◌-◌, ◌^◌, ◌<◌, ◌≤◌, Bool, true, false, cond, not, ◌&&◌, ◌||◌, ◌==◌, IsTrue, List, [], ◌∷◌, None, Some, inl, inr}
 use Rattle.std.proofs.{Common.{refl, sym, ap, subst, ◌∙◌, arith}, Math.Bool.{or-false, and-true}, lemmas.Bool.{true≢false, not-true, and_parts, and_from}}
-use Rattle.std.proofs.lemmas.Bool.{or_parts, or_from, or_left, or_right, or_cases, cases_lt, cases_order, false_from_ne_true, le-ltb, le-leb, leb-true, lt-ltb}
+use Rattle.std.proofs.lemmas.Bool.{or_parts, or_from, or_left, or_right, or_cases, cases_lt, cases_order, false_from_ne_true, le-leb, leb-true, lt-ltb}
 use Rattle.std.{proofs.lemmas.Bool.{ltb-true, ltb-false, eq-eqb, eqb-true, ne_eqb}, specs.{Prelude.{◌↔◌, nat_lt, nat_le}, List.{list_all}, Cmp.{both_ways}}}
 use Rattle.nntp_intervals.specs.Inner.Intervals.{holds, is_between}
 use Rattle.nntp_article.specs.Session.Machine.{is_ascending}
@@ -49,10 +49,7 @@ between_is : (a b n : ℕ) → is_between a b n ≡ true → (a ≤ n) × (n ≤
 between_is a b n t = let p = and_parts (nat_le a n) (nat_le n b) t in (leb-true a n p.0, leb-true n b p.1)
 
 within_later : (start last n : ℕ) (ns : List ℕ) → IsTrue (is_ascending (n ∷ ns)) → AreWithin start last (n ∷ ns) → AreWithin (n + 1) last ns
-within_later start last n ns up within k t =
-    let w = within k (listed_later n ns k t) in
-    let l = listed_above n ns k (and_parts (list_all (λ k. nat_lt n k) ns) (is_ascending ns) up).0 t in
-    (w.0, omega arith, w.2)
+within_later start last n ns up within k t = grind (arith, listed_later, listed_above, and_parts)
 
 module _ (start last n : ℕ) (ns : List ℕ) (up : IsTrue (is_ascending (n ∷ ns))) (within : AreWithin start last (n ∷ ns)) (m : ℕ) (small : m < 2 ^ 64)
     (later : holds (gaps (Some (n + 1)) last ns) m ≡ (is_between (n + 1) last m && not (is_one_of ns m))) where
@@ -140,10 +137,7 @@ module _ (p : Said) (regular : IsRegular p) where
 -- ---- the numbers of a part that are open
 
 pub open_parts : (denied : List (ℕ × ℕ)) (p : Said) (n : ℕ) → is_open denied p n ≡ true → (p.low ≤ n) × (n ≤ p.high) × (holds denied n ≡ false)
-open_parts denied p n t =
-    let o = and_parts (nat_le p.low n && nat_le n p.high) (not (holds denied n)) t in
-    let q = and_parts (nat_le p.low n) (nat_le n p.high) o.0 in
-    (leb-true p.low n q.0, leb-true n p.high q.1, not-true (holds denied n) o.1)
+open_parts denied p n t = grind arith
 
 pub all_open : (denied : List (ℕ × ℕ)) (p : Said) (ks : List ℕ) → list_all (is_open denied p) ks ≡ true → (n : ℕ) → is_one_of ks n ≡ true → is_open denied p n ≡ true
 all_open denied p [] all n t = cc
@@ -153,29 +147,15 @@ all_open denied p (k ∷ ks) all n t =
 
 open_all : (denied : List (ℕ × ℕ)) (p : Said) (ks : List ℕ) → ((n : ℕ) → is_one_of ks n ≡ true → is_open denied p n ≡ true) → list_all (is_open denied p) ks ≡ true
 open_all denied p [] each = refl
-open_all denied p (k ∷ ks) each =
-    and_from (is_open denied p k) (list_all (is_open denied p) ks) (each k (or_left (k == k) (is_one_of ks k) (eq-eqb k k refl))) (open_all denied p ks (λ n t. each n (listed_later k ks n t)))
+open_all denied p (k ∷ ks) each = grind (arith, and_from, or_left, eq-eqb, listed_later, open_all denied p ks (λ n t. each n (listed_later k ks n t)))
 
 module _ (shown : List ℕ) (denied : List (ℕ × ℕ)) (p : Said) where
   -- a number of the part is open exactly if it isn't denied after it
   open_free : (n : ℕ) → is_one_of p.numbers n ≡ true → is_open denied p n ≡ true → denied_after denied p n ≡ false
-  open_free n t is_so =
-      let o = open_parts denied p n is_so in
-      or_from (holds denied n) (part_denies p n) o.2
-      (or_from (nat_lt n p.low || nat_lt p.high n) (is_between p.first p.last n && not (is_one_of p.numbers n))
-      (or_from (nat_lt n p.low) (nat_lt p.high n) (le-ltb n p.low o.0) (le-ltb p.high n o.1))
-      (false_from_ne_true (is_between p.first p.last n && not (is_one_of p.numbers n))
-      (λ u. true≢false (sym t ∙ not-true (is_one_of p.numbers n)
-      (and_parts (is_between p.first p.last n) (not (is_one_of p.numbers n)) u).1))))
+  open_free n t is_so = grind arith
 
   free_open : (n : ℕ) → denied_after denied p n ≡ false → is_open denied p n ≡ true
-  free_open n free =
-      let both = or_parts (holds denied n) (part_denies p n) free in
-      let outside = or_parts (nat_lt n p.low || nat_lt p.high n) (is_between p.first p.last n && not (is_one_of p.numbers n)) both.1 in
-      let low = or_parts (nat_lt n p.low) (nat_lt p.high n) outside.0 in
-      and_from (nat_le p.low n && nat_le n p.high) (not (holds denied n))
-      (and_from (nat_le p.low n) (nat_le n p.high) (le-leb p.low n (ltb-false n p.low low.0)) (le-leb n p.high (ltb-false p.high n low.1)))
-      (ap not both.0)
+  free_open n free = grind arith
 
   -- nothing is both shown and denied
   pub part_agrees : IsTrue p.possible → ((n : ℕ) → has shown n ≡ true → part_denies p n ≡ false) → IsTrue (list_all (is_open denied p) p.numbers) → AgreesWith shown denied p

@@ -28,13 +28,7 @@ marks_are m = record { low = m.low; high = m.high }
 
 -- in any order
 join_ends_assoc : (a b c : Option Ends) → join_ends (join_ends a b) c ≡ join_ends a (join_ends b c)
-join_ends_assoc None b c = refl
-join_ends_assoc (Some a) None c = refl
-join_ends_assoc (Some a) (Some b) None = refl
-join_ends_assoc (Some a) (Some b) (Some c) =
-    let low : min (min a.low b.low) c.low ≡ min a.low (min b.low c.low) = omega arith in
-    let high : max (max a.high b.high) c.high ≡ max a.high (max b.high c.high) = omega arith in
-    λ i. Some (record { low = low i; high = high i })
+join_ends_assoc a b c = grind arith
 
 -- the hull of both lists
 pub ends_append : (xs ys : List Ask) → ends_of (xs ++ ys) ≡ join_ends (ends_of xs) (ends_of ys)
@@ -47,8 +41,7 @@ is_known_by asks n = is_shown asks n || (list_any says_some asks && is_end_of (e
 
 -- an end of the hull, if there is to be one
 pub end_if : (b : Bool) (e : Option Ends) (n : ℕ) → is_end_of (cond b e None) n ≡ (b && is_end_of e n)
-end_if true e n = refl
-end_if false e n = refl
+end_if b e n = grind arith
 
 -- one of the asks has the number as a strict mark
 abbrev HasEnd : List Ask → ℕ → Type 0
@@ -119,20 +112,10 @@ module _ (asks : List Ask) (e : Ends) (is : ends_of asks ≡ Some e) (low : IsFa
   between_marks m i k free = let p = or_parts (nat_lt k m.low) (nat_lt m.high k) (undenied (Estimates Strict m) k i free) in (not_less k m.low p.0, not_less m.high k p.1)
 
   same_low : (m : WaterMarks) → In (Estimates Strict m) asks → e.low ≡ m.low
-  same_low m i =
-      let w = within_ends asks m i in
-      let one : e ≡ w.0 = (let q : Some e ≡ Some w.0 = sym is ∙ w.1 in cc) in
-      let le : e.low ≤ m.low = subst (λ (e : Ends). e.low ≤ m.low) (sym one) w.2 in
-      let ge = (between_marks m i e.low low).0 in
-      omega arith
+  same_low m i = grind (arith, within_ends, between_marks)
 
   same_high : (m : WaterMarks) → In (Estimates Strict m) asks → e.high ≡ m.high
-  same_high m i =
-      let w = within_ends asks m i in
-      let one : e ≡ w.0 = (let q : Some e ≡ Some w.0 = sym is ∙ w.1 in cc) in
-      let le : m.high ≤ e.high = subst (λ (e : Ends). m.high ≤ e.high) (sym one) w.3 in
-      let ge = (between_marks m i e.high high).1 in
-      omega arith
+  same_high m i = grind (arith, within_ends, between_marks)
 
   -- all strict marks are the hull's
   pub same_ends : (n : ℕ) → list_any (λ ask. is_end ask n) asks ≡ is_end_of (Some e) n
@@ -162,10 +145,8 @@ module _ (asks : List Ask) (e : Ends) (is : ends_of asks ≡ Some e) (low : IsFa
 -- the ends are given, where it is said that there is a number
 pub ends_known : (asks : List Ask) (e : Ends) → ends_of asks ≡ Some e → list_any says_some asks ≡ true → IsTrue (is_known asks e.low) × IsTrue (is_known asks e.high)
 ends_known asks e is some =
-    let ends = ends_are asks e is in (
-      or_right (is_shown asks e.low) _ (and_from (list_any says_some asks) _ some ends.0),
-      or_right (is_shown asks e.high) _ (and_from (list_any says_some asks) _ some ends.1),
-    )
+    let ends = ends_are asks e is in
+    grind (arith, or_right, and_from, ends)
 
 -- ---- what is known by the hull
 
@@ -234,18 +215,15 @@ shows_or_demands ask t = cc
 -- so all say it exactly if one shows a number, or the demand wants one
 pub said_some : (asks : List Ask) → list_any says_some asks ≡ true → ((n : ℕ) × IsTrue (is_shown asks n)) ⊎ (is_demanding (demand asks) ≡ true)
 said_some [] t = cc
-said_some (ask ∷ asks) t = elim (or_cases (says_some ask) (list_any says_some asks) t) [
-  | inl here ↦ elim (shows_or_demands ask here) [
-    | inl s ↦ inl (s.0, or_left (shows ask s.0) _ s.1)
-    | inr d ↦ inr
-        (demanding_both (demand_in ask) (demand asks) ∙ or_left (is_demanding (demand_in ask)) _ d)
-  ]
-  | inr later ↦ elim (said_some asks later) [
-    | inl s ↦ inl (s.0, or_right (shows ask s.0) _ s.1)
-    | inr d ↦ inr
-        (demanding_both (demand_in ask) (demand asks) ∙ or_right (is_demanding (demand_in ask)) _ d)
-  ]
-]
+said_some (ask ∷ asks) t =
+    elim (or_cases (says_some ask) (list_any says_some asks) t) [
+      | inl here ↦ grind (arith, shows_or_demands, or_left, demanding_both)
+      | inr later ↦ elim (said_some asks later) [
+        | inl s ↦ inl (s.0, or_right (shows ask s.0) _ s.1)
+        | inr d ↦ inr
+            (demanding_both (demand_in ask) (demand asks) ∙ or_right (is_demanding (demand_in ask)) _ d)
+      ]
+    ]
 
 pub shown_says : (asks : List Ask) (n : ℕ) → IsTrue (is_shown asks n) → list_any says_some asks ≡ true
 shown_says asks n s = let f = found_in (λ ask. shows ask n) asks s in any_in says_some f.0 asks f.1 (shows_some f.0 n f.2)
@@ -258,6 +236,4 @@ pub some_is : (asks : List Ask) (b : Bool)
     → (b ≡ true → ((n : ℕ) × IsTrue (is_shown asks n)) ⊎ (is_demanding (demand asks) ≡ true))
     → ((n : ℕ) → IsTrue (is_shown asks n) → b ≡ true) → (is_demanding (demand asks) ≡ true → b ≡ true)
     → b ≡ list_any says_some asks
-some_is asks b forth shown demanded = both_ways b (list_any says_some asks)
-    (λ t. elim (forth t) [ inl s ↦ shown_says asks s.0 s.1 | inr d ↦ demand_says asks d ])
-    (λ t. elim (said_some asks t) [ inl s ↦ shown s.0 s.1 | inr d ↦ demanded d ])
+some_is asks b forth shown demanded = grind (arith, shown_says, demand_says, said_some)

@@ -1,5 +1,5 @@
 -- What is within an estimate is within another.
-use Rattle.std.proofs.{Common.{◌≡◌, ℕ, ◌+◌, ◌-◌, true, false, IsTrue, Option, None, Some, refl, sym, subst, arith}, lemmas.Bool.{true≢false, leb-true, le-leb}}
+use Rattle.std.proofs.{Common.{◌≡◌, ℕ, ◌+◌, true, false, IsTrue, Option, None, Some, refl, sym, subst, arith}, lemmas.Bool.{true≢false, leb-true, le-leb}}
 use Rattle.std.specs.Prelude.{◌↔◌, nat_le}
 use Rattle.nntp_theory.specs.Inner.Estimates.{is_within}
 
@@ -16,9 +16,6 @@ none_implies a b e is_a is_b =
 pub some_implies : (a b : Option ℕ) (d e : ℕ) → a ≡ Some d → b ≡ Some e → IsTrue (nat_le d e) ↔ Implies a b
 some_implies a b d e is_a is_b =
     subst (λ a. IsTrue (nat_le d e) ↔ Implies a b) (sym is_a) (subst (λ b. IsTrue (nat_le d e) ↔ Implies (Some d) b) (sym is_b) (
-      λ t n within.
-          let above = leb-true d e t in
-          let below = leb-true n d within in
-          le-leb n e (omega arith),
+      grind (arith, leb-true, le-leb),
       λ h. h d (le-leb d d (omega arith)),
     ))

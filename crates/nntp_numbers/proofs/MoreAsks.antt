@@ -1,18 +1,18 @@
 -- More asks: what is kept and what they say tell whether all stands together.
 use Rattle.std.proofs.Common.{◌≡◌, ℕ, ◌^◌, ◌<◌, Bool, true, false, not, ◌&&◌, ◌||◌, ◌==◌, IsTrue, List, [], ◌∷◌, ◌++◌, length, suc, Option, None, Some, is_some}
-use Rattle.std.proofs.{Common.{inl, inr, refl, sym, ap, subst, ◌∙◌, arith}, lemmas.Bool.{true≢false, and_parts, lt-ltb, and_from, or_left, or_right, or_cases}}
-use Rattle.std.proofs.lemmas.{Bool.{or_from, or_parts, cases_lt, eq-eqb, ne_eqb}, List.{length-map, Folds.{list_any-append, list_all-append}}}
+use Rattle.std.proofs.{Common.{inl, inr, refl, sym, ap, subst, ◌∙◌, arith}, lemmas.Bool.{true≢false, and_parts, and_from, or_left, or_right, or_cases, or_from}}
+use Rattle.std.proofs.lemmas.{Bool.{or_parts, cases_lt, eq-eqb, ne_eqb}, List.{length-map, Folds.{list_any-append, list_all-append}}}
 use Rattle.std.proofs.lemmas.Map.{Keys.{IsDistinct-from_sorted}, Made.{length-from_same_keys}, Views.{tells_apart}, Lookups.{exact_unsigned}}
-use Rattle.std.specs.{Prelude.{◌↔◌, IsFalse, nat_lt}, List.{list_any, list_all, Sorted.{IsStrictlySortedBy}}, BTreeMap.{is_at}, Ordering.{nat_cmp, eq_by_cmp}}
+use Rattle.std.specs.{Prelude.{◌↔◌, IsFalse}, List.{list_any, list_all, Sorted.{IsStrictlySortedBy}}, BTreeMap.{is_at}, Ordering.{nat_cmp, eq_by_cmp}}
 use Rattle.std.specs.{Cmp.{nat_cmp_total, eq_by_cmp_equiv, both_ways}, FinMap.{get, len, keys, entries, entries_sorted, len-entries, nat_cmp-IsAntisymmetric}}
 use Rattle.std.specs.FinMap.{contains_key-keys}
-use Rattle.nntp_intervals.specs.Inner.Intervals.{holds, is_between}
+use Rattle.nntp_intervals.specs.Inner.Intervals.{holds}
 use Rattle.nntp_article.specs.Session.Spool.{Numbers, IsNumber}
 use Rattle.nntp_said.specs.Asks.{Ask}
 use Rattle.nntp_theory.specs.{Given.{shows, denies, is_shown, is_denied, says_some, demand, join, wants, is_known}, declared.demand.Demand.{Demand}}
 use Rattle.nntp_theory.specs.{declared.demand.Demand.TheVariants.{NoDemand}, Together.{is_possible, MeetsDemand}, Inner.Together.{AsksStand}}
-use Rattle.nntp_theory.{specs.Inner.{Estimates.{estimate_in, is_within, is_within_all}, OneMore.{is_demanding}, Conflict.{AreApart}}, proofs.Members.{In}}
-use Rattle.nntp_theory.proofs.{Members.{any_in, found_in, all_both, all_back}, GivenNumbers.MetNumbersStand.{key_in, key_is, shown_known}}
+use Rattle.nntp_theory.{specs.Inner.{Estimates.{estimate_in, is_within, is_within_all}, OneMore.{is_demanding}, Conflict.{AreApart}}, proofs.Members.{any_in}}
+use Rattle.nntp_theory.proofs.{Members.{found_in, all_both, all_back}, GivenNumbers.MetNumbersStand.{key_in, key_is, shown_known}}
 use Rattle.nntp_theory.proofs.{GivenNumbers.JoinedDemands.{demand_append}, Maps.{key_map, in_key_map, of_key_map, sorted_keys}}
 use Rattle.nntp_numbers.specs.{declared.shown.HowMany.{HowMany}, Inner.Part.{join_ends, ends_of, is_end_of, is_one_of, Said, part_denies, IsRegular, Says}}
 use Rattle.nntp_numbers.specs.Inner.Summary.{Summary, has, IsSummary, AreBounded, shown_after, says_some_after, ends_after, known_after, denied_after}
@@ -28,12 +28,7 @@ map_of ns = key_map nat_cmp nat_cmp_total nat_cmp-IsAntisymmetric ns
 -- its numbers are these
 pub in_map_of : (ns : List ℕ) (n : ℕ) → IsNumber (map_of ns) n ↔ IsTrue (has ns n)
 unfolding map_of
-in_map_of ns n = (
-  λ i. any_in (eq_by_cmp nat_cmp n) n ns (of_key_map nat_cmp nat_cmp_total nat_cmp-IsAntisymmetric ns n (key_in (map_of ns) n i)) ((eq_by_cmp_equiv nat_cmp_total).refl n),
-  λ t.
-      let f = found_in (eq_by_cmp nat_cmp n) ns t in
-      key_is (map_of ns) n (in_key_map nat_cmp nat_cmp_total nat_cmp-IsAntisymmetric ns n (subst (λ k. In k ns) (sym (tells_apart exact_unsigned n f.0 f.2)) f.1)),
-)
+in_map_of ns n = grind (arith, any_in, of_key_map, nat_cmp-IsAntisymmetric, key_in, map_of, found_in, key_is, in_key_map, tells_apart, exact_unsigned)
 
 -- as many
 pub len_map_of : (ns : List ℕ) → IsStrictlySortedBy nat_cmp ns → len (map_of ns) ≡ length ns
@@ -74,11 +69,7 @@ there_is_one (n ∷ ns) t = (n, or_left (n == n) (is_one_of ns n) (eq-eqb n n re
 
 -- what isn't denied by a part is below 2^64
 below : (p : Said) → IsRegular p → (n : ℕ) → part_denies p n ≡ false → n < 2 ^ 64
-below p regular n free =
-    let outside = or_parts (nat_lt n p.low || nat_lt p.high n) (is_between p.first p.last n && not (is_one_of p.numbers n)) free in
-    let above = or_parts (nat_lt n p.low) (nat_lt p.high n) outside.0 in
-    let high = regular.high in
-    elim (cases_lt p.high n) [ inl l ↦ absurd (true≢false (sym (lt-ltb p.high n l) ∙ above.1)) | inr g ↦ omega arith ]
+below p regular n free = grind arith
 
 module _ (s : Summary) (p : Said) (asks more : List Ask) (sum : IsSummary s asks) (says : Says p more) where
   shown_grows : (n : ℕ) → shown_after s.shown p.numbers n ≡ is_shown (asks ++ more) n
@@ -114,10 +105,7 @@ module _ (s : Summary) (p : Said) (asks more : List Ask) (sum : IsSummary s asks
 
   -- what is known then is known by the hull
   hull_grows : (n : ℕ) → known_after s p n ≡ is_known_by (asks ++ more) n
-  hull_grows n =
-      let end : is_end_of (ends_after s p) n ≡ (list_any says_some (asks ++ more) && is_end_of (ends_of (asks ++ more)) n) =
-      end_if (says_some_after s p) (join_ends s.ends p.ends) n ∙ (λ i. some_grows i && is_end_of (ends_grow i) n) in
-      λ i. shown_grows n i || end i
+  hull_grows n = grind (arith, end_if, some_grows, ends_grow, shown_grows)
 
   module _ (bounded : AreBounded (asks ++ more)) where
     -- the first free number
@@ -165,15 +153,12 @@ module _ (s : Summary) (p : Said) (asks more : List Ask) (sum : IsSummary s asks
       settles : (d : Demand) (w : HowMany) (f : Option ℕ) (c : ℕ) (e : Option ℕ) → LooksAfter s p d w f c e → IsTrue (is_settled d w f c e) ↔ AsksStand (asks ++ more)
       settles d w f c e l =
           settled (asks ++ more) d w f c e (looks known_grows d w f c e l)
-          (all_both (λ ask. IsTrue (is_possible ask)) asks more stand.possible
-          (are_possible more (sym says.possibly ∙ agrees.can_be))) apart
+          (grind (arith, all_both, are_possible)) apart
 
     -- and back
     module _ (grown : AsksStand (asks ++ more)) where
       free_then : (n : ℕ) → known_after s p n ≡ true → denied_after s.denied p n ≡ false
-      free_then n t =
-          let free = grown.not_denied n (inl (stands_by_hull (asks ++ more) grown n ∙ sym (hull_grows n) ∙ t)) in
-          elim (cases_lt n (2 ^ 64)) [ inl lt ↦ denied_grows n lt ∙ free | inr ge ↦ absurd (true≢false (sym (bounded n ge) ∙ free)) ]
+      free_then n t = grind (arith, stands_by_hull, hull_grows, cases_lt, denied_grows, true≢false)
 
       free_shown : (n : ℕ) → shown_after s.shown p.numbers n ≡ true → denied_after s.denied p n ≡ false
       free_shown n t = free_then n (or_left (shown_after s.shown p.numbers n) (is_end_of (ends_after s p) n) t)
@@ -196,16 +181,10 @@ Tells b s p = (asks more : List Ask) → IsSummary s asks → AsksStand asks →
 
 pub joins_then : (s v : Summary) (p : Said) (b : Bool) (d : Demand) (w : HowMany) (f : Option ℕ) (c : ℕ) (e : Option ℕ) → v ≡ s → b ≡ is_settled d w f c e
     → AgreesWith v.shown v.denied p → AreOpen v.denied p (ends_after v p) → LooksAfter v p d w f c e → Tells b s p
-joins_then s v p b d w f c e view is agrees open_ends l =
-    subst (λ s. Tells b s p) view (subst (λ b. Tells b v p) (sym is) (λ asks more sum stand bounded says. settles v p asks more sum says bounded stand agrees open_ends d w f c e l))
+joins_then s v p b d w f c e view is agrees open_ends l = grind (arith, settles)
 
 pub joins_else : (s v : Summary) (p : Said) (b : Bool) → v ≡ s → b ≡ false → (AgreesWith v.shown v.denied p → AreOpen v.denied p (ends_after v p) → ⊥) → Tells b s p
-joins_else s v p b view is not_open =
-    subst (λ s. Tells b s p) view (λ asks more sum stand bounded says. (
-      λ t. absurd (true≢false (sym t ∙ is)),
-      λ grown. absurd
-          (not_open (agrees_then v p asks more sum says bounded grown) (open_then v p asks more sum says bounded grown)),
-    ))
+joins_else s v p b view is not_open = grind (arith, true≢false, agrees_then, open_then)
 
 -- what is kept with the part is kept of all with the asks
 pub added : (s v : Summary) (p : Said) (t : Summary) → v ≡ s → ((n : ℕ) → has t.shown n ≡ shown_after v.shown p.numbers n) → (IsStrictlySortedBy nat_cmp v.shown → IsStrictlySortedBy nat_cmp t.shown)
@@ -213,15 +192,7 @@ pub added : (s v : Summary) (p : Said) (t : Summary) → v ≡ s → ((n : ℕ) 
     → ((n : ℕ) → is_within t.estimate n ≡ (is_within v.estimate n && is_within p.estimate n))
     → t.ends ≡ join_ends v.ends p.ends
     → t.demand ≡ join v.demand p.demand → (asks more : List Ask) → IsSummary s asks → Says p more → IsSummary t (asks ++ more)
-added s v p t view shown up denied estimate ends demand =
-    subst (λ s. (asks more : List Ask) → IsSummary s asks → Says p more → IsSummary t (asks ++ more)) view (λ asks more sum says. record {
-      ascends = up sum.ascends;
-      shown = λ n. shown n ∙ shown_grows v p asks more sum says n;
-      denied = λ n small. denied says.regular n small ∙ denied_grows v p asks more sum says n small;
-      estimate = estimate_grows v p asks more sum says t.estimate estimate;
-      ends = ends ∙ ends_grow v p asks more sum says;
-      demand = demand ∙ demand_grows v p asks more sum says;
-    })
+added s v p t view shown up denied estimate ends demand = grind (arith, shown_grows, denied_grows, estimate_grows, ends_grow, demand_grows)
 
 -- ---- what is said first
 

@@ -1,6 +1,6 @@
 -- How many of some ascending numbers pass a test.
-use Rattle.std.proofs.{Common.{◌≡◌, ◌≢◌, ℕ, Bool, true, false, ◌&&◌, ◌||◌, ◌==◌, List, [], ◌∷◌, refl, sym, ap, subst, ◌∙◌, inl, inr}, lemmas.Bool.{true≢false}}
-use Rattle.std.proofs.lemmas.{Bool.{and_parts, and_from, or_left, or_right, or_cases, eq-eqb, eqb-true}, List.Kept.{IsStrictlySortedBy-filter}}
+use Rattle.std.proofs.Common.{◌≡◌, ◌≢◌, ℕ, Bool, true, false, ◌&&◌, ◌||◌, ◌==◌, List, [], ◌∷◌, refl, sym, ap, subst, ◌∙◌, inl, inr, arith}
+use Rattle.std.proofs.lemmas.{Bool.{true≢false, and_parts, and_from, or_left, or_right, or_cases, eq-eqb, eqb-true}, List.Kept.{IsStrictlySortedBy-filter}}
 use Rattle.std.{proofs.lemmas.Map.{Views.{tells_apart, any-filter_same}, Lookups.{exact_unsigned}}, specs.List.{filter, Sorted.{IsStrictlySortedBy}}}
 use Rattle.std.specs.{declared.cmp.Ordering.TheVariants.{Less}, Ordering.{nat_cmp, eq_by_cmp, is_eq}, Cmp.{nat_cmp_total, eq_by_cmp_equiv}, BTreeMap.{is_at}}
 use Rattle.nntp_numbers.specs.{Inner.Summary.{has, PassSoMany, and_one}, declared.shown.HowMany.{HowMany, TheVariants.{Absent, Single, Several}}}
@@ -58,10 +58,4 @@ and_one_found p n Single (a, here, once) fresh =
 and_one_found p n Several (a, b, apart, at, bt) fresh = (a, b, apart, or_left (p a) (n == a) at, or_left (p b) (n == b) bt)
 
 pub parted : (a w b : Bool) → (b ≡ true → w ≡ true) → ((a && w) || b) ≡ ((a || b) && w)
-parted true true b h = refl
-parted true false true h = sym (h refl)
-parted true false false h = refl
-parted false true true h = refl
-parted false true false h = refl
-parted false false true h = sym (h refl)
-parted false false false h = refl
+parted a w b h = grind arith

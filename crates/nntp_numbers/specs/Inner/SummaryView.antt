@@ -2,7 +2,6 @@
 use Rattle.std.specs.{Prelude.{ℕ, Option, None, Some, ◌≡◌, refl}, Coded.{Coded, code_by, coded×, coded_ℕ, coded_list, coded_option}}
 use Rattle.nntp_theory.specs.declared.demand.Demand.{Demand, TheVariants.{NoDemand, NotEmpty, OnlyOne, SecondIs, Impossible}}
 use Rattle.nntp_numbers.specs.{declared.ends.Ends.{Ends}, Inner.Summary.{Summary}}
-use Rattle.std.specs.FinMap as map
 
 -- a demand as one of five
 abbrev pub of_demand : Demand → Option (Option (Option (Option ℕ)))
