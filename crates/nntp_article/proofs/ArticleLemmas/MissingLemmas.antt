@@ -34,10 +34,4 @@ pub still-more : (before now : Missing) (header : Header) (headers : List Header
     → now.message_id ≡ (before.message_id && not (is_named (codes "Message-ID") header))
     → now.path ≡ (before.path && not (is_named (codes "Path") header))
     → still now headers ≡ still before (header ∷ headers)
-still-more before now header headers p q r s t u = same_flags
-    (lacks-more before.from now.from (codes "From") header headers p)
-    (lacks-more before.date now.date (codes "Date") header headers q)
-    (lacks-more before.newsgroups now.newsgroups (codes "Newsgroups") header headers r)
-    (lacks-more before.subject now.subject (codes "Subject") header headers s)
-    (lacks-more before.message_id now.message_id (codes "Message-ID") header headers t)
-    (lacks-more before.path now.path (codes "Path") header headers u)
+still-more before now header headers p q r s t u = grind (arith, same_flags, lacks-more)

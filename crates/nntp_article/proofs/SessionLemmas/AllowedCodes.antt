@@ -1,9 +1,7 @@
 -- The allowed codes fit.
-use Rattle.std.proofs.Common.{◌≡◌, ℕ, Bool, true, false, ◌==◌, IsTrue, IsFalse, Option, None, Some, List, [], ◌∷◌, inl, inr, refl, sym, subst}
-use Rattle.std.{proofs.lemmas.Bool.{or_cases, eqb-true, true≢false}, specs.{Prelude.{⊤}, FinMap.{FinMap}, Ordering.{nat_cmp}, Cmp.Lexicographic.{slice_cmp}}}
-use Rattle.nntp_wire.specs.{Answer.{Asked, greeting, to, plain}, declared.command.What.{What, TheVariants.{Article, Head, Body, Stat}}, Command.{Target, by_id}}
-use Rattle.nntp_wire.specs.Command.{by_number, current, capabilities, mode_reader, quit, opaque, ill_formed, group, list_group, next, last, retrieve}
-use Rattle.nntp_wire.specs.Command.{list_active}
+use Rattle.std.proofs.{Common.{◌≡◌, ℕ, Bool, true, false, ◌==◌, IsTrue, IsFalse, Option, List, [], ◌∷◌, inl, inr, sym, subst, arith}, lemmas.Bool.{or_cases}}
+use Rattle.std.{proofs.lemmas.Bool.{eqb-true, true≢false}, specs.{Prelude.{⊤}, FinMap.{FinMap}, Ordering.{nat_cmp}, Cmp.Lexicographic.{slice_cmp}}}
+use Rattle.nntp_wire.specs.Answer.{Asked, plain}
 use Rattle.nntp_article.specs.{Session.{Spool.{Name}, Machine.{Visible, is_one_of, fits}, Misfit.{allowed_codes}}, Inner.Misfit.{is_success}}
 use Rattle.nntp_article.specs.declared.session.profile.Profile.{Profile}
 
@@ -25,42 +23,8 @@ module _ (profile : Profile) (closed : Bool) (lows : FinMap (slice_cmp nat_cmp) 
   abbrev with_selected : Option Name → Visible
   with_selected selected = record { closed = closed; selected = selected; lows = lows }
 
-  retrieved : (what : What) (selected : Option Name) (which : Target)
-      → Each (Fits profile (with_selected selected) (to (retrieve what which))) (allowed_codes (with_selected selected) (to (retrieve what which)))
-  retrieved Article selected (by_id word) = (λ e. absurd (true≢false e), (λ e. refl, tt))
-  retrieved Head selected (by_id word) = (λ e. absurd (true≢false e), (λ e. refl, tt))
-  retrieved Body selected (by_id word) = (λ e. absurd (true≢false e), (λ e. refl, tt))
-  retrieved Stat selected (by_id word) = (λ e. absurd (true≢false e), (λ e. refl, tt))
-  retrieved what None (by_number None) = (λ e. refl, tt)
-  retrieved what (Some name) (by_number None) = (λ e. refl, tt)
-  retrieved what None (by_number (Some n)) = (λ e. refl, tt)
-  retrieved Article (Some name) (by_number (Some n)) = (λ e. absurd (true≢false e), (λ e. refl, tt))
-  retrieved Head (Some name) (by_number (Some n)) = (λ e. absurd (true≢false e), (λ e. refl, tt))
-  retrieved Body (Some name) (by_number (Some n)) = (λ e. absurd (true≢false e), (λ e. refl, tt))
-  retrieved Stat (Some name) (by_number (Some n)) = (λ e. absurd (true≢false e), (λ e. refl, tt))
-  retrieved what None current = (λ e. refl, tt)
-  retrieved Article (Some name) current = (λ e. absurd (true≢false e), (λ e. refl, tt))
-  retrieved Head (Some name) current = (λ e. absurd (true≢false e), (λ e. refl, tt))
-  retrieved Body (Some name) current = (λ e. absurd (true≢false e), (λ e. refl, tt))
-  retrieved Stat (Some name) current = (λ e. absurd (true≢false e), (λ e. refl, tt))
-
   each_allowed : (selected : Option Name) (asked : Asked) → Each (Fits profile (with_selected selected) asked) (allowed_codes (with_selected selected) asked)
-  each_allowed selected greeting = (λ e. refl, (λ e. refl, (λ e. refl, (λ e. refl, tt))))
-  each_allowed selected (to capabilities) = (λ e. refl, tt)
-  each_allowed selected (to mode_reader) = (λ e. refl, (λ e. refl, tt))
-  each_allowed selected (to quit) = (λ e. refl, tt)
-  each_allowed selected (to (group word)) = (λ e. absurd (true≢false e), (λ e. refl, tt))
-  each_allowed None (to (list_group None range)) = (λ e. refl, tt)
-  each_allowed (Some name) (to (list_group None range)) = (λ e. absurd (true≢false e), tt)
-  each_allowed selected (to (list_group (Some word) range)) = (λ e. absurd (true≢false e), (λ e. refl, tt))
-  each_allowed None (to next) = (λ e. refl, tt)
-  each_allowed (Some name) (to next) = (λ e. absurd (true≢false e), (λ e. refl, (λ e. refl, tt)))
-  each_allowed None (to last) = (λ e. refl, tt)
-  each_allowed (Some name) (to last) = (λ e. absurd (true≢false e), (λ e. refl, (λ e. refl, tt)))
-  each_allowed selected (to (retrieve what which)) = retrieved what selected which
-  each_allowed selected (to (list_active p)) = (λ e. absurd (true≢false e), tt)
-  each_allowed selected (to opaque) = (λ e. refl, tt)
-  each_allowed selected (to ill_formed) = tt
+  each_allowed selected asked = grind arith
 
 pub allowed_fits : (profile : Profile) (v : Visible) (asked : Asked) (code : ℕ)
     → IsTrue (is_one_of (allowed_codes v asked) code) → IsFalse (is_success asked code) → IsTrue (fits profile v asked (plain code))

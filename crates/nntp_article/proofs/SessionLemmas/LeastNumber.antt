@@ -6,9 +6,7 @@ use Rattle.std.specs.FinMap.{keys, Entries.{below_all}}
 -- a number below all keys is below each that is found
 below_found : {X : Type 0} (x : ℕ) (es : List (ℕ × X)) (m : ℕ) → T (below_all nat_cmp x es) → IsSome (find nat_cmp m es) → x < m
 below_found x [] m h s = grind (arith, nat_tests)
-below_found x (e ∷ es) m h s =
-    let rest = below_found x es m in
-    grind (arith, nat_tests, rest, unsigned_tied m e.0)
+below_found x (e ∷ es) m h s = grind (arith, nat_tests, below_found x es m)
 
 pub first_of : {X : Type 0} (es : List (ℕ × X)) → T (is_sorted nat_cmp es)
     → MatchOption (slice_get (map (λ e. e.0) es) 0) ((m : ℕ) → find nat_cmp m es ≡ None)

@@ -1,13 +1,11 @@
 -- What is left of a list that is gone through, and what is in front of that.
-use Rattle.std.proofs.Common.{◌≡◌, ℕ, ◌+◌, ◌<◌, ◌≤◌, List, [], ◌∷◌, ◌++◌, length, map, take, drop, get_or, drop-cons, add-one, ap, sym, ◌∙◌}
+use Rattle.std.proofs.Common.{◌≡◌, ℕ, ◌+◌, ◌<◌, ◌≤◌, List, [], ◌∷◌, ◌++◌, length, map, take, drop, get_or, drop-cons, add-one, ap, sym, ◌∙◌, arith}
 use Rattle.std.proofs.lemmas.List.{drop_all, take_more, map-append}
 
 module _ {X Y : Type 0} (value : X → Y) (xs : List X) (i : ℕ) where
   -- the next value is the first that is left
   pub next_left : (x : X) → i < length xs → x ≡ get_or xs i x → map value (drop i xs) ≡ value x ∷ map value (drop (i + 1) xs)
-  next_left x within is =
-      let next : drop i xs ≡ get_or xs i x ∷ drop (i + 1) xs = rw add-one (drop-cons xs i x within) in
-      ap (map value) next ∙ ap (λ y. value y ∷ map value (drop (i + 1) xs)) (sym is)
+  next_left x within is = grind (arith, add-one, drop-cons)
 
   -- at the end none is
   pub none_left : length xs ≤ i → map value (drop i xs) ≡ []

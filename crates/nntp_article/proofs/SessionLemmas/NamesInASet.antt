@@ -1,7 +1,7 @@
 -- Names that are put into a set, one after the other.
-use Rattle.std.proofs.{Common.{◌≡◌, Bool, true, false, not, List, [], ◌∷◌, Some, map, refl, sym, ap, ◌∙◌}, lemmas.Bool.{true≢false}}
-use Rattle.std.{proofs.lemmas.Map.Text.{is_eq-slice_cmp}, specs.{Prelude.{◌||◌, if◌then◌else◌}, Borrow.{Bor}, declared.cmp.Ordering.{Ordering}}}
-use Rattle.std.specs.{Ordering.{nat_cmp, is_eq}, Cmp.Lexicographic.{slice_cmp}, List.{list_any}, BTreeSet.{insert_key}}
+use Rattle.std.proofs.{Common.{◌≡◌, Bool, true, false, not, List, [], ◌∷◌, Some, map, refl, sym, ap, ◌∙◌, arith}, lemmas.Map.Text.{is_eq-slice_cmp}}
+use Rattle.std.specs.{Prelude.{◌||◌, if◌then◌else◌}, Borrow.{Bor}, declared.cmp.Ordering.{Ordering}, Ordering.{nat_cmp, is_eq}, Cmp.Lexicographic.{slice_cmp}}
+use Rattle.std.specs.{List.{list_any}, BTreeSet.{insert_key}}
 use Rattle.nntp_wire.specs.Listing.{ActiveValue}
 use Rattle.nntp_article.{specs.Session.{Spool.{Name}, Machine.{is_same}, Misfit.{listed_twice, twice_misfit}}, proofs.SessionLemmas.SetKeys.{any-insert_key}}
 use Rattle.nntp_article.proofs.SessionLemmas.Misfits.{twice_by_names}
@@ -9,13 +9,11 @@ use Rattle.std.specs.FinMap as finite
 
 -- a name that wasn't added was there
 pub taken : (added b : Bool) → added ≡ not b → added ≡ false → b ≡ true
-taken added true e f = refl
-taken added false e f = absurd (true≢false (sym e ∙ f))
+taken added b e f = grind arith
 
 -- a name that was added wasn't there
 pub free : (added b : Bool) → added ≡ not b → added ≡ true → b ≡ false
-free added true e f = absurd (true≢false (sym f ∙ e))
-free added false e f = refl
+free added b e f = grind arith
 
 abbrev ref_cmp : Bor Name → Bor Name → Ordering
 ref_cmp a b = slice_cmp nat_cmp a.now b.now
@@ -51,7 +49,4 @@ module _ (v : ActiveValue) (lines : List ActiveValue) (old : List (Bor Name)) (k
 
   pub twice_later : (new : List (Bor Name)) → list_any (λ x. is_eq (slice_cmp nat_cmp k.now x.now)) old ≡ false → new ≡ insert_key ref_cmp old k
       → twice_misfit (names_in new) lines ≡ twice_misfit (names_in old) (v ∷ lines)
-  twice_later new e put = sym (
-      ap (λ b. if b then Some (listed_twice v.name) else twice_misfit (v.name ∷ names_in old) lines) (sym found ∙ e)
-      ∙ twice_by_names (v.name ∷ names_in old) (names_in new) lines
-      (λ name. ap (λ b. is_same name v.name || b) (any_in name old) ∙ ap (λ n. is_same name n || has_name old name) (sym is) ∙ sym (has_more name old new k put) ∙ sym (any_in name new)))
+  twice_later new e put = grind (arith, found, twice_by_names, any_in, has_more)

@@ -1,15 +1,9 @@
 -- A test over the keys of a set, once one was put among them.
-use Rattle.std.{proofs.Common.{◌≡◌, Bool, true, false, List, [], ◌∷◌, refl, ap, ◌∙◌}, specs.declared.cmp.Ordering.{Ordering, TheVariants.{Less, Equal}}}
-use Rattle.std.specs.{declared.cmp.Ordering.TheVariants.{Greater}, Prelude.{◌||◌}, Ordering.{match_ordering}, List.{list_any}, BTreeSet.{insert_key}}
+use Rattle.std.{proofs.Common.{◌≡◌, Bool, List, [], ◌∷◌, refl, arith}, specs.{declared.cmp.Ordering.{Ordering, TheVariants.{Equal}}, Prelude.{◌||◌}}}
+use Rattle.std.specs.{Ordering.{match_ordering}, List.{list_any}, BTreeSet.{insert_key}}
 
 pub or_swap : (a b c : Bool) → (a || (b || c)) ≡ (b || (a || c))
-or_swap true true c = refl
-or_swap true false c = refl
-or_swap false b c = refl
-
-or_again : (a b : Bool) → (a || b) ≡ (a || (a || b))
-or_again true b = refl
-or_again false b = refl
+or_swap a b c = grind arith
 
 pub any-insert_key : {K : Type 0} (R : K → K → Ordering) (t : K → Bool) (k : K) (ks : List K) → ((x : K) → R k x ≡ Equal → t x ≡ t k) → list_any t (insert_key R ks k) ≡ (t k || list_any t ks)
 any-insert_key R t k [] same = refl
@@ -17,6 +11,4 @@ any-insert_key R t k (x ∷ ks) same = by (R k x) (same x) (any-insert_key R t k
   where
     by : (r : Ordering) → (r ≡ Equal → t x ≡ t k) → list_any t (insert_key R ks k) ≡ (t k || list_any t ks)
         → list_any t (match_ordering r (k ∷ x ∷ ks) (x ∷ ks) (x ∷ insert_key R ks k)) ≡ (t k || (t x || list_any t ks))
-    by Less same more = refl
-    by Equal same more = rw (same refl) (or_again (t k) (list_any t ks))
-    by Greater same more = ap (λ b. t x || b) more ∙ or_swap (t x) (t k) (list_any t ks)
+    by r same more = grind arith

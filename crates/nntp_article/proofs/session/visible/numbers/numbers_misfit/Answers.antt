@@ -1,5 +1,5 @@
-use Rattle.std.proofs.Common.{◌≡◌, ℕ, ◌<◌, ◌+◌, List, [], ◌∷◌, length, map, drop, drop-cons, get_or, add-one, slice_index_or, Option, None, Some, refl, sym, ap}
-use Rattle.std.{proofs.Common.{◌∙◌}, specs.Option.{option_or}}
+use Rattle.std.proofs.Common.{◌≡◌, ℕ, ◌<◌, ◌+◌, List, [], ◌∷◌, length, map, drop, drop-cons, get_or, add-one, Option, None, Some, refl, sym, ap, ◌∙◌}
+use Rattle.std.specs.Option.{option_or}
 use Rattle.nntp_wire.specs.{Reason.{first}, declared.range.Range.{Range}}
 use Rattle.nntp_article.specs.{Session.Misfit.{Misfit, step_misfit, order_misfit, listed_misfit}, Inner.MisfitView.{why_if}}
 use Rattle.nntp_article.proofs.SessionLemmas.Misfits.{why_or}
