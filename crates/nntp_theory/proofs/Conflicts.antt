@@ -77,9 +77,8 @@ all_told profile answers fits = record {
 -- what is told at a place is told by an answer
 told_there : (profile : Profile) (answers : List Placed) (k : ℕ) (fact : Fact) → AllByRecursion (FitsThere profile) answers → In fact (told_at profile answers k)
     → (a : Placed) × FitsThere profile a × (told_at profile answers k ≡ told profile a)
-told_there profile [] k fact fits i = absurd i
-told_there profile (a ∷ answers) zero fact fits i = (a, fits.0, refl)
 told_there profile (a ∷ answers) (suc k) fact fits i = told_there profile answers k fact fits.1 i
+told_there profile answers k fact fits i = grind arith
 
 -- what is told by an answer with those at the places
 pub with_told : (profile : Profile) (bad : Placed) (answers : List Placed) (places : List ℕ) → FitsThere profile bad
@@ -111,15 +110,12 @@ with_told profile bad answers places fit fits = record { source = λ fact i. by 
 -- the answers of a session that fits fit where they stand
 pub session_fits : (profile : Profile) (v : Visible) (at : Position) (ps : List Asked) (answers : List Response)
     → FitsAll profile v ps answers → AllByRecursion (FitsThere profile) (placed_from v at ps answers)
-session_fits profile v at [] answers f = tt
-session_fits profile v at (p ∷ ps) [] f = tt
 session_fits profile v at (p ∷ ps) (a ∷ more) f = ((v, refl, f.1), session_fits profile (visible_after v p a) (position_after at p a) ps more f.2)
+session_fits profile v at ps answers f = tt
 
 -- and what is told of them has what they say
 pub session_told : (profile : Profile) (S : Spool) (v : Visible) (at : Position) (ps : List Asked) (answers : List Response)
     → AllByRecursion (Holds S) (flat_map (told profile) (placed_from v at ps answers)) → AllByRecursion (Holds S) (facts_from profile.marks v at ps answers)
-session_told profile S v at [] answers h = tt
-session_told profile S v at (p ∷ ps) [] h = tt
 session_told profile S v at (p ∷ ps) (a ∷ more) h =
     let rest = flat_map (told profile) (placed_from (visible_after v p a) (position_after at p a) ps more) in
     let here : Placed = record { selected = v.selected; position = at; asked = p; response = a } in
@@ -127,6 +123,7 @@ session_told profile S v at (p ∷ ps) (a ∷ more) h =
     all_both (Holds S) (facts_of profile.marks v at p a) (facts_from profile.marks (visible_after v p a) (position_after at p a) ps more)
     (subst (AllByRecursion (Holds S)) (sym (there_said profile.marks here v refl)) (told_own profile S own (all_front (Holds S) (with_group profile own) rest h)))
     (session_told profile S (visible_after v p a) (position_after at p a) ps more (all_back (Holds S) (with_group profile own) rest h))
+session_told profile S v at ps answers h = tt
 
 -- ---- fewer facts
 
@@ -250,8 +247,6 @@ told_holds : (profile : Profile) (S : Spool) (all : List Fact) → IsSpool profi
     → AllByRecursion (Holds S) (facts_from profile.marks v at ps answers)
     → AllByRecursion (IsPlaced profile.marks all) (facts_from profile.marks v at ps answers)
     → AllByRecursion (Holds S) (flat_map (told profile) (placed_from v at ps answers))
-told_holds profile S all spool holds v at [] answers h p = tt
-told_holds profile S all spool holds v at (q ∷ ps) [] h p = tt
 told_holds profile S all spool holds v at (q ∷ ps) (a ∷ more) h p =
     let here : Placed = record { selected = v.selected; position = at; asked = q; response = a } in
     let own = said_there profile.marks here in
@@ -264,6 +259,7 @@ told_holds profile S all spool holds v at (q ∷ ps) (a ∷ more) h p =
     (told_holds profile S all spool holds (visible_after v q a) (position_after at q a) ps more
     (all_back (Holds S) (facts_of profile.marks v at q a) rest h)
     (all_back (IsPlaced profile.marks all) (facts_of profile.marks v at q a) rest p))
+told_holds profile S all spool holds v at ps answers h p = tt
 
 -- a session that fits is permitted exactly if some spool has what is told of it
 pub session_had : (profile : Profile) (ps : List Asked) (answers : List Response) → FitsAll profile start.visible ps answers

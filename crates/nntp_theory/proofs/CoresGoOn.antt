@@ -1,5 +1,5 @@
 -- What was found of a core stays so behind further answers.
-use Rattle.std.proofs.Common.{◌≡◌, ℕ, zero, suc, ◌+◌, ◌<◌, ◌≤◌, List, [], ◌∷◌, ◌++◌, Option, None, Some, length, length-append, slice_get, arith, refl, sym, ap}
+use Rattle.std.proofs.Common.{◌≡◌, ℕ, suc, ◌+◌, ◌<◌, ◌≤◌, List, [], ◌∷◌, ◌++◌, Option, None, Some, length, length-append, slice_get, arith, refl, sym, ap}
 use Rattle.std.{proofs.Common.{subst}, specs.{Prelude.{⊤, MatchOption}, List.{AllByRecursion, flat_map}, Option.{option_map_or}}}
 use Rattle.nntp_article.specs.declared.session.profile.Profile.{Profile}
 use Rattle.nntp_theory.specs.Conflict.{Placed, SomeHas, IsCore, IsEndOfCore, IsFound, Core, places_of, below, told, told_at, told_with}
@@ -8,9 +8,8 @@ use Rattle.nntp_theory.proofs.Members.{in_contains}
 
 -- the front of a list has its places
 pub in_front_of : {A : Type 0} (xs more : List A) (k : ℕ) → k < length xs → slice_get (xs ++ more) k ≡ slice_get xs k
-in_front_of [] more k l = absurd (omega (arith, l))
-in_front_of (x ∷ xs) more zero l = refl
 in_front_of (x ∷ xs) more (suc k) l = in_front_of xs more k (omega (arith, l))
+in_front_of xs more k l = grind arith
 
 -- places at which answers stand
 abbrev pub AreThere : {A : Type 0} → List A → List ℕ → Type 0

@@ -3,7 +3,7 @@ use Rattle.std.proofs.Common.{◌≡◌, ℕ, ◌≤◌, Bool, true, false, cond
 use Rattle.std.proofs.{Common.{sym, ap, subst, ◌∙◌, arith}, lemmas.{Bool.{and_parts}, Float.{T_from_true}, List.{length-map}}}
 use Rattle.std.{proofs.lemmas.Map.{Keys.{IsDistinct-from_sorted}, Made.{length-le_from_is_member}}, specs.List.{list_all, IsDistinct, AllByRecursion}}
 use Rattle.std.specs.{List.Sorted.{IsStrictlySortedBy}, declared.cmp.Ordering.{Ordering, TheVariants.{Less}}, Ordering.{eq_by_cmp, is_lt}, Cmp.{IsTotalOrder}}
-use Rattle.std.specs.{Cmp.{eq_by_cmp_equiv, Equal-is}, FinMap.{FinMap, get, len, find, is_sorted, keys, entries, entries_sorted, len-entries, get-entries}}
+use Rattle.std.specs.{Cmp.{eq_by_cmp_equiv}, FinMap.{FinMap, get, len, find, is_sorted, keys, entries, entries_sorted, len-entries, get-entries}}
 use Rattle.std.specs.FinMap.{contains_key-keys, from_entries, get-from_entries, from_sorted, entries-from_sorted, same_map, IsAntisymmetric}
 use Rattle.std.specs.FinMap.Entries.{below_all}
 use Rattle.nntp_theory.proofs.Members.{In, all_at, any_in, in_map, from_map}
@@ -70,8 +70,7 @@ entry_in same q v [] e = cc
 entry_in {R = R} same q v (x ∷ es) e = by (eq_by_cmp R q x.0) refl (λ e. entry_in same q v es e) e
   where
     by : (b : Bool) → eq_by_cmp R q x.0 ≡ b → (find R q es ≡ Some v → In (q, v) es) → cond b (Some x.1) (find R q es) ≡ Some v → In (q, v) (x ∷ es)
-    by true is rest e = inl (let k : q ≡ x.0 = same q x.0 ((Equal-is _).0 is) in let w : x.1 ≡ v = cc in λ i. (sym k i, w i))
-    by false is rest e = inr (rest e)
+    by b is rest e = grind arith
 
 -- ---- maps made of keys
 

@@ -1,6 +1,6 @@
 -- Membership by recursion, and what holds of each element of a list.
-use Rattle.std.proofs.Common.{◌≡◌, ◌+◌, ◌≤◌, zero, suc, length, length-append, map, ap, arith, Bool, ◌⊎◌, IsTrue, List, [], ◌∷◌, ◌++◌, Option, None, Some, inl}
-use Rattle.std.proofs.{Common.{inr, refl, sym, subst, ◌∙◌}, lemmas.{Bool.{or_left, or_right, or_cases, and_from, and_parts}, List.Folds.{list_any-append}}}
+use Rattle.std.proofs.Common.{◌≡◌, ◌+◌, ◌≤◌, suc, length, length-append, map, ap, arith, Bool, ◌⊎◌, IsTrue, List, [], ◌∷◌, ◌++◌, Option, None, Some, inl, inr}
+use Rattle.std.proofs.{Common.{refl, sym, subst, ◌∙◌}, lemmas.{Bool.{or_left, or_right, or_cases, and_from, and_parts}, List.Folds.{list_any-append}}}
 use Rattle.std.specs.{List.{AllByRecursion, list_any, list_all, flat_map}, Prelude.{Contains}, Option.{option_or}}
 use Rattle.nntp_article.proofs.SessionLemmas.FiniteMapsDecided.{Dec}
 use Rattle.nntp_said.specs.Facts.{Fact}
@@ -86,9 +86,8 @@ contains_in x (y ∷ ys) (inr i) = let c = contains_in x ys i in (suc c.0, let l
 
 -- and back
 pub in_contains : {A : Type 0} (x : A) (xs : List A) → Contains xs x → In x xs
-in_contains x [] (k, l, e) = absurd (omega arith)
-in_contains x (y ∷ ys) (zero, l, e) = inl e
 in_contains x (y ∷ ys) (suc k, l, e) = inr (in_contains x ys (k, omega arith, e))
+in_contains x xs h = grind arith
 
 -- an element that passes is found
 pub any_in : {A : Type 0} (p : A → Bool) (x : A) (xs : List A) → In x xs → IsTrue (p x) → IsTrue (list_any p xs)
@@ -154,9 +153,7 @@ dec_each_in P d [] = inl (λ x i. absurd i)
 dec_each_in {A} P d (x ∷ xs) = by (d x) (dec_each_in P d xs)
   where
     by : Dec (P x) → Dec ((y : A) → In y xs → P y) → Dec ((y : A) → In y (x ∷ xs) → P y)
-    by (inl p) (inl r) = inl (λ y i. elim i [ inl e ↦ subst P e p | inr j ↦ r y j ])
-    by (inl p) (inr m) = inr (λ h. m (λ y i. h y (inr i)))
-    by (inr n) r = inr (λ h. n (h x (inl refl)))
+    by h r = grind arith
 
 -- what is found in the front is found
 pub any_front : {A : Type 0} (p : A → Bool) (xs ys : List A) → IsTrue (list_any p xs) → IsTrue (list_any p (xs ++ ys))

@@ -6,7 +6,7 @@ use Rattle.std.specs.Cmp.Lexicographic.{same_text}
 use Rattle.nntp_wire.specs.declared.{command.What.{What}, marks.Marks.TheVariants.{Lenient}}
 use Rattle.nntp_article.{proofs.SessionLemmas.FiniteMapsDecided.{Dec, dec_some, dec_texts, dec_lists}, specs.{Article.Parts.{Id, Line}, Session.Spool.{Name}}}
 use Rattle.nntp_article.specs.{Session.{Spool.{Numbers, numbers}, Machine.{is_same}}, declared.session.profile.Profile.{Profile}}
-use Rattle.nntp_said.specs.{Asks.{Ask, Has, Bounds}, Facts.{Fact, ThereIs, ThereIsNo, Asks, IdAt, TextIs, NoArticle, GroupsAre}}
+use Rattle.nntp_said.specs.{Asks.{Ask}, Facts.{Fact, ThereIs, ThereIsNo, Asks, IdAt, TextIs, NoArticle, GroupsAre}}
 use Rattle.nntp_theory.specs.Given.{asks_in, asks_of, is_shown_group, shows_group, first_given, id_in, head_in, body_in, is_known, is_denied, demand}
 use Rattle.nntp_theory.specs.{Given.{IsGivenNumber, HasGivenNumbers}, Inner.{Given.{size}, Together.{IsWellFormed, Together}, Conflict.{FitsThere}}}
 use Rattle.nntp_theory.specs.{Together.{is_possible, MeetsDemand, IsFewFor, denies_group, number_in, shows_article, denies_article, GiveOne}, Conflict.{Placed}}
@@ -87,10 +87,9 @@ module _ (facts : List Fact) where
   each_group C P test = or_next (each C (OfShown P) facts of) (λ all. inr (λ name t. let f = found_in (shows_group name) facts t in by name f.0 (all_at (OfShown P) f.0 facts all f.1) f.2))
     where
       of : (fact : Fact) → In fact facts → C ⊎ OfShown P fact
-      of (ThereIs name) i = test name (any_in (shows_group name) (ThereIs name) facts i (same_itself name))
       of (GroupsAre p lines) i = each C (λ line. P line.name) lines (λ line j. test line.name
           (any_in (shows_group line.name) (GroupsAre p lines) facts i (any_in (λ other. is_same other.name line.name) line lines j (same_itself line.name))))
-      of fact i = inr tt
+      of fact i = grind (arith, any_in, same_itself)
 
       by : (name : Name) (fact : Fact) → OfShown P fact → shows_group name fact ≡ true → P name
       by name (ThereIs g) s t = subst P (same_text g name (sym t)) s
@@ -112,12 +111,7 @@ module _ (facts : List Fact) where
         unless b ask out = ap (λ b. cond b (ask ∷ []) []) (false_from_ne_true b out)
 
         by : (fact : Fact) → In fact facts → IsPlaced Lenient facts fact → asks_in name fact ≡ []
-        by (Asks g ask) i p = unless (is_same g name) ask (λ t. true≢false (sym (shown_of name g p.there t) ∙ hidden))
-        by (IdAt g n id) i p = unless (is_same g name) (Has n) (λ t. true≢false (sym (shown_of name g p.there t) ∙ hidden))
-        by (GroupsAre w lines) i p = flat_none (λ line. cond (is_same line.name name) (Bounds line.low line.high ∷ []) []) lines
-            (λ line j. unless (is_same line.name name) (Bounds line.low line.high)
-            (λ t. true≢false (sym (any_in (shows_group name) (GroupsAre w lines) facts i (any_in (λ other. is_same other.name name) line lines j t)) ∙ hidden)))
-        by fact i p = refl
+        by fact i p = grind (arith, unless, true≢false, shown_of, flat_none, any_in)
 
     -- of what is asked of a group the one is so, or of each the other is
     each_asked : (C : Type 0) (P : List Ask → Type 0) → P [] → ((name : Name) → IsTrue (is_shown_group facts name) → C ⊎ P (asks_of name facts)) → C ⊎ ((name : Name) → P (asks_of name facts))
@@ -250,8 +244,7 @@ module _ (facts : List Fact) where
     heads below = each_text head_in other_head silent FirstPoint (λ id c. (HeadOf id, record { conflict = c; first = below }))
       where
         silent : (id : Id) (fact : Fact) → IsNoText fact → head_in id fact ≡ None
-        silent id (TextIs what other lines) n = absurd n
-        silent id fact n = refl
+        silent id fact n = grind arith
 
     bodies : Below 9 → FirstPoint ⊎ ((id : Id) → GiveOne (body_in id) facts)
     bodies below = each_text body_in other_body silent FirstPoint (λ id c. (BodyOf id, record { conflict = c; first = below }))
@@ -287,10 +280,7 @@ module _ (facts : List Fact) where
         or_next (bodies b9) (λ b. inr (together s g k c m i p a h b)))))))))))
       where
         possible : (asks : List Ask) → IsFalse (list_any (λ ask. not (is_possible ask)) asks) → AllByRecursion (λ ask. IsTrue (is_possible ask)) asks
-        possible asks none = all_from (λ ask. IsTrue (is_possible ask)) asks (λ ask i. elim (cases_Bool (is_possible ask)) [
-          | inl t ↦ t
-          | inr f ↦ absurd (true≢false (sym (any_in (λ ask. not (is_possible ask)) ask asks i (ap not f)) ∙ none))
-        ])
+        possible asks none = grind (arith, all_from, cases_Bool, true≢false, any_in)
 
         together : ((name : Name) → IsFalse (list_any (λ ask. not (is_possible ask)) (asks_of name facts)))
             → ((name : Name) → IsTrue (is_shown_group facts name) → IsFalse (list_any (denies_group name) facts))

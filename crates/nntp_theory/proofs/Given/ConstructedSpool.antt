@@ -167,8 +167,7 @@ module _ (limit : ℕ) (B : ℕ) (facts : List Fact) where
   )
     where
       listed : (o : Option ℕ) → In n (option_to_list o) → o ≡ Some n
-      listed None i = absurd i
-      listed (Some m) i = elim i [ inl e ↦ ap Some e | inr j ↦ absurd j ]
+      listed o i = grind arith
 
   -- the numbers of a group are the given ones
   pub made_given : (name : Name) → ((e : ℕ) → IsOneMore (asks_of name facts) e → e ≤ limit) → IsGroup made name → HasGivenNumbers (asks_of name facts) (numbers made name)
@@ -247,8 +246,7 @@ module _ (limit : ℕ) (B : ℕ) (facts : List Fact) where
   )
     where
       by : (o : Option Text) → get made.articles id ≡ o → IsSome o → In id made_ids
-      by None e i = cc
-      by (Some t) e i = (get-made_of nat_list_cmp_total names_apart text_for made_ids id t e).0
+      by o e i = grind (arith, get-made_of, names_apart, text_for, made_ids)
 
   -- and the articles are the given ones
   pub made_text : (id : Id) (t : Text) → get made.articles id ≡ Some t

@@ -33,9 +33,8 @@ group_of_number S name n i = by (get S.groups name) refl i
 
 -- where there is an empty line, the parts make the whole
 pub parts_joined : (lines : List Line) → list_any is_empty lines ≡ true → lines ≡ head_part lines ++ [] ∷ body_part lines
-parts_joined [] t = cc
-parts_joined ([] ∷ lines) t = refl
 parts_joined ((c ∷ cs) ∷ lines) t = ap (λ ls. (c ∷ cs) ∷ ls) (parts_joined lines t)
+parts_joined lines t = cc
 
 -- what one of the facts gives is what the first gives
 pub one_given : {A : Type 0} (f : Fact → Option A) (facts : List Fact) → GiveOne f facts → (fact : Fact) → In fact facts → (x : A) → f fact ≡ Some x → first_given f facts ≡ Some x
@@ -108,8 +107,7 @@ module _ (profile : Profile) (B : ℕ) (G : Spool) (facts : List Fact) (s : Sett
       by None is = inr (is, unshown_is name n id e is)
       by (Some other) is =
           let have = s.given.ids_shown name n other (ap is_some e) is in
-          let same : other ≡ id = (let q : Some other ≡ Some id = sym have ∙ e in cc) in
-          inl (is ∙ ap Some same)
+          grind arith
 
   -- an id that is shown is that of one of the facts
   pub shown_at : (name : Name) (n : ℕ) (id : Id) → id_shown facts name n ≡ Some id → ShownAt facts name n id
@@ -121,12 +119,7 @@ module _ (profile : Profile) (B : ℕ) (G : Spool) (facts : List Fact) (s : Sett
           one : (a b : Bool) → (m == n) ≡ b → cond (a && b) (Some other) None ≡ Some id
               → (cond (a && is_same other id) (Some m) None ≡ Some n) × (is_same other id ≡ true) × (is_same other id ≡ true)
               × (IsMessageId other → IsMessageId id)
-          one true true is e =
-              let same : other ≡ id = cc in
-              let own : is_same other id ≡ true = subst (λ x. is_same other x ≡ true) same (same_itself other) in
-              (ap (λ b. cond b (Some m) None) own ∙ ap Some (eqb-true m n is), own, own, λ h. subst IsMessageId same h)
-          one true false is e = cc
-          one false b is e = cc
+          one a b is e = grind (arith, same_itself, eqb-true)
       by fact e = cc
 
   -- an id that a fact shows to have an article isn't denied
@@ -216,8 +209,7 @@ module _ (profile : Profile) (B : ℕ) (G : Spool) (facts : List Fact) (s : Sett
       ])
     where
       given_shows : (id : Id) (fact : Fact) → gives_article id fact ≡ true → shows_article id fact ≡ true
-      given_shows id (TextIs what other lines) t = t
-      given_shows id fact t = cc
+      given_shows id fact t = grind arith
   fact_holds (GroupsAre p lines) i f g = lines_hold p lines i f
 
   -- all that is said holds of G

@@ -1,17 +1,16 @@
 -- The spool that is given is a spool.
 use Rattle.std.specs.{Ordering.{nat_cmp}, Prelude.{unwrap_or}, List.{AllByRecursion, list_any}, Option.{option_map_or}, FinMap.{get, len, empty_of_len}}
-use Rattle.std.{specs.{FinMap.{get-empty}, Cmp.Lexicographic.{same_text}}, proofs.Common.{◌≡◌, ℕ, ◌≤◌, Bool, true, false, cond, ◌&&◌, IsTrue, List, [], ◌∷◌}}
-use Rattle.std.proofs.{Common.{◌++◌, Option, None, Some, is_some, IsSome, inl, inr, refl, sym, ap, subst, ◌∙◌, arith}, lemmas.Bool.{true≢false, and_parts}}
-use Rattle.std.proofs.lemmas.{Bool.{or_cases, cases_eq}, List.Elements.{All-from_recursion}}
+use Rattle.std.{specs.{FinMap.{get-empty}, Cmp.Lexicographic.{same_text}}, proofs.Common.{◌≡◌, ℕ, ◌≤◌, Bool, true, false, cond, IsTrue, List, [], ◌∷◌, ◌++◌}}
+use Rattle.std.proofs.{Common.{Option, None, Some, is_some, IsSome, inl, inr, refl, sym, ap, subst, ◌∙◌, arith}, lemmas.Bool.{true≢false, and_parts, or_cases}}
+use Rattle.std.proofs.lemmas.{Bool.{cases_eq}, List.Elements.{All-from_recursion}}
 use Rattle.nntp_theory.proofs.{GivenNumbers.LeastNumber.{not_number}, Together.FewEnough.{within_one}, Given.{ShownNames.{shown_named}, GivenHolds.{Setting}}}
 use Rattle.nntp_theory.proofs.{Given.GivenHolds.{one_given, group_of_number, id_cases, shown_at, unshown_once}, Members.{In, all_at, all_both, any_in}}
 use Rattle.nntp_theory.proofs.{Members.{found_in, first_found}, Ids.PlainHead.{plain_says, plain_is_head, plain_is_clean}, Session.FittingFacts.{IsFitting}}
 use Rattle.nntp_theory.{proofs.Session.NumbersWithinLimit.{free_in_limit, shown_in_limit, end_in_limit}, specs.Given.{mentions, is_mentioned, gives_article}}
 use Rattle.nntp_theory.specs.Given.{id_shown, first_given, head_in, body_in, plain_head, asks_of, is_shown, is_given_end, says_some}
 use Rattle.nntp_theory.specs.{Inner.Together.{IsWellFormed}, Together.{number_in, IsFewFor}}
-use Rattle.nntp_article.specs.{Article.Parts.{is_empty, is_head, said_id, head_part, body_part, Id, Line}, Session.Spool.{Spool, Text, IsNumber, IsGroup}}
-use Rattle.nntp_article.specs.Session.{Spool.{numbers, IsSpool, Name, is_line, Numbers}, Machine.{is_same, says_own_id}}
-use Rattle.nntp_article.specs.declared.session.profile.Profile.{Profile}
+use Rattle.nntp_article.specs.{Article.Parts.{is_head, said_id, head_part, body_part, Id, Line}, Session.Spool.{Spool, Text, IsNumber, IsGroup, numbers}}
+use Rattle.nntp_article.specs.{Session.{Spool.{IsSpool, Name, is_line, Numbers}, Machine.{is_same, says_own_id}}, declared.session.profile.Profile.{Profile}}
 use Rattle.nntp_said.specs.Facts.{Fact, TextIs}
 use Rattle.nntp_wire.specs.{Name.{IsGroupName, IsMessageId}, declared.command.What.TheVariants.{Article, Head, Body}}
 
@@ -23,15 +22,13 @@ record IsHeadOf (id : Id) (head : List Line) : Type 0 where
 
 -- what holds of lines holds of those of the head
 head_lines : (P : Line → Type 0) (lines : List Line) → AllByRecursion P lines → AllByRecursion P (head_part lines)
-head_lines P [] h = tt
-head_lines P ([] ∷ lines) h = tt
 head_lines P ((c ∷ cs) ∷ lines) h = (h.0, head_lines P lines h.1)
+head_lines P lines h = tt
 
 -- and of the body
 body_lines : (P : Line → Type 0) (lines : List Line) → AllByRecursion P lines → AllByRecursion P (body_part lines)
-body_lines P [] h = tt
-body_lines P ([] ∷ lines) h = h.1
 body_lines P ((c ∷ cs) ∷ lines) h = body_lines P lines h.1
+body_lines P lines h = grind arith
 
 -- a head that says its own id, or none, says no other
 own_id : (id : Id) (head : List Line) → says_own_id id head ≡ true → (said : Id) → said_id head ≡ Some said → said ≡ id
@@ -113,9 +110,7 @@ module _ (profile : Profile) (B : ℕ) (G : Spool) (facts : List Fact) (s : Sett
   sent_head id lines (TextIs Article other (Some ls)) f h e = by (is_same other id) refl e
     where
       whole : IsHeadOf other (head_part ls)
-      whole =
-          let p = and_parts (list_any is_empty ls && is_head (head_part ls)) _ f in
-          record { is_a_head = (and_parts (list_any is_empty ls) _ p.0).1; is_clean = head_lines (λ line. IsTrue (is_line line)) ls h.1; own = own_id other (head_part ls) p.1 }
+      whole = grind (arith, and_parts, head_lines, own_id)
 
       by : (b : Bool) → is_same other id ≡ b → cond b (Some (head_part ls)) None ≡ Some lines → IsHeadOf id lines
       by true is e = subst (λ id. IsHeadOf id lines) (same_text other id (sym is)) (subst (IsHeadOf other) (let q : head_part ls ≡ lines = cc in q) whole)
@@ -149,10 +144,7 @@ module _ (profile : Profile) (B : ℕ) (G : Spool) (facts : List Fact) (s : Sett
   head_is id t e = subst (IsHeadOf id) (sym (s.given.heads id t e)) (by (first_given (head_in id) facts) refl)
     where
       by : (o : Option (List Line)) → first_given (head_in id) facts ≡ o → IsHeadOf id (unwrap_or o (plain_head id))
-      by None is =
-          let good = is_id id (ap is_some e) in
-          record { is_a_head = plain_is_head id; is_clean = plain_is_clean id good; own = λ said says. let same : Some said ≡ Some id = sym says ∙ plain_says id good in cc }
-      by (Some lines) is = let f = first_found (head_in id) facts lines is in sent_head id lines f.0 (fitting f.0 f.1) (formed f.0 f.1) f.2
+      by o is = grind (arith, is_id, plain_is_head, plain_is_clean, plain_says, first_found, sent_head, fitting, formed)
 
   -- a body that was sent, or none
   body_is : (id : Id) (t : Text) → get G.articles id ≡ Some t → AllByRecursion (λ line. IsTrue (is_line line)) t.body

@@ -36,6 +36,4 @@ some_or_none profile ps answers small = by (dec_both (dec_spool profile.limit (m
     by : Dec (IsSpool profile.limit (made_for profile ps answers) × Run profile (made_for profile ps answers) start ps answers)
         → ((S : Spool) × IsSpool profile.limit S × Run profile S start ps answers) ⊎ ((S : Spool) → IsSpool profile.limit S → Run profile S start ps answers → ⊥)
     by (inl h) = inl (made_for profile ps answers, h.0, h.1)
-    by (inr h) = inr (λ S spool run. let s = stands profile S ps answers spool run in h
-        (given_permits profile (made_for profile ps answers) ps answers s.0 s.1 small
-        (given_exists profile ps answers s.0 small)))
+    by (inr h) = grind (arith, stands, given_permits, made_for, given_exists)

@@ -114,14 +114,7 @@ module _ (facts : List Fact) (G H : Spool) (given : IsGiven facts G) (other : Is
   articles_alike id = by (get G.articles id) refl (get H.articles id) refl
     where
       by : (o : Option Text) → get G.articles id ≡ o → (p : Option Text) → get H.articles id ≡ p → get G.articles id ≡ get H.articles id
-      by None e None f = e ∙ sym f
-      by None e (Some u) f = absurd (true≢false (sym (back id (ap is_some f)) ∙ ap is_some e))
-      by (Some t) e None f = absurd (true≢false (sym (there id (ap is_some e)) ∙ ap is_some f))
-      by (Some t) e (Some u) f =
-          let heads : t.head ≡ u.head = given.heads id t e ∙ sym (other.heads id u f) in
-          let bodies : t.body ≡ u.body = given.bodies id t e ∙ sym (other.bodies id u f) in
-          let same : t ≡ u = (λ i. record { head = heads i; body = bodies i }) in
-          e ∙ ap Some same ∙ sym f
+      by o e p f = grind (arith, true≢false, back, there)
 
   -- two given spools are one
   pub given_once : G ≡ H

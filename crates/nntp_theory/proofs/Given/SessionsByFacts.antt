@@ -107,8 +107,7 @@ some_or_none_of_all profile sessions small = by (dec_both (dec_spool profile.lim
     by : Dec (IsSpool profile.limit (made_for_all profile sessions) × PermitsEach profile (made_for_all profile sessions) sessions)
         → SomePermitsEach profile sessions ⊎ (SomePermitsEach profile sessions → ⊥)
     by (inl h) = inl (made_for_all profile sessions, h.0, h.1)
-    by (inr h) = inr (λ p. let s = stand_each profile p.0 sessions p.1 p.2 in h
-        (given_permits_all profile (made_for_all profile sessions) sessions s.0 s.1 small (given_exists_of_all profile sessions s.0 small)))
+    by (inr h) = grind (arith, stand_each, given_permits_all, made_for_all, given_exists_of_all)
 
 -- some spool permits one session alone
 pub permits_alone : (profile : Profile) (s : Answered) → SomePermitsEach profile (s ∷ []) ↔ SomePermits profile s.prompts s.answers

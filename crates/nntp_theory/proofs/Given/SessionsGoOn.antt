@@ -36,10 +36,7 @@ module _ (profile : Profile) (earlier : List Answered) (ps : List Asked) (answer
 
   -- what is said with it
   said_next : facts_of_all profile.marks (earlier ++ next ∷ []) ≡ all ++ new
-  said_next =
-      facts_behind profile.marks earlier next
-      ∙ ap (λ facts. facts_of_all profile.marks earlier ++ facts) (facts_grow profile.marks start.visible Nowhere ps answers asked response comes)
-      ∙ sym (append_assoc (facts_of_all profile.marks earlier) (facts_of_session profile.marks ps answers) new)
+  said_next = grind (arith, facts_behind, facts_grow, append_assoc)
 
   -- behind sessions that some spool permits, some spool permits it exactly if it fits its session and what it says joins what all said
   pub permitted_more_behind : size (facts_of_all profile.marks (earlier ++ next ∷ [])) < 2 ^ 210 → SomePermitsEach profile (earlier ++ past ∷ [])
@@ -64,8 +61,7 @@ module _ (profile : Profile) (earlier : List Answered) (ps : List Asked) (answer
       before = stand_each profile h.0 (earlier ++ past ∷ []) h.1 h.2
 
       joins : Together (all ++ new) ↔ Join all new
-      joins = together_more all new (subst Together (facts_behind profile.marks earlier past) before.1)
-          (answer_agrees profile.marks (visible_from start.visible ps answers) (position_from Nowhere ps answers) asked response)
+      joins = grind (arith, together_more, facts_behind, before, answer_agrees)
 
       grown : FitsAll profile start.visible ps (answers ++ response ∷ [])
           ↔ (FitsAll profile start.visible ps answers × ((visible_from start.visible ps answers).closed ≡ false)

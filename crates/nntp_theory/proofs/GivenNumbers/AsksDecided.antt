@@ -57,10 +57,7 @@ module _ (asks : List Ask) (N : Numbers) (given : HasGivenNumbers asks N) where
       by true e = inr (λ n k. not-true (is_denied asks n) (passes nat_cmp_total nat_cmp-IsAntisymmetric (λ n. not (is_denied asks n)) (keys N) n e (sym (contains_key-keys N n) ∙ (given n).1 (inl k))))
       by false e =
           let f = fails nat_cmp_total nat_cmp-IsAntisymmetric (λ n. not (is_denied asks n)) (keys N) e in
-          elim ((given f.0).0 (contains_key-keys N f.0 ∙ f.2)) [
-            | inl k ↦ inl (f.0, k, not-false (is_denied asks f.0) f.1)
-            | inr x ↦ absurd (true≢false (sym (not-false (is_denied asks f.0) f.1) ∙ x.first.1))
-          ]
+          grind (arith, contains_key-keys, not-false, true≢false)
 
   -- the given numbers are more than is estimated, or they aren't
   pub too_many_or_not : AreTooMany asks ⊎ ((M : Numbers) → HasGivenNumbers asks M → AllByRecursion (IsFewFor M) asks)

@@ -4,8 +4,7 @@ use Rattle.std.{proofs.lemmas.Bool.{cases_eq, eq-eqb, ne_eqb, false_from_ne_true
 use Rattle.std.specs.FinMap.{get, len, insert, get-insert, len-insert}
 use Rattle.nntp_article.specs.Session.Spool.{Numbers, IsNumber}
 use Rattle.nntp_said.specs.Asks.{Ask}
-use Rattle.nntp_theory.specs.{Given.{is_known, demand, wants, IsOneMore, IsGivenNumber, HasGivenNumbers}, declared.demand.Demand.{Demand}}
-use Rattle.nntp_theory.specs.{declared.demand.Demand.TheVariants.{NoDemand, NotEmpty, OnlyOne, SecondIs, Impossible}, Together.{MeetsDemand}}
+use Rattle.nntp_theory.specs.{Given.{is_known, demand, IsOneMore, IsGivenNumber, HasGivenNumbers}, declared.demand.Demand.{Demand}, Together.{MeetsDemand}}
 use Rattle.nntp_theory.proofs.{GivenNumbers.MetNumbersStand.{one_more_once, second_shown, shown_known}, Maps.{len_le}}
 
 -- the one more isn't known
@@ -41,21 +40,7 @@ pub more_meets : (asks : List Ask) (e : ℕ) → IsOneMore asks e → MeetsDeman
 more_meets asks e x = by (demand asks) refl
   where
     by : (d : Demand) → demand asks ≡ d → MeetsDemand d (IsGivenNumber asks)
-    by NoDemand is = tt
-    by NotEmpty is = (e, inr x)
-    by OnlyOne is = (
-      e,
-      inr x,
-      λ m g. elim g [ inl s ↦ absurd (true≢false (sym (ap (λ d. wants d m) is) ∙ x.needed m s)) | inr y ↦ one_more_once asks m e y x ],
-    )
-    by (SecondIs k) is = (
-      inl (shown_known asks k (second_shown asks k is)),
-      e,
-      ltb-true e k (sym (ap (λ d. wants d e) is) ∙ x.wanted),
-      inr x,
-      λ m l g. elim g [ inl s ↦ absurd (true≢false (sym (lt-ltb m k l) ∙ sym (ap (λ d. wants d m) is) ∙ x.needed m s)) | inr y ↦ one_more_once asks m e y x ],
-    )
-    by Impossible is = true≢false (sym x.wanted ∙ ap (λ d. wants d e) is)
+    by d is = grind (arith, true≢false, one_more_once, shown_known, second_shown, ltb-true, lt-ltb)
 
 -- else if those that are known meet it
 pub known_meet : (asks : List Ask) → ((e : ℕ) → IsOneMore asks e → ⊥) → MeetsDemand (demand asks) (IsGivenNumber asks) ↔ MeetsDemand (demand asks) (λ n. IsTrue (is_known asks n))

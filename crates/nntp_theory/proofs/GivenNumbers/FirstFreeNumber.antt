@@ -33,6 +33,4 @@ first_free taken k c from is_free = by (free taken (c + 1) k) refl
   where
     by : (o : Option ℕ) → free taken (c + 1) k ≡ o → (n : ℕ) × IsFirstFree taken k n × (n ≤ c)
     by None e = absurd (true≢false (sym (free_none taken (c + 1) k e c from (omega arith)) ∙ is_free))
-    by (Some n) e =
-        let f = free_is taken (c + 1) k n e in
-        (n, f, elim (cases_lt c n) [ inl l ↦ absurd (true≢false (sym (f.2 c from l) ∙ is_free)) | inr g ↦ g ])
+    by (Some n) e = grind (arith, free_is, cases_lt, true≢false)

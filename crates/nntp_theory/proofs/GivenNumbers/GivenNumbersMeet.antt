@@ -32,8 +32,7 @@ parted P (SecondIs m) OnlyOne h = absurd h
 parted P (SecondIs m) (SecondIs k) h = by (m == k) refl h
   where
     by : (b : Bool) → (m == k) ≡ b → MeetsDemand (cond b (SecondIs m) Impossible) P → MeetsDemand (SecondIs m) P × MeetsDemand (SecondIs k) P
-    by true e h = (h, subst (λ k. MeetsDemand (SecondIs k) P) (eqb-true m k e) h)
-    by false e h = absurd h
+    by b e h = grind arith
 parted P (SecondIs m) Impossible h = absurd h
 parted P Impossible e h = absurd h
 
@@ -45,11 +44,7 @@ demand_of_one P ask (x ∷ asks) (inr i) h = demand_of_one P ask asks i (parted 
 
 -- the same numbers, said otherwise
 pub same_demand : (P Q : ℕ → Type 0) → ((n : ℕ) → P n → Q n) → ((n : ℕ) → Q n → P n) → (d : Demand) → MeetsDemand d P → MeetsDemand d Q
-same_demand P Q f g NoDemand h = tt
-same_demand P Q f g NotEmpty h = (h.0, f h.0 h.1)
-same_demand P Q f g OnlyOne h = (h.0, f h.0 h.1, λ m q. h.2 m (g m q))
-same_demand P Q f g (SecondIs k) h = (f k h.0, h.1, h.2, f h.1 h.3, λ m l q. h.4 m l (g m q))
-same_demand P Q f g Impossible h = h
+same_demand P Q f g d h = grind arith
 
 -- ---- whether it is said that there is a number
 
@@ -94,10 +89,7 @@ module _ (asks : List Ask) (G : Numbers) (stand : AsksStand asks) (given : HasGi
     where
       ends : (how : Marks) → In (Estimates how m) asks → AreEnds how G m
       ends Lenient i = tt
-      ends Strict i = λ k there. (
-        end_in_G (Estimates Strict m) i m.low k there (or_left (m.low == m.low) _ (eq-eqb m.low m.low refl)),
-        end_in_G (Estimates Strict m) i m.high k there (or_right (m.low == m.high) _ (eq-eqb m.high m.high refl)),
-      )
+      ends Strict i = search (arith, end_in_G, or_left, eq-eqb, or_right)
   meets_in_G (Bounds low high) i p few = λ n j. let f = not_denied_in_G (Bounds low high) i n j in (grind (arith, nat_tests), grind (arith, nat_tests))
   meets_in_G (ListsIn r ns) i p few = λ n. (
     λ listed. (shown_in_G (ListsIn r ns) i n (finds ns n listed), in_range r n (each_of (is_in_range r) ns n p (in_contains n ns listed))),

@@ -1,5 +1,5 @@
 -- The demand of two lists of asks is that of both.
-use Rattle.std.proofs.{Common.{◌≡◌, Bool, true, false, cond, ◌==◌, List, [], ◌∷◌, ◌++◌, refl, sym, ap, ◌∙◌}, lemmas.Bool.{eqb-true, eq-eqb}}
+use Rattle.std.proofs.Common.{◌≡◌, Bool, true, false, cond, ◌==◌, List, [], ◌∷◌, ◌++◌, refl, sym, ap, ◌∙◌, arith}
 use Rattle.nntp_said.specs.Asks.{Ask}
 use Rattle.nntp_theory.specs.{Given.{demand_in, join, demand}, declared.demand.Demand.{Demand, TheVariants.{NoDemand, NotEmpty, OnlyOne, SecondIs, Impossible}}}
 
@@ -22,10 +22,7 @@ join_assoc (SecondIs m) (SecondIs k) Impossible = elim (m == k) as (λ b. join (
 join_assoc (SecondIs m) (SecondIs k) (SecondIs j) = by (m == k) refl (k == j) refl
   where
     by : (a : Bool) → (m == k) ≡ a → (b : Bool) → (k == j) ≡ b → join (cond a (SecondIs m) Impossible) (SecondIs j) ≡ join (SecondIs m) (cond b (SecondIs k) Impossible)
-    by true e true f = ap (λ b. cond b (SecondIs m) Impossible) (eq-eqb m j (eqb-true m k e ∙ eqb-true k j f) ∙ sym e)
-    by true e false f = ap (λ b. cond b (SecondIs m) Impossible) (ap (λ n. n == j) (eqb-true m k e) ∙ f)
-    by false e true f = sym (ap (λ b. cond b (SecondIs m) Impossible) e)
-    by false e false f = refl
+    by a e b f = grind arith
 join_assoc d e f = refl
 
 -- the demand of both

@@ -78,13 +78,7 @@ joined P (SecondIs m) OnlyOne h g = let a = g.2 m h.0 in let b = g.2 h.1 h.3 in 
 joined P (SecondIs m) (SecondIs k) h g = by (m == k) refl
   where
     by : (b : Bool) → (m == k) ≡ b → MeetsDemand (cond b (SecondIs m) Impossible) P
-    by true e = h
-    by false e =
-        elim (cases_order m k) [
-          | inl same ↦ true≢false (sym (eq-eqb m k same) ∙ e)
-          | inr (inl l) ↦ (let n = h.2 in let a = g.4 m l h.0 in let b = g.4 h.1 (omega arith) h.3 in omega arith)
-          | inr (inr l) ↦ (let n = g.2 in let a = h.4 k l g.0 in let b = h.4 g.1 (omega arith) g.3 in omega arith)
-        ]
+    by b e = grind arith
 joined P (SecondIs m) Impossible h g = g
 joined P (SecondIs m) e h g = h
 joined P Impossible e h g = h
@@ -119,10 +113,7 @@ second_shown (ask ∷ asks) k e =
     elim (join_second (demand_in ask) (demand asks) k e) [ inl h ↦ or_left (shows ask k) _ (one ask k h) | inr h ↦ or_right (shows ask k) _ (second_shown asks k h) ]
   where
     one : (ask : Ask) (k : ℕ) → demand_in ask ≡ SecondIs k → shows ask k ≡ true
-    one (StepsUp First m) k e = eq-eqb m k (let same : m ≡ k = cc in same)
-    one (IsTop First) k e = cc
-    one (IsBottom First) k e = cc
-    one ask k e = cc
+    one ask k e = grind arith
 
 -- what is wanted of a number is wanted of each one below it
 pub wants_less : (d : Demand) (n m : ℕ) → m ≤ n → wants d n ≡ true → wants d m ≡ true
@@ -162,8 +153,7 @@ len_replaced G d c there only =
     ∙ ap (λ n. n + 1) (len-remove nat_cmp_total G d ∙ ap (λ b. cond b (len G - 1) (len G)) had) ∙ omega arith
   where
     removed : (b : Bool) → eq_by_cmp nat_cmp c d ≡ b → is_some (cond b None (get G c)) ≡ false
-    removed true e = refl
-    removed false e = false_from_ne_true _ (λ i. true≢false (sym (unsigned_tied c d ∙ eq-eqb c d (only i)) ∙ e))
+    removed b e = grind arith
 
 -- ---- numbers that are known
 

@@ -1,5 +1,5 @@
 -- Whether one more number is needed, and the search for it.
-use Rattle.std.proofs.Common.{◌≡◌, ℕ, ◌≤◌, Bool, true, false, cond, IsTrue, List, Option, None, Some, inl, inr, refl, sym, ap, subst, ◌∙◌, arith, [], ◌∷◌}
+use Rattle.std.proofs.Common.{◌≡◌, ℕ, ◌≤◌, Bool, true, false, cond, IsTrue, List, Option, None, Some, inl, inr, refl, sym, subst, ◌∙◌, arith, [], ◌∷◌}
 use Rattle.std.{proofs.lemmas.Bool.{false_from_ne_true, true≢false}, specs.List.{list_any, flat_map}}
 use Rattle.nntp_said.specs.Asks.{Ask}
 use Rattle.nntp_theory.specs.{Given.{is_known, is_denied, demand, wants, IsOneMore}, Inner.OneMore.{free, if_wanted}}
@@ -48,14 +48,7 @@ unfolding more
 more_is limit asks n e = by (is_met asks) refl (free (is_denied asks) limit 1) refl e
   where
     found : (none : is_met asks ≡ false) (m : ℕ) → free (is_denied asks) limit 1 ≡ Some m → (b : Bool) → wants (demand asks) m ≡ b → cond b (Some m) None ≡ Some n → IsOneMore asks n
-    found none m is true t e =
-        let same : m ≡ n = cc in
-        subst (IsOneMore asks) same (record {
-          needed = λ k s. false_from_ne_true _ (λ w. true≢false (sym (any_in (λ n. wants (demand asks) n) k (known_list asks) (in_known_list asks k s) w) ∙ none));
-          wanted = t;
-          first = free_is (is_denied asks) limit 1 m is;
-        })
-    found none m is false t e = cc
+    found none m is b t e = grind (arith, false_from_ne_true, true≢false, any_in, known_list, in_known_list, free_is)
 
     by : (b : Bool) → is_met asks ≡ b → (o : Option ℕ) → free (is_denied asks) limit 1 ≡ o → cond b None (if_wanted (demand asks) o) ≡ Some n → IsOneMore asks n
     by true t o is e = cc
@@ -68,10 +61,6 @@ unfolding more
 more_found limit asks n x within = by (is_met asks) refl (free (is_denied asks) limit 1) refl
   where
     by : (b : Bool) → is_met asks ≡ b → (o : Option ℕ) → free (is_denied asks) limit 1 ≡ o → cond b None (if_wanted (demand asks) o) ≡ Some n
-    by true t o is =
-        let f = found_in (λ n. wants (demand asks) n) (known_list asks) t in
-        absurd (true≢false (sym f.2 ∙ x.needed f.0 (from_known_list asks f.0 f.1)))
+    by true t o is = grind (arith, found_in, known_list, true≢false, from_known_list)
     by false none None is = let low = x.first.0 in absurd (true≢false (sym (free_none (is_denied asks) limit 1 is n low (omega arith)) ∙ x.first.1))
-    by false none (Some m) is =
-        let same = first_free_once (is_denied asks) 1 m n (free_is (is_denied asks) limit 1 m is) x.first in
-        ap (λ k. cond (wants (demand asks) k) (Some k) None) same ∙ ap (λ b. cond b (Some n) None) x.wanted
+    by false none (Some m) is = grind (arith, first_free_once, free_is)

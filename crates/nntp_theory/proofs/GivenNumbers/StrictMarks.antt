@@ -1,12 +1,11 @@
 -- Where marks are strict, no number is given beside those that are known.
-use Rattle.std.proofs.{Common.{◌≡◌, ℕ, Bool, true, false, cond, ◌==◌, IsTrue, List, [], ◌∷◌, inl, inr, refl, sym, subst, arith}, lemmas.Bool.{true≢false}}
-use Rattle.std.{proofs.lemmas.Bool.{and_from, or_left, or_right, cases_lt, eq-eqb, lt-ltb}, specs.List.{AllByRecursion, list_any}}
+use Rattle.std.proofs.{Common.{◌≡◌, ℕ, Bool, true, cond, IsTrue, List, [], ◌∷◌, inl, inr, refl, sym, subst, arith}, lemmas.Bool.{true≢false, and_from, or_left}}
+use Rattle.std.{proofs.lemmas.Bool.{or_right, cases_lt, eq-eqb, lt-ltb}, specs.List.{AllByRecursion, list_any}}
 use Rattle.nntp_wire.specs.{declared.{water_marks.WaterMarks.{WaterMarks}, marks.Marks.TheVariants.{Strict}}, Listing.{ActiveValue}}
 use Rattle.nntp_article.specs.Session.{Spool.{Name}, Machine.{is_same}}
 use Rattle.nntp_said.specs.{Asks.{Ask, Estimates, Bounds, Has}, Facts.{Fact, Asks, IdAt, GroupsAre}}
-use Rattle.nntp_theory.{specs.Given.{asks_in, asks_of, is_shown, is_known, is_end, says_some, IsOneMore}, proofs.Members.{In, all_at, any_in, found_in}}
-use Rattle.nntp_theory.proofs.{Members.{to_flat, from_flat}, GivenNumbers.{MetNumbersStand.{wants_less}, GivenNumbersMeet.{some_said}}}
-use Rattle.nntp_theory.proofs.Session.NumbersOfShownGroups.{IsSelectable, Placed}
+use Rattle.nntp_theory.{specs.Given.{asks_in, asks_of, is_known, says_some, IsOneMore}, proofs.Members.{In, all_at, any_in, found_in, to_flat, from_flat}}
+use Rattle.nntp_theory.proofs.{GivenNumbers.{MetNumbersStand.{wants_less}, GivenNumbersMeet.{some_said}}, Session.NumbersOfShownGroups.{IsSelectable, Placed}}
 
 module _ (facts : List Fact) (placed : AllByRecursion (Placed Strict facts) facts) where
   -- a group that a 211 selected has strict marks
@@ -23,12 +22,10 @@ module _ (facts : List Fact) (placed : AllByRecursion (Placed Strict facts) fact
       by g.0 g.1 f.0 g.2 f.2
     where
       under : (g : Name) (x ask : Ask) → IsSelectable Strict facts g → (b : Bool) → is_same g name ≡ b → In ask (cond b (x ∷ []) []) → (m : WaterMarks) × In (Estimates Strict m) (asks_of name facts)
-      under g x ask s true same i = selected name g same s
-      under g x ask s false same i = absurd i
+      under g x ask s b same i = grind (arith, selected)
 
       only : (b : Bool) (x ask : Ask) → In ask (cond b (x ∷ []) []) → x ≡ ask
-      only true x ask i = elim i [ inl e ↦ e | inr j ↦ absurd j ]
-      only false x ask i = absurd i
+      only b x ask i = grind arith
 
       by : (fact : Fact) → In fact facts → (ask : Ask) → In ask (asks_in name fact) → says_some ask ≡ true → (m : WaterMarks) × In (Estimates Strict m) (asks_of name facts)
       by (Asks g x) i ask j t = under g x ask (all_at (Placed Strict facts) (Asks g x) facts placed i) (is_same g name) refl j
@@ -46,7 +43,5 @@ module _ (facts : List Fact) (placed : AllByRecursion (Placed Strict facts) fact
       let k = marked name some in
       let m = k.0 in
       let known : IsTrue (is_known asks m.low) =
-      or_right (is_shown asks m.low) _ (and_from (list_any says_some asks) _ some
-      (any_in (λ ask. is_end ask m.low) (Estimates Strict m) asks k.1
-      (or_left (m.low == m.low) _ (eq-eqb m.low m.low refl)))) in
+      grind (arith, or_right, and_from, any_in, or_left, eq-eqb) in
       grind (arith, cases_lt, true≢false, any_in, or_left, lt-ltb, wants_less)

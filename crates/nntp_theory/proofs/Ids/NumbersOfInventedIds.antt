@@ -1,5 +1,5 @@
 -- The numbers of invented ids: they are small, rise, and aren't those of ids that are mentioned.
-use Rattle.std.proofs.Common.{◌≡◌, ℕ, ◌+◌, ◌<◌, ◌≤◌, true, false, cond, eqb, List, [], ◌∷◌, ◌++◌, length, None, is_some, inl, inr, sym, ap, subst, ◌∙◌, arith}
+use Rattle.std.proofs.Common.{◌≡◌, ℕ, ◌+◌, ◌<◌, ◌≤◌, true, cond, eqb, List, [], ◌∷◌, ◌++◌, length, None, is_some, inl, inr, sym, ap, subst, ◌∙◌, arith}
 use Rattle.std.proofs.{Common.{length-append}, lemmas.{Bool.{cases_lt, or_cases, or_left, or_right, eq-eqb}, Map.Steps.{le-length_from_below}}}
 use Rattle.std.specs.{Prelude.{IsFalse, ⊤}, List.{list_any, flat_map}, Cmp.Lexicographic.{same_text}}
 use Rattle.nntp_article.specs.{Session.{Machine.{is_same}, Spool.{Name}}, Article.Parts.{Id}}
@@ -30,10 +30,7 @@ module _ (B : ℕ) (small : (i : ℕ) → i < B → invented_number (invented i)
 
   -- a fact that mentions an invented id has its number
   counted_in : (i : ℕ) (fact : Fact) → i < B → mentions (invented i) fact ≡ true → list_any (eqb i) (mentioned_number fact) ≡ true
-  counted_in i (IdAt name n id) l e = or_left (eqb i (invented_number id)) false (same_number i id l e)
-  counted_in i (TextIs what id lines) l e = or_left (eqb i (invented_number id)) false (same_number i id l e)
-  counted_in i (NoArticle id) l e = or_left (eqb i (invented_number id)) false (same_number i id l e)
-  counted_in i fact l e = cc
+  counted_in i fact l e = grind (arith, or_left, invented_number, same_number)
 
   -- and so one of the facts
   pub counted : (i : ℕ) (facts : List Fact) → i < B → is_mentioned facts (invented i) ≡ true → list_any (eqb i) (mentioned facts) ≡ true

@@ -1,6 +1,6 @@
 -- An id that is shown at a number has this number.
-use Rattle.std.proofs.Common.{◌≡◌, ℕ, Bool, true, false, ◌&&◌, ◌==◌, cond, IsTrue, List, [], ◌∷◌, Option, None, Some, is_some, IsSome, inl, refl, sym, ap}
-use Rattle.std.proofs.{Common.{subst, ◌∙◌, arith}, lemmas.Bool.{eqb-true}}
+use Rattle.std.proofs.Common.{◌≡◌, ℕ, Bool, true, ◌&&◌, ◌==◌, cond, IsTrue, List, [], ◌∷◌, Option, None, Some, is_some, IsSome, inl, refl, sym, subst, arith}
+use Rattle.std.proofs.lemmas.Bool.{eqb-true}
 use Rattle.nntp_article.specs.{Article.Parts.{Id}, Session.{Spool.{Name}, Machine.{is_same}}}
 use Rattle.nntp_said.specs.{Asks.{Has}, Facts.{Fact, IdAt}}
 use Rattle.nntp_theory.{specs.{Given.{shows, is_shown, asks_in, asks_of, first_given, id_in}, Together.{number_in, GiveOne}}, proofs.Members.{In, any_in}}
@@ -13,12 +13,7 @@ placed_by : (name : Name) (n : ℕ) (id : Id) (fact : Fact) → id_in name n fac
 placed_by name n id (IdAt g m other) e = by (is_same g name) (m == n) refl e
   where
     by : (a b : Bool) → (m == n) ≡ b → cond (a && b) (Some other) None ≡ Some id → cond (a && is_same other id) (Some m) None ≡ Some n
-    by true true is e =
-        let same : other ≡ id = cc in
-        let own : is_same other id ≡ true = subst (λ x. is_same other x ≡ true) same (same_itself other) in
-        ap (λ b. cond b (Some m) None) own ∙ ap Some (eqb-true m n is)
-    by true false is e = cc
-    by false b is e = cc
+    by a b is e = grind (arith, same_itself, eqb-true)
 placed_by name n id fact e = cc
 
 -- where facts give an id, they show the number
@@ -33,13 +28,11 @@ shown_with_id facts name n = given (first_given (id_in name n) facts) refl
             any_in (λ ask. shows ask n) (Has m) (asks_of name facts)
             (to_flat (asks_in name) (IdAt g m other) (Has m) facts i
             (subst (λ b. In (Has m) (cond b (Has m ∷ []) [])) (sym same) (inl refl))) at
-        one true same false at e = cc
-        one false same b at e = cc
+        one a same b at e = cc
     by fact id i e = cc
 
     given : (o : Option Id) → first_given (id_in name n) facts ≡ o → is_some o ≡ true → IsTrue (is_shown (asks_of name facts) n)
-    given None is t = cc
-    given (Some id) is t = let f = first_found (id_in name n) facts id is in by f.0 id f.1 f.2
+    given o is t = grind (arith, first_found, by)
 
 -- facts that stand together agree
 pub agree_together : (facts : List Fact) (name : Name) (n : ℕ) (id : Id) → GiveOne (number_in name id) facts

@@ -17,9 +17,8 @@ answer_size how v at p a = row_size (row (record { limit = 0; marks = how }) v a
 
 -- and so a session, from any state on
 from_size : (how : Marks) (v : Visible) (at : Position) (ps : List Asked) (answers : List Response) → size (facts_from how v at ps answers) ≤ weight answers
-from_size how v at [] answers = omega arith
-from_size how v at (p ∷ ps) [] = omega arith
 from_size how v at (p ∷ ps) (a ∷ more) = grind (arith, answer_size, size-append, from_size how (visible_after v p a) (position_after at p a) ps more)
+from_size how v at ps answers = grind arith
 
 -- what a session says is bounded by its answers
 pub session_size : (how : Marks) (ps : List Asked) (answers : List Response) → size (facts_of_session how ps answers) ≤ weight answers

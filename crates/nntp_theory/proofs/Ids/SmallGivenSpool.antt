@@ -135,12 +135,7 @@ ask_few g ask (name ∷ names) d = by (is_same g name) refl d.0 (ask_few g ask n
     by : (b : Bool) → is_same g name ≡ b → AllByRecursion (λ other. eq_by_cmp (slice_cmp nat_cmp) name other ≡ false) names
         → length (flat_map (λ n. flat_map named_by (cond (is_same g n) (ask ∷ []) [])) names) ≤ size_in (Asks g ask)
         → length (flat_map named_by (cond b (ask ∷ []) []) ++ flat_map (λ n. flat_map named_by (cond (is_same g n) (ask ∷ []) [])) names) ≤ size_in (Asks g ask)
-    by true e apart rest =
-        let here = asked_few g ask true in
-        let left = none_left g ask name names e apart in
-        let parts = length-append (flat_map named_by (ask ∷ [])) (flat_map (λ n. flat_map named_by (cond (is_same g n) (ask ∷ []) [])) names) in
-        omega arith
-    by false e apart rest = rest
+    by b e apart rest = grind (arith, asked_few, none_left, length-append)
 
 -- where nothing is shown of any group
 nothing_few : (f : Name → List ℕ) (names : List Name) → ((name : Name) → f name ≡ []) → length (flat_map f names) ≡ 0
@@ -164,9 +159,8 @@ numbers_few : (facts : List Fact) (names : List Name) → IsDistinct (eq_by_cmp 
 unfolding shown_numbers
 numbers_few [] names d = let none = nothing_few (λ name. []) names (λ name. refl) in omega arith
 numbers_few (fact ∷ facts) names d =
-    let rest = numbers_few facts names d in
     let parts = both_parts (λ name. numbers_in name fact) (λ name. shown_numbers name facts) names in
-    grind (arith, one_few)
+    grind (arith, one_few, numbers_few facts names d)
 
 -- no more ids are mentioned than the size
 mentioned_few : (facts : List Fact) → length (mentioned facts) ≤ size facts

@@ -48,9 +48,8 @@ weight_append (x ∷ xs) ys = let rest = weight_append xs ys in omega (arith, re
 pub weight_next : (past : List Paired) (a b : Unpaired) (pair : Paired) → IsNext a pair b → weight (responses_of (past ++ pair ∷ [])) + length b.server ≤ weight (responses_of past) + length a.server
 weight_next past a b pair next =
     let front = frame_octets pair.initial next.answered.block in
-    let whole = ap length next.answered.frame.whole ∙ length-append front b.server in
     let few = lines-few (asked_at pair.line) pair.response front next.answered.spells in
-    search (rules, map-append, weight_append)
+    search (rules, length-append, map-append, weight_append)
 
 module _ (Stand : List Paired → Type 0) where
   -- ---- one answer
@@ -130,12 +129,7 @@ module _ (Stand : List Paired → Type 0) where
   accepted_open past a b (answer ∷ answers) before (m, first, more) still = accepted_open (accepted_with past answer) m b answers (by answer first) more still
     where
       by : (answer : Judged) → IsJudged Stand past a answer m → m.is_closed ≡ false → (visible_behind (accepted_with past answer)).closed ≡ false
-      by (Accepted pair) (next, h) is_open =
-          ap (λ (v : Visible). v.closed)
-          (ap (λ q. visible_from start.visible q.0 q.1) (ends past pair) ∙ visible_next (asked_of past) (responses_of past) (asked_at pair.line) pair.response (as_many past))
-          ∙ after-closes (visible_behind past) (asked_at pair.line) pair.response (before next.is_open) ∙ sym next.closing ∙ is_open
-      by (Refused pair) (next, h) is_open = before next.is_open
-      by (Unspelled index line initial block) (at, passed) is_open = before passed.is_open
+      by answer h e = search (rules, ends, visible_next, as_many, after-closes)
 
   -- ---- answers that are all accepted
 

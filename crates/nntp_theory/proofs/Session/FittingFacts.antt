@@ -1,5 +1,5 @@
 -- What the visible condition says of the facts of an answer.
-use Rattle.std.{proofs.{Common.{◌≡◌, IsTrue, List, [], ◌∷◌, arith, ◌≤◌}, lemmas.Bool.{and_parts}}, specs.{Prelude.{⊤}, List.{AllByRecursion}}}
+use Rattle.std.{proofs.{Common.{◌≡◌, IsTrue, List, ◌∷◌, arith, ◌≤◌}, lemmas.Bool.{and_parts}}, specs.{Prelude.{⊤}, List.{AllByRecursion}}}
 use Rattle.nntp_article.specs.Session.{Spool.{Name}, Machine.{Visible, visible_after, start, fits, marks_fit, is_article_number, head_fits, active_fits}}
 use Rattle.nntp_article.specs.declared.session.profile.Profile.{Profile}
 use Rattle.nntp_wire.specs.{Answer.{Asked, Response}, declared.water_marks.WaterMarks.{WaterMarks}}
@@ -52,10 +52,9 @@ answer_fitting profile v at p a = row_fitting (row profile v at p a)
 -- what answers that fit say, from any state on
 from_fitting : (profile : Profile) (v : Visible) (at : Position) (ps : List Asked) (answers : List Response)
     → FitsAll profile v ps answers → AllByRecursion (IsFitting profile) (facts_from profile.marks v at ps answers)
-from_fitting profile v at [] answers f = tt
-from_fitting profile v at (p ∷ ps) [] f = tt
 from_fitting profile v at (p ∷ ps) (a ∷ more) f =
     all_both (IsFitting profile) (facts_of profile.marks v at p a) _ (answer_fitting profile v at p a f.1) (from_fitting profile (visible_after v p a) (position_after at p a) ps more f.2)
+from_fitting profile v at ps answers f = tt
 
 -- what a session that fits says
 pub session_fitting : (profile : Profile) (ps : List Asked) (answers : List Response) → FitsAll profile start.visible ps answers

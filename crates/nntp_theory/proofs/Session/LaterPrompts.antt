@@ -53,15 +53,13 @@ position_longer at (p ∷ ps) qs (a ∷ more) le = position_longer (position_aft
 
 -- what is asked next stays
 pub asked_longer : (ps qs : List Asked) (answers : List Response) (asked : Asked) → asked_next ps answers ≡ Some asked → asked_next (ps ++ qs) answers ≡ Some asked
-asked_longer [] qs answers asked e = cc
-asked_longer (p ∷ ps) qs [] asked e = e
 asked_longer (p ∷ ps) qs (a ∷ more) asked e = asked_longer ps qs more asked e
+asked_longer ps qs answers asked e = cc
 
 -- and is behind the answers' prompts
 pub asked_count : (ps : List Asked) (answers : List Response) (asked : Asked) → asked_next ps answers ≡ Some asked → length answers + 1 ≤ length ps
-asked_count [] answers asked e = cc
-asked_count (p ∷ ps) [] asked e = omega arith
 asked_count (p ∷ ps) (a ∷ more) asked e = let le = asked_count ps more asked e in omega arith
+asked_count ps answers asked e = grind arith
 
 -- and so some spool permits the answers with them, or none does
 pub permitted_longer : (profile : Profile) (ps qs : List Asked) (answers : List Response) → length answers ≤ length ps → SomePermits profile (ps ++ qs) answers ↔ SomePermits profile ps answers
@@ -81,7 +79,5 @@ facts_longer how v at (p ∷ ps) qs (a ∷ answers) le = ap (λ rest. facts_of h
 
 -- the one behind them is asked next
 pub next_behind : (ps more : List Asked) (asked : Asked) (answers : List Response) → length ps ≡ length answers → asked_next (ps ++ asked ∷ more) answers ≡ Some asked
-next_behind [] more asked [] e = refl
-next_behind [] more asked (a ∷ answers) e = absurd (omega arith)
-next_behind (p ∷ ps) more asked [] e = absurd (omega arith)
 next_behind (p ∷ ps) more asked (a ∷ answers) e = next_behind ps more asked answers (omega arith)
+next_behind ps more asked answers e = grind arith

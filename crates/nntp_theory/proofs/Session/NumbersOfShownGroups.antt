@@ -1,6 +1,6 @@
 -- What a session says of numbers, it says of groups that it shows.
 use Rattle.nntp_wire.specs.{declared.{marks.Marks.{Marks}, water_marks.WaterMarks.{WaterMarks}}, Answer.{Asked, Response}}
-use Rattle.std.{proofs.Common.{◌≡◌, IsTrue, List, [], ◌∷◌, Option, None, Some, is_some, refl, arith}, specs.{Prelude.{unwrap_or, ⊤}, List.{AllByRecursion}}}
+use Rattle.std.{proofs.Common.{◌≡◌, IsTrue, List, [], ◌∷◌, Option, Some, is_some, refl, arith}, specs.{Prelude.{unwrap_or, ⊤}, List.{AllByRecursion}}}
 use Rattle.nntp_article.specs.{Session.{Spool.{Name}, Machine.{Visible, visible_after, start, fits}}, declared.session.profile.Profile.{Profile}}
 use Rattle.nntp_said.specs.{Asks.{position_after, Estimates}, declared.position.Position.{Position, TheVariants.{Nowhere}}, Facts.{Fact, ThereIs, Asks, IdAt}}
 use Rattle.nntp_said.{specs.{Facts.{here, facts_of, facts_from}, Inner.Facts.{FitsAll}}, proofs.Rows.{Row, row, nowhere, top, bottom, lacks, marks, listing}}
@@ -37,8 +37,7 @@ here_stands : (how : Marks) (all : List Fact) (v : Visible) → HasNoted how all
 here_stands how all v stands some = by v.selected refl some
   where
     by : (o : Option Name) → v.selected ≡ o → IsTrue (is_some o) → IsSelectable how all (unwrap_or o [])
-    by None e h = cc
-    by (Some name) e h = stands name e
+    by o e h = grind arith
 
 -- what a row whose condition holds says of numbers, it says of a group that is there
 row_placed : {profile : Profile} {v : Visible} {at : Position} {Fits : Type 0} {a : Response} {facts : List Fact} (all : List Fact) → Row profile v at Fits a facts → Fits
@@ -72,12 +71,11 @@ all_placed : (profile : Profile) (all : List Fact) (v : Visible) (at : Position)
     → HasNoted profile.marks all v → FitsAll profile v ps answers
     → AllByRecursion (Among all) (facts_from profile.marks v at ps answers)
     → AllByRecursion (Placed profile.marks all) (facts_from profile.marks v at ps answers)
-all_placed profile all v at [] answers stands f h = tt
-all_placed profile all v at (p ∷ ps) [] stands f h = tt
 all_placed profile all v at (p ∷ ps) (a ∷ more) stands f h =
     let front = all_front (Among all) (facts_of profile.marks v at p a) (facts_from profile.marks (visible_after v p a) (position_after at p a) ps more) h in
     all_both (Placed profile.marks all) (facts_of profile.marks v at p a) _ (step_placed profile all v at p a stands f.1 front)
     (all_placed profile all (visible_after v p a) (position_after at p a) ps more (still_stands profile all v at p a stands f.1 front) f.2 (all_back (Among all) (facts_of profile.marks v at p a) _ h))
+all_placed profile all v at ps answers stands f h = tt
 
 -- in a session that fits, what is said of numbers is said of groups that a 211 selected, whatever else is said
 pub placed_among : (profile : Profile) (all : List Fact) (ps : List Asked) (answers : List Response) → FitsAll profile start.visible ps answers

@@ -57,22 +57,15 @@ module _ (profile : Profile) (facts : List Fact) (how : Marks) (fitting : AllByR
       by g.0 (fits g.0 g.1) f.0 g.2 f.2
     where
       only : (b : Bool) (x ask : Ask) → In ask (cond b (x ∷ []) []) → x ≡ ask
-      only true x ask i = elim i [ inl e ↦ e | inr j ↦ absurd j ]
-      only false x ask i = absurd i
+      only b x ask i = grind arith
 
       by : (fact : Fact) → IsFitting profile fact → (ask : Ask) → In ask (asks_in name fact) → shows ask n ≡ true → IsTrue (is_article_number profile.limit n)
       by (Asks g x) h ask i t = num_of g x n h (subst (λ a. shows a n ≡ true) (sym (only (is_same g name) x ask i)) t)
       by (IdAt g m id) h ask i t = num_of g (Has m) n h (subst (λ a. shows a n ≡ true) (sym (only (is_same g name) (Has m) ask i)) t)
       by (GroupsAre p lines) h ask i t =
           let f = from_flat (λ (line : ActiveValue). cond (is_same line.name name) (Bounds line.low line.high ∷ []) []) ask lines i in
-          let none = subst (λ a. shows a n ≡ true) (sym (only (is_same f.0.name name) (Bounds f.0.low f.0.high) ask f.2)) t in
-          absurd (true≢false (sym none))
+          grind (arith, only, true≢false)
       by fact h ask i t = absurd i
-
-  -- a strict mark that isn't denied is one, where there is a number
-  num_of_end : (name : Name) (ask : Ask) (n count : ℕ) → IsFitting profile (Asks name ask) → is_end ask n ≡ true
-      → IsTrue (is_within (estimate_in ask) count) → 1 ≤ count → IsFalse (denies ask n) → (1 ≤ n) × (n ≤ profile.limit)
-  num_of_end name ask n count h t few some free = grind arith
 
   -- and so is one of all
   pub end_in_limit : (name : Name) (n count : ℕ) → IsTrue (list_any (λ ask. is_end ask n) (asks_of name facts))
@@ -90,9 +83,7 @@ module _ (profile : Profile) (facts : List Fact) (how : Marks) (fitting : AllByR
 
       by : (fact : Fact) → IsFitting profile fact → (ask : Ask) → In ask (asks_in name fact) → is_end ask n ≡ true
           → IsTrue (is_within (estimate_in ask) count) → IsFalse (denies ask n) → (1 ≤ n) × (n ≤ profile.limit)
-      by (Asks g x) h ask i t few free =
-          let same = only (is_same g name) x ask i in
-          num_of_end g ask n count (subst (λ a. IsFitting profile (Asks g a)) same h) t few some free
+      by (Asks g x) h ask i t few free = grind arith
       by (IdAt g m id) h ask i t few free = absurd (true≢false (sym (subst (λ a. is_end a n ≡ true) (sym (only (is_same g name) (Has m) ask i)) t)))
       by (GroupsAre p lines) h ask i t few free =
           let f = from_flat (λ (line : ActiveValue). cond (is_same line.name name) (Bounds line.low line.high ∷ []) []) ask lines i in

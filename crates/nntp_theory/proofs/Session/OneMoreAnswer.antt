@@ -41,9 +41,8 @@ position_grows at ps answers asked response e = cc
 -- it fits what those before leave
 pub fitting_grows : (profile : Profile) (v : Visible) (ps : List Asked) (answers : List Response) (asked : Asked) (response : Response) → asked_next ps answers ≡ Some asked
     → FitsAll profile v ps (answers ++ response ∷ []) ↔ (FitsAll profile v ps answers × ((visible_from v ps answers).closed ≡ false) × IsTrue (fits profile (visible_from v ps answers) asked response))
-fitting_grows profile v [] answers asked response e = cc
-fitting_grows profile v (p ∷ ps) [] asked response e = grind arith
 fitting_grows profile v (p ∷ ps) (a ∷ more) asked response e = grind (arith, fitting_grows profile (visible_after v p a) ps more asked response e)
+fitting_grows profile v ps answers asked response e = grind arith
 
 -- ---- pairs
 
@@ -91,6 +90,5 @@ pub size_by_pairs : (how : Marks) (client server : List ℕ) (pairs : List Paire
     → size (facts_of_session how (asked_of pairs) (responses_of pairs)) ≤ length server
 size_by_pairs how client server pairs left paired =
     let spelled = (pairs-spelled client server pairs left paired).0 in
-    let same = facts_by_pairs how client server pairs left paired in
     let most = size_by_octets how (prompts_of client) (responses_of pairs) spelled.0 spelled.1 in
-    grind (arith, length-append)
+    grind (arith, facts_by_pairs, length-append)

@@ -30,7 +30,6 @@ pub permitted_next : (profile : Profile) (earlier : List Answered) (ps : List As
     ↔ MayFollow profile (visible_from start.visible ps answers) (position_from Nowhere ps answers) (facts_of_all profile.marks earlier ++ facts_of_session profile.marks ps answers) asked response
 permitted_next profile earlier ps answers asked response e small h =
     let qs = ps ++ asked ∷ [] in
-    let le : length answers ≤ length ps = omega (arith, e) in
     let front = all_front (Runs profile h.0) earlier (of_these ps answers ∷ []) h.2 in
     let own = run_longer profile h.0 start ps (asked ∷ []) answers (all_back (Runs profile h.0) earlier (of_these ps answers ∷ []) h.2).0 in
     let g : SomePermitsEach profile (earlier ++ of_these qs answers ∷ []) = (h.0, h.1, all_both (Runs profile h.0) earlier (of_these qs answers ∷ []) front (own, tt)) in

@@ -52,9 +52,7 @@ read (p ∷ ps) octets = by (some-spelling p octets) (read ps)
         longer r (c ∷ others) sp more (d, tail, t, tail_spelled, whole) f =
             let split : octets ≡ d ++ (tail ++ more) = f ∙ ap (λ sp. sp ++ more) whole ∙ append_assoc d tail more in
             let same = one-spelling p a c b d rest (tail ++ more) s t (sym e ∙ split) in
-            let left : b ++ rest ≡ b ++ (tail ++ more) = sym e ∙ split ∙ ap (λ d. d ++ (tail ++ more)) (sym same.1) in
-            let le = r.longest others tail more tail_spelled (append_cancel_left b rest (tail ++ more) left) in
-            omega arith
+            grind (arith, append_cancel_left)
 
 -- of two readings the shorter is the front of the longer
 same_front : (ps : List Asked) (answers others : List Response) (sp tp rest more : List ℕ) → Spelled ps answers sp → Spelled ps others tp → sp ++ rest ≡ tp ++ more → length answers ≤ length others
@@ -89,9 +87,8 @@ pub light : (ps : List Asked) (answers : List Response) (sp : List ℕ) → Spel
 light ps [] sp s = omega arith
 light [] (a ∷ answers) sp s = absurd s
 light (p ∷ ps) (a ∷ answers) sp (b, tail, s, ss, whole) =
-    let rest = light ps answers tail ss in
     let long = lines-few p a b s in
-    grind (arith, length-append)
+    grind (arith, length-append, light ps answers tail ss)
 
 -- who explains m answers explains fewer
 pub first_explained : (profile : Profile) (S : Spool) (client server : List ℕ) (n m : ℕ) (rest : List ℕ) → n ≤ m

@@ -1,6 +1,6 @@
 -- The class of a bad answer: there is one, and octets that follow leave it where it is settled.
 use Rattle.std.proofs.Common.{◌≡◌, ℕ, ◌+◌, Bool, true, false, IsTrue, List, [], ◌∷◌, ◌++◌, length, Option, None, Some, inl, inr, refl, sym, ap, subst, ◌∙◌}
-use Rattle.std.proofs.{Common.{arith, append_assoc, length-append, ◌⊎◌}, lemmas.{List.{append_cancel_left, append-nil}, Bool.{cases_Bool, true≢false}}}
+use Rattle.std.proofs.{Common.{arith, append_assoc, ◌⊎◌}, lemmas.{List.{append_cancel_left, append-nil}, Bool.{cases_Bool, true≢false}}}
 use Rattle.nntp_wire.specs.{Answer.{Asked, Response, Spells}, Frame.{HasFrame, frame_octets}, Session.{prompts_of, Spelled}}
 use Rattle.nntp_wire.proofs.{SpellLemmas.{spelling-frame, one-frame}, SpellsDecided.{one-spelling, dec_spelling}, FramesDecided.{dec_frame, frame-longer}}
 use Rattle.nntp_article.specs.Session.{Spool.{Spool}, Machine.{Visible, State, Run, start, fits}, Explains.{ExplainsFirst, BadAmong}}
@@ -25,8 +25,7 @@ run_open profile S s (p ∷ ps) (x ∷ answers) a (new, permits, rest) = grind (
 pub run_fits : (profile : Profile) (S : Spool) (s : State) (ps : List Asked) (answers : List Response) (asked : Asked)
     (a : Response) → asked_next ps answers ≡ Some asked → Run profile S s ps (answers ++ a ∷ [])
     → IsTrue (fits profile (visible_from s.visible ps answers) asked a)
-run_fits profile S s (p ∷ ps) (x ∷ answers) asked a e (new, permits, rest) =
-    subst (λ t. IsTrue (fits profile (visible_from t ps answers) asked a)) (ap (λ t. t.visible) permits.leads) (run_fits profile S new ps answers asked a e rest)
+run_fits profile S s (p ∷ ps) (x ∷ answers) asked a e (new, permits, rest) = grind (arith, run_fits profile S new ps answers asked a e rest)
 run_fits profile S s ps answers asked a e r = cc
 
 spelled_snoc : (ps : List Asked) (answers : List Response) (octets b : List ℕ) (asked : Asked) (a : Response)
@@ -247,17 +246,13 @@ module _ (profile : Profile) (client server more_client more_server : List ℕ) 
 
       m : OneMore (prompts_of client ++ q.0) h.before.answers y.answers (h.before.rest ++ more_server) more
       m =
-          let a = h.before.count in
           let c = y.count in
           one_more (prompts_of client ++ q.0) h.before.answers y.answers h.before.octets y.octets (h.before.rest ++ more_server) more
           (spelled_longer (prompts_of client) q.0 h.before.answers h.before.octets h.before.spelled) (subst (λ ps. Spelled ps y.answers y.octets) q.1 y.spelled)
           (sym (append_assoc h.before.octets h.before.rest more_server) ∙ ap (λ o. o ++ more_server) (sym h.before.whole) ∙ y.whole) (omega arith)
 
       is_open : v.closed ≡ false
-      is_open =
-          let count = spelled_count (prompts_of client) h.before.answers h.before.octets h.before.spelled in
-          ap (λ t. t.closed) (sym (visible_longer start.visible (prompts_of client) q.0 h.before.answers count))
-          ∙ run_open profile T start (prompts_of client ++ q.0) h.before.answers m.response (subst (λ answers. Run profile T start (prompts_of client ++ q.0) answers) m.is run)
+      is_open = search (arith, spelled_count, visible_longer, q, run_open, m, run)
 
       -- the same answer stands in front of the shorter octets
       again : (asked : Asked) → asked_next (prompts_of client) h.before.answers ≡ Some asked → (fitting : Bool) → BeginsWithAnswer profile v asked h.before.rest fitting → ⊥
@@ -268,7 +263,6 @@ module _ (profile : Profile) (client server more_client more_server : List ℕ) 
           let answers : y.answers ≡ h.before.answers ++ a.response ∷ [] = m.is ∙ ap (λ r. h.before.answers ++ r ∷ []) (sym one.0) in
           let few = asked_count (prompts_of client) h.before.answers asked e in
           let count = y.count in
-          let length_is = ap length m.is ∙ length-append h.before.answers (m.response ∷ []) in
           none (
             a.rest,
             record {
@@ -295,15 +289,10 @@ module _ (profile : Profile) (client server more_client more_server : List ℕ) 
           is.nothing m.response (subst (Spells asked m.response) (sym f.2 ∙ (λ i. frame_octets (one.0 i) (one.1 i))) t)
 
       at_open : (asked : Asked) → asked_next (prompts_of client) h.before.answers ≡ Some asked → (c : Class) → settled c false → IsOpenClass profile v asked h.before.rest c → ⊥
-      at_open asked e Surplus t c = c
-      at_open asked e Cut t c = t
-      at_open asked e Malformed t c = nothing asked e c
-      at_open asked e OutOfPlace t c = again asked e false c
-      at_open asked e Contradiction t c = again asked e true c
+      at_open asked e c t h = grind (arith, nothing, again)
 
       at_next : (next : Option Asked) → asked_next (prompts_of client) h.before.answers ≡ next → settled class false → IsClass false profile v next h.before.rest class → ⊥
-      at_next None e t c = not_open class c t
-      at_next (Some asked) e t c = at_open asked e class t c
+      at_next next e t c = grind (arith, not_open, at_open)
 
       by : (v.closed ≡ true) ⊎ (v.closed ≡ false) → ⊥
       by (inl closed) = true≢false (sym closed ∙ is_open)

@@ -52,12 +52,11 @@ pub one_outcome : (profile : Profile) (client server : List ℕ) (h k : Outcome)
 one_outcome profile client server (Yes S n) (Yes T m) x y =
     let answers = same_answers profile S T client server n m x.explains y.explains in
     grind (arith, given_once)
-one_outcome profile client server (Yes S n) (No k class) x y = absurd (explained_not_bad profile S client server n k x.explains y.0)
-one_outcome profile client server (No k class) (Yes S n) x y = absurd (explained_not_bad profile S client server n k y.explains x.0)
 one_outcome profile client server (No k c) (No j d) x y =
     let place = bad_once (λ S. ⊤) profile client server k j x.0 y.0 in
     let class = one_class profile client server j c d (subst (λ k. HasClass profile client server k c) place x.1) y.1 in
     λ i. No (place i) (class i)
+one_outcome profile client server h k x y = search (arith, explained_not_bad)
 
 -- and they have one
 pub some_outcome : (profile : Profile) (client server : List ℕ) → length server < 2 ^ 210 → (h : Outcome) × IsOutcome profile client server h
@@ -106,9 +105,7 @@ module _ (profile : Profile) (client server : List ℕ) (pairs : List Paired) (p
 
   -- is the same behind all prompts
   same_visible : visible_from start.visible (prompts_of client) (responses_of pairs) ≡ v
-  same_visible =
-      let more = prompts_of_pairs client server pairs before paired in
-      ap (λ ps. visible_from start.visible ps (responses_of pairs)) more.1 ∙ visible_longer start.visible (asked_of pairs) more.0 (responses_of pairs) (as_few pairs)
+  same_visible = grind (arith, prompts_of_pairs, visible_longer, as_few)
 
   -- a response that none of the spools with P permits behind those that one of them permits is bad among these
   pub bad_response : (P : Spool → Type 0) (S : Spool) → IsSpool profile.limit S → P S → Run profile S start (asked_of pairs) (responses_of pairs)
@@ -118,8 +115,7 @@ module _ (profile : Profile) (client server : List ℕ) (pairs : List Paired) (p
       let longer = AreNext-push pairs (streams client server) before after pair paired next in
       let responses : responses_of (pairs ++ pair ∷ []) ≡ responses_of pairs ++ pair.response ∷ [] = map-append (λ pair. pair.response) pairs (pair ∷ []) in (
         bad_answer profile client server pairs pair before after paired next P S spool p ((pairs_run profile S client server pairs before paired).1 run)
-            (λ T spool p run. none T spool p ((pairs_run profile T client server (pairs ++ pair ∷ []) after longer).0
-            (subst (λ answers. Run profile T start (prompts_of client) answers) (sym responses) run))),
+            (grind (arith, pairs_run)),
         answer_has_class profile client server pairs pair before after paired next _ (ap (λ v. fits profile v (asked_at pair.line) pair.response) same_visible),
       )
 

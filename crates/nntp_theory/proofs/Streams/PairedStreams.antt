@@ -1,15 +1,15 @@
 -- What the pairing of two streams, and whether some spool permits its responses, say of the streams.
-use Rattle.std.proofs.Common.{◌≡◌, ◌≢◌, ℕ, ◌+◌, Bool, true, false, List, [], ◌∷◌, ◌++◌, length, Option, Some, refl, sym, ap, subst, ◌∙◌, arith, length-append}
+use Rattle.std.proofs.Common.{◌≡◌, ◌≢◌, ℕ, ◌+◌, Bool, false, List, [], ◌∷◌, ◌++◌, length, Option, Some, refl, sym, ap, subst, ◌∙◌, arith}
 use Rattle.std.proofs.lemmas.Bool.{true≢false}
-use Rattle.nntp_wire.{specs.{Octets.{crlf}, Answer.{Asked, Spells}, Frame.{framed, frame_octets}, Session.{prompts_of}}, proofs.SpellsDecided.{one-spelling}}
+use Rattle.nntp_wire.{specs.{Answer.{Spells}, Frame.{frame_octets}, Session.{prompts_of}}, proofs.SpellsDecided.{one-spelling}}
 use Rattle.nntp_pair.specs.Pairing.{Paired, Unpaired, IsNext, AreNext, end, bad, IsPairing, responses_of, asked_at, streams}
 use Rattle.nntp_pair.specs.declared.class.{PairClass.{PairClass, TheVariants.{Surplus as surplus, Cut as cut, Malformed as malformed}}, Class.{Class}}
 use Rattle.nntp_pair.{specs.Classes.{class_of}, proofs.SpelledLemmas.{places-prompts, pairs-spelled}}
 use Rattle.nntp_article.specs.Session.{Spool.{Spool, IsSpool}, Machine.{Run, start, fits}, Explains.{ExplainsUpTo, Explains, ExplainsFirst, BadAmong}}
 use Rattle.nntp_article.specs.declared.session.profile.Profile.{Profile}
-use Rattle.nntp_theory.specs.{Inner.Permits.{SomePermits}, Classes.{visible_from, asked_next, BeginsWithAnswer, IsOpenClass, IsClass, HasClass, left_visible}}
-use Rattle.nntp_theory.{specs.Classes.{class_by}, proofs.Streams.OneClass.{OneMore, one_more, run_open, run_fits, not_cut, not_malformed}}
-use Rattle.nntp_theory.proofs.Streams.ClassAtTheEnd.{first_asked, paired_up, count, has_class, end_has_class, explained_pairs}
+use Rattle.nntp_theory.specs.{Inner.Permits.{SomePermits}, Classes.{visible_from, asked_next, IsOpenClass, IsClass, HasClass, left_visible, class_by}}
+use Rattle.nntp_theory.proofs.Streams.{OneClass.{OneMore, one_more, run_open, run_fits, not_cut, not_malformed}, ClassAtTheEnd.{first_asked, paired_up, count}}
+use Rattle.nntp_theory.proofs.Streams.ClassAtTheEnd.{has_class, end_has_class, explained_pairs}
 
 -- where the pairing comes to its end, who permits its responses explains both streams
 pub explained_end : (profile : Profile) (S : Spool) (client server : List ℕ) (pairs : List Paired) (unanswered : ℕ) → IsPairing client server pairs (end unanswered)
@@ -20,20 +20,14 @@ explained_end profile S client server pairs unanswered pairing spool run = grind
 module _ (profile : Profile) (client server : List ℕ) (k : ℕ) (class : Class) (h : HasClass profile client server k class)
     (T : Spool) (more : List ℕ) (y : ExplainsUpTo profile T client server (k + 1) more) where
   pub one_answer : OneMore (prompts_of client) h.before.answers y.answers h.before.rest more
-  one_answer =
-      let a = h.before.count in
-      let b = y.count in
-      one_more (prompts_of client) h.before.answers y.answers h.before.octets y.octets h.before.rest more h.before.spelled y.spelled (sym h.before.whole ∙ y.whole) (omega arith)
+  one_answer = grind (arith, count, one_more)
 
   pub one_run : (m : OneMore (prompts_of client) h.before.answers y.answers h.before.rest more) → Run profile T start (prompts_of client) (h.before.answers ++ m.response ∷ [])
   one_run m = subst (λ answers. Run profile T start (prompts_of client) answers) m.is y.run
 
   -- so they stand where something is asked on an open connection
   pub there : (m : OneMore (prompts_of client) h.before.answers y.answers h.before.rest more) → IsOpenClass profile (left_visible client server k h.before) m.asked h.before.rest class
-  there m =
-      let v = left_visible client server k h.before in
-      let opened : v.closed ≡ false = run_open profile T start (prompts_of client) h.before.answers m.response (one_run m) in
-      subst (λ (x : Bool × Option Asked). IsClass x.0 profile v x.1 h.before.rest class) (λ i. (opened i, m.next i)) h.is_class
+  there m = grind (arith, run_open, one_run)
 
 -- no spool explains an answer where the pairing ends at octets
 no_more : (profile : Profile) (client server : List ℕ) (k : ℕ) (class : PairClass) → HasClass profile client server k (class_of class) → (T : Spool) → ExplainsFirst profile T client server k → ⊥
@@ -74,34 +68,13 @@ module _ (profile : Profile) (client server : List ℕ) (pairs : List Paired) (p
       has_class profile client server pairs before (class_by b) paired
       (subst (λ (x : Bool × List (Option (List ℕ))). IsClass x.0 profile v (first_asked x.1) before.server (class_by b)) (λ i. (sym next.is_open i, sym next.place i)) (by b e))
     where
-      answer : (b : Bool) → fits profile (visible_from start.visible (prompts_of client) (responses_of pairs)) (asked_at pair.line) pair.response ≡ b
-          → BeginsWithAnswer profile (visible_from start.visible (prompts_of client) (responses_of pairs)) (asked_at pair.line) before.server b
-      answer b e = record {
-        response = pair.response;
-        front = frame_octets pair.initial next.answered.block;
-        rest = after.server;
-        spells = next.answered.spells;
-        whole = next.answered.frame.whole;
-        fitting = e;
-      }
-
       by : (b : Bool) → fits profile (visible_from start.visible (prompts_of client) (responses_of pairs)) (asked_at pair.line) pair.response ≡ b
           → IsOpenClass profile (visible_from start.visible (prompts_of client) (responses_of pairs)) (asked_at pair.line) before.server (class_by b)
-      by true e = answer true e
-      by false e = answer false e
+      by b e = grind arith
 
   -- some octets stand there
   some_octets : before.server ≢ []
-  some_octets e =
-      let whole = ap length (sym e ∙ next.answered.frame.whole) in
-      absurd (omega (
-        arith,
-        whole,
-        length-append (frame_octets pair.initial next.answered.block) after.server,
-        length-append
-            (pair.initial ++ crlf) (framed next.answered.block),
-        length-append pair.initial crlf,
-      ))
+  some_octets e = grind arith
 
   -- what is asked there
   asked_is : asked_next (prompts_of client) (responses_of pairs) ≡ Some (asked_at pair.line)
@@ -120,12 +93,11 @@ module _ (profile : Profile) (client server : List ℕ) (pairs : List Paired) (p
   permitted T (more, y) =
       let spelled = (pairs-spelled client server pairs before paired).0 in
       let a = count pairs in
-      let b = y.count in
       let m = one_more (prompts_of client) (responses_of pairs) y.answers spelled.0 y.octets before.server more spelled.1 y.spelled (sym spelled.2 ∙ y.whole) (omega arith) in
       let same : m.asked ≡ asked_at pair.line = (let e = sym m.next ∙ asked_is in cc) in
       let one = one-spelling (asked_at pair.line) m.response pair.response m.front (frame_octets pair.initial next.answered.block) more after.server
       (subst (λ asked. Spells asked m.response m.front) same m.spells) next.answered.spells (sym m.whole ∙ next.answered.frame.whole) in
-      subst (λ r. Run profile T start (prompts_of client) (responses_of pairs ++ r ∷ [])) one.0 (subst (λ answers. Run profile T start (prompts_of client) answers) m.is y.run)
+      grind (arith, count)
 
   -- the answer is bad among the spools with P, if none of them permits it behind those that one of them permits
   pub bad_answer : (P : Spool → Type 0) (S : Spool) → IsSpool profile.limit S → P S → Run profile S start (prompts_of client) (responses_of pairs)

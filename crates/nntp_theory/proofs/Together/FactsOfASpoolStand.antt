@@ -11,7 +11,7 @@ use Rattle.nntp_theory.{specs.{Inner.Together.{Together}, Together.{denies_group
 use Rattle.nntp_theory.proofs.Members.{all_at, all_front, all_back, all_both, all_from, any_in, found_in, in_map, from_map, contains_in, in_contains}
 use Rattle.nntp_theory.proofs.{Members.{first_found, first_there}, GivenNumbers.{MetNumbersStand.{asks_stand}, AskedOfAGroup.{met_by_facts}}}
 use Rattle.nntp_wire.specs.{Listing.{ActiveValue}, Wildmat.{MatchesName}, Decided.{matches_name}, Name.{IsGroupName}, declared.command.What.{What}}
-use Rattle.nntp_wire.{specs.declared.command.What.TheVariants.{Article, Head, Body, Stat}, proofs.DecidedLemmas.{matches_name-iff}}
+use Rattle.nntp_wire.{specs.declared.command.What.TheVariants.{Article, Head}, proofs.DecidedLemmas.{matches_name-iff}}
 
 -- a text is the same as itself
 pub same_itself : (xs : List ℕ) → is_same xs xs ≡ true
@@ -138,8 +138,7 @@ module _ (limit : ℕ) (S : Spool) (facts : List Fact) (spool : IsSpool limit S)
   body_by_one id lines (TextIs Article other (Some ls)) h e =
       let a = article_of Article other (Some ls) h in
       has_part (λ t. t.body) id other a.0 (body_part ls) lines a.1 (parts_of other a.0 ls a.1 a.2).1 (is_same other id) refl e
-  body_by_one id lines (TextIs Body other (Some ls)) h e = grind (arith, article_of, has_part)
-  body_by_one id lines fact h e = cc
+  body_by_one id lines fact h e = grind (arith, article_of, has_part)
 
   -- an article has one such part
   part_once : (part : Text → List Line) (id : Id) (x y : List Line) → HasPart part id x → HasPart part id y → x ≡ y
@@ -170,10 +169,7 @@ module _ (limit : ℕ) (S : Spool) (facts : List Fact) (spool : IsSpool limit S)
       by : (what : What) → AllByRecursion (λ line. IsTrue (is_line line)) t.head
           × AllByRecursion (λ line. IsTrue (is_line line)) t.body
           → IfSome (text_of what t) (λ lines. AllByRecursion (λ line. IsTrue (is_line line)) lines)
-      by Article all = all_both (λ line. IsTrue (is_line line)) t.head ([] ∷ t.body) all.0 (refl, all.1)
-      by Head all = all.0
-      by Body all = all.1
-      by Stat all = tt
+      by what all = grind (arith, all_both)
 
   -- names, ids and lines are S's
   well_formed : (fact : Fact) → Holds S fact → IsWellFormed fact

@@ -1,5 +1,5 @@
 -- What two lists of facts show, deny and give.
-use Rattle.std.proofs.Common.{◌≡◌, Bool, true, false, ◌||◌, ◌&&◌, cond, IsTrue, List, [], ◌∷◌, ◌++◌, Option, None, Some, refl, sym, ap, ◌∙◌, arith}
+use Rattle.std.proofs.Common.{◌≡◌, Bool, true, false, ◌||◌, ◌&&◌, cond, IsTrue, List, [], ◌∷◌, ◌++◌, Option, None, Some, refl, ap, ◌∙◌, arith}
 use Rattle.std.{proofs.lemmas.{Bool.{true≢false, or_left, or_right, or_cases, false_from_ne_true}, List.Folds.{list_any-append}}, specs.Prelude.{IsFalse}}
 use Rattle.std.specs.{Prelude.{IfSome}, List.{AllByRecursion, list_any}, Option.{option_or}}
 use Rattle.nntp_said.specs.Facts.{Fact}
@@ -12,8 +12,7 @@ pub any_silent : (p : Fact → Bool) (facts more : List Fact) → list_any p mor
 any_silent p facts more none = list_any-append p facts more ∙ ap (λ b. list_any p facts || b) none ∙ or_no (list_any p facts)
   where
     or_no : (b : Bool) → (b || false) ≡ b
-    or_no true = refl
-    or_no false = refl
+    or_no b = grind arith
 
 -- a test of one more
 pub any_more : (p : Fact → Bool) (facts : List Fact) (fact : Fact) → list_any p (facts ++ fact ∷ []) ≡ (list_any p facts || p fact)
@@ -76,17 +75,13 @@ give_one_both {A} f facts more one within same =
     (all_from _ more (λ x i. added (f x) (all_at _ x more within i)))
   where
     kept : (o : Option A) → IfSome o (λ x. first_given f facts ≡ Some x) → IfSome o (λ x. first_given f (facts ++ more) ≡ Some x)
-    kept None h = tt
-    kept (Some x) h = given_append f facts more ∙ ap (λ o. option_or o (first_given f more)) h
+    kept o h = grind (arith, given_append)
 
     joined : (o p : Option A) (x : A) → first_given f facts ≡ o → first_given f more ≡ p → p ≡ Some x → IfSome p (λ x. IfSome o (λ y. x ≡ y)) → option_or o p ≡ Some x
-    joined None p x e g h s = h
-    joined (Some y) None x e g h s = cc
-    joined (Some y) (Some z) x e g h s = ap Some (sym s) ∙ h
+    joined o p x e g h s = grind arith
 
     added : (o : Option A) → IfSome o (λ x. first_given f more ≡ Some x) → IfSome o (λ x. first_given f (facts ++ more) ≡ Some x)
-    added None h = tt
-    added (Some x) h = given_append f facts more ∙ joined (first_given f facts) (first_given f more) x refl refl h same
+    added o h = grind (arith, given_append, joined)
 
 -- and back
 pub give_same_of_both : {A : Type 0} (f : Fact → Option A) (facts more : List Fact) → GiveOne f (facts ++ more) → GiveSame f facts more
@@ -98,17 +93,11 @@ give_same_of_both {A} f facts more one = by (first_given f more) (first_given f 
     -- what the first of more facts that gives something gives
     step : (o : Option A) (xs : List Fact) (x : A) → (first_given f xs ≡ Some x → first_given f (facts ++ more) ≡ Some x) → option_or o (first_given f xs) ≡ Some x
         → IfSome o (λ x. first_given f (facts ++ more) ≡ Some x) → first_given f (facts ++ more) ≡ Some x
-    step None xs x rest e h = rest e
-    step (Some y) xs x rest e h = h ∙ e
+    step o xs x rest e h = grind arith
 
     found : (xs : List Fact) (x : A) → first_given f xs ≡ Some x → AllByRecursion (λ fact. IfSome (f fact) (λ x. first_given f (facts ++ more) ≡ Some x)) xs → first_given f (facts ++ more) ≡ Some x
     found [] x e h = cc
     found (fact ∷ xs) x e h = step (f fact) xs x (λ e. found xs x e h.1) e h.0
 
     by : (p o : Option A) → first_given f more ≡ p → first_given f facts ≡ o → IfSome p (λ x. IfSome o (λ y. x ≡ y))
-    by None o e g = tt
-    by (Some x) None e g = tt
-    by (Some x) (Some y) e g =
-        let there = found more x e (all_back _ facts more one) in
-        let q : Some x ≡ Some y = sym there ∙ whole ∙ ap (λ o. option_or o (first_given f more)) g in
-        cc
+    by p o e g = grind (arith, found, all_back, whole)
