@@ -33,22 +33,86 @@ marks estimate low high = record { estimate = estimate; low = low; high = high }
 abbrev selected : ℕ → ℕ → ℕ → Response
 selected estimate low high = group_is (marks estimate low high) (codes "g")
 
--- ---- NEXT leads from the first number, which isn't seen, to 4
+-- ---- the sessions
 
+-- NEXT leads from the first number, which isn't seen, to 4
 abbrev stepped : List Fact
 stepped = session (group (codes "g") ∷ next ∷ []) (selected 3 1 5 ∷ found 4 (codes "<b@x>") ∷ [])
 
-stepped_says : stepped ≡ ThereIs (codes "g") ∷ Asks (codes "g") (Estimates Lenient (marks 3 1 5)) ∷ Asks (codes "g") (StepsUp First 4) ∷ IdAt (codes "g") 4 (codes "<b@x>") ∷ []
-stepped_says = refl
+-- then 1 and 2 are denied
+abbrev denied : List Ask
+denied = asks (group (codes "g") ∷ next ∷ stat 1 ∷ stat 2 ∷ []) (selected 3 1 5 ∷ found 4 (codes "<b@x>") ∷ plain 423 ∷ plain 423 ∷ [])
 
-stepped_asks : asks_of (codes "g") stepped ≡ Estimates Lenient (marks 3 1 5) ∷ StepsUp First 4 ∷ Has 4 ∷ []
-stepped_asks = refl
+-- a first number that is seen, and none below it
+abbrev seen : List Ask
+seen = asks (group (codes "g") ∷ retrieve Stat current ∷ last ∷ []) (selected 5 1 5 ∷ found 3 (codes "<a@b>") ∷ plain 422 ∷ [])
 
-four_has_its_id : id_shown stepped (codes "g") 4 ≡ Some (codes "<b@x>")
-four_has_its_id = refl
+-- one number that is denied, and then one below it
+abbrev emptied : List Ask
+emptied = asks (group (codes "g") ∷ stat 5 ∷ last ∷ []) (selected 1 5 5 ∷ plain 423 ∷ plain 422 ∷ [])
 
-one_has_none : id_shown stepped (codes "g") 1 ≡ None
-one_has_none = refl
+-- numbers of LISTGROUP
+abbrev listed : List Ask
+listed = asks (list_group (Some (codes "g")) from_one ∷ []) (numbers_are (marks 3 2 4) (codes "g") (codes "2" ∷ codes "4" ∷ []) ∷ [])
+
+abbrev none_listed : List Ask
+none_listed = asks (list_group (Some (codes "g")) (record { first = 2; last = Some 1 }) ∷ []) (numbers_are (marks 1 2 4) (codes "g") [] ∷ [])
+
+-- an id that is denied is mentioned, and so isn't invented
+abbrev absent : List Fact
+absent = session (retrieve Stat (by_id (codes "<w0@invented.invalid>")) ∷ group (codes "g") ∷ next ∷ []) (plain 430 ∷ selected 3 1 5 ∷ found 4 (codes "<b@x>") ∷ [])
+
+-- one id at two numbers of a group is what no spool has
+abbrev repeated : List Fact
+repeated = session (group (codes "g") ∷ stat 1 ∷ stat 2 ∷ []) (selected 2 1 2 ∷ found 1 (codes "<a@b>") ∷ found 2 (codes "<a@b>") ∷ [])
+
+-- a head that was sent
+abbrev headed : List Fact
+headed = session (retrieve Head (by_id (codes "<a@b>")) ∷ []) (sends (record { code = 221; number = 0; id = codes "<a@b>"; block = Some (codes "Subject: one" ∷ []) }) ∷ [])
+
+-- the last number
+abbrev at_limit : List Ask
+at_limit = asks (group (codes "g") ∷ stat 2147483647 ∷ next ∷ []) (selected 1 2147483647 2147483647 ∷ found 2147483647 (codes "<m@x>") ∷ plain 421 ∷ [])
+
+-- NEXT from the unseen first number, and LAST back to it
+abbrev returned : List Ask
+returned = asks (group (codes "g") ∷ next ∷ last ∷ []) (selected 3 1 5 ∷ found 4 (codes "<b@x>") ∷ found 2 (codes "<a@x>") ∷ [])
+
+-- ---- what is computed of them
+
+record Computed : Type 0 where
+  stepped_says : stepped ≡ ThereIs (codes "g") ∷ Asks (codes "g") (Estimates Lenient (marks 3 1 5)) ∷ Asks (codes "g") (StepsUp First 4) ∷ IdAt (codes "g") 4 (codes "<b@x>") ∷ []
+  stepped_asks : asks_of (codes "g") stepped ≡ Estimates Lenient (marks 3 1 5) ∷ StepsUp First 4 ∷ Has 4 ∷ []
+  four_has_its_id : id_shown stepped (codes "g") 4 ≡ Some (codes "<b@x>")
+  one_has_none : id_shown stepped (codes "g") 1 ≡ None
+  -- so one more is needed below 4
+  stepped_demands : demand (asks_of (codes "g") stepped) ≡ SecondIs 4
+  two_is_denied : is_denied denied 2 ≡ true
+  six_is_denied : is_denied denied 6 ≡ true
+  -- where 3 is denied too, no number is left below 4
+  all_denied : is_denied (asks (group (codes "g") ∷ next ∷ stat 1 ∷ stat 2 ∷ stat 3 ∷ []) (selected 3 1 5 ∷ found 4 (codes "<b@x>") ∷ plain 423 ∷ plain 423 ∷ plain 423 ∷ [])) 3 ≡ true
+  seen_asks : seen ≡ Estimates Lenient (marks 5 1 5) ∷ StandsAt First 3 ∷ Has 3 ∷ IsBottom (Known 3) ∷ []
+  seen_denies_below : is_denied seen 2 ≡ true
+  seen_leaves_above : is_denied seen 4 ≡ false
+  emptied_asks : emptied ≡ Estimates Lenient (marks 1 5 5) ∷ Lacks 5 ∷ IsBottom First ∷ []
+  emptied_needs_one : demand emptied ≡ NotEmpty
+  five_is_denied : is_denied emptied 5 ≡ true
+  four_is_denied : is_denied emptied 4 ≡ true
+  two_is_shown : is_shown listed 2 ≡ true
+  three_is_a_gap : is_denied listed 3 ≡ true
+  empty_range_denies_none : is_denied none_listed 3 ≡ false
+  absent_is_mentioned : is_mentioned absent (codes "<w0@invented.invalid>") ≡ true
+  same_id : id_shown repeated (codes "g") 1 ≡ id_shown repeated (codes "g") 2
+  head_is_sent : first_given (head_in (codes "<a@b>")) headed ≡ Some (codes "Subject: one" ∷ [])
+  at_limit_asks : at_limit ≡ Estimates Lenient (marks 1 2147483647 2147483647) ∷ Has 2147483647 ∷ IsTop (Known 2147483647) ∷ []
+  returned_asks : returned ≡ Estimates Lenient (marks 3 1 5) ∷ StepsUp First 4 ∷ Has 4 ∷ StepsDown (Known 4) 2 ∷ Has 2 ∷ []
+  step_is_a_gap : is_denied returned 3 ≡ true
+  one_is_free : is_denied returned 1 ≡ false
+
+computed : Computed
+computed = assumption
+
+-- ---- NEXT leads from the first number, which isn't seen, to 4
 
 -- no number below 4 is shown
 four_is_shown_least : (n : ℕ) → IsTrue (is_shown (asks_of (codes "g") stepped) n) → 4 ≤ n
@@ -61,23 +125,11 @@ four_is_shown_least n t = elim (or_cases _ _ t) [
 four_is_least : (n : ℕ) → IsTrue (is_known (asks_of (codes "g") stepped) n) → 4 ≤ n
 four_is_least n t = elim (or_cases (is_shown (asks_of (codes "g") stepped) n) _ t) [ inl s ↦ four_is_shown_least n s | inr f ↦ cc ]
 
--- so one more is needed below it, and that is 1
-stepped_demands : demand (asks_of (codes "g") stepped) ≡ SecondIs 4
-stepped_demands = refl
-
+-- what is needed more is 1
 one_is_given : IsOneMore (asks_of (codes "g") stepped) 1
 one_is_given = record { needed = λ n t. le-ltb n 4 (four_is_least n t); wanted = refl; first = (omega arith, refl, λ m some low. absurd (omega arith)) }
 
 -- ---- then 1 and 2 are denied
-
-abbrev denied : List Ask
-denied = asks (group (codes "g") ∷ next ∷ stat 1 ∷ stat 2 ∷ []) (selected 3 1 5 ∷ found 4 (codes "<b@x>") ∷ plain 423 ∷ plain 423 ∷ [])
-
-two_is_denied : is_denied denied 2 ≡ true
-two_is_denied = refl
-
-six_is_denied : is_denied denied 6 ≡ true
-six_is_denied = refl
 
 still_shown_least : (n : ℕ) → IsTrue (is_shown denied n) → 4 ≤ n
 still_shown_least n t = elim (or_cases _ _ t) [
@@ -100,43 +152,12 @@ below_three m some low = elim (cases_eq m 1) [
 three_is_given : IsOneMore denied 3
 three_is_given = record { needed = λ n t. le-ltb n 4 (still_least n t); wanted = refl; first = (omega arith, refl, below_three) }
 
--- and where 3 is denied too, no number is left below 4
-all_denied : is_denied (asks (group (codes "g") ∷ next ∷ stat 1 ∷ stat 2 ∷ stat 3 ∷ []) (selected 3 1 5 ∷ found 4 (codes "<b@x>") ∷ plain 423 ∷ plain 423 ∷ plain 423 ∷ [])) 3 ≡ true
-all_denied = refl
-
 -- ---- a first number that is seen, and none below it
-
-abbrev seen : List Ask
-seen = asks (group (codes "g") ∷ retrieve Stat current ∷ last ∷ []) (selected 5 1 5 ∷ found 3 (codes "<a@b>") ∷ plain 422 ∷ [])
-
-seen_asks : seen ≡ Estimates Lenient (marks 5 1 5) ∷ StandsAt First 3 ∷ Has 3 ∷ IsBottom (Known 3) ∷ []
-seen_asks = refl
-
-seen_denies_below : is_denied seen 2 ≡ true
-seen_denies_below = refl
-
-seen_leaves_above : is_denied seen 4 ≡ false
-seen_leaves_above = refl
 
 seen_needs_none : (n : ℕ) → IsOneMore seen n → ⊥
 seen_needs_none n x = let w = x.wanted in cc
 
 -- ---- one number that is denied, and then one below it
-
-abbrev emptied : List Ask
-emptied = asks (group (codes "g") ∷ stat 5 ∷ last ∷ []) (selected 1 5 5 ∷ plain 423 ∷ plain 422 ∷ [])
-
-emptied_asks : emptied ≡ Estimates Lenient (marks 1 5 5) ∷ Lacks 5 ∷ IsBottom First ∷ []
-emptied_asks = refl
-
-emptied_needs_one : demand emptied ≡ NotEmpty
-emptied_needs_one = refl
-
-five_is_denied : is_denied emptied 5 ≡ true
-five_is_denied = refl
-
-four_is_denied : is_denied emptied 4 ≡ true
-four_is_denied = refl
 
 -- so no number is left, and what is asked doesn't stand together
 emptied_falls : AsksStand emptied → ⊥
@@ -150,31 +171,7 @@ emptied_falls h = by h.demand_met.0 h.demand_met.1
 unasked_needs_none : (n : ℕ) → IsOneMore (asks (group (codes "g") ∷ stat 5 ∷ []) (selected 1 5 5 ∷ plain 423 ∷ [])) n → ⊥
 unasked_needs_none n x = let w = x.wanted in cc
 
--- ---- numbers of LISTGROUP
-
-abbrev listed : List Ask
-listed = asks (list_group (Some (codes "g")) from_one ∷ []) (numbers_are (marks 3 2 4) (codes "g") (codes "2" ∷ codes "4" ∷ []) ∷ [])
-
-two_is_shown : is_shown listed 2 ≡ true
-two_is_shown = refl
-
-three_is_a_gap : is_denied listed 3 ≡ true
-three_is_a_gap = refl
-
-abbrev none_listed : List Ask
-none_listed = asks (list_group (Some (codes "g")) (record { first = 2; last = Some 1 }) ∷ []) (numbers_are (marks 1 2 4) (codes "g") [] ∷ [])
-
-empty_range_denies_none : is_denied none_listed 3 ≡ false
-empty_range_denies_none = refl
-
 -- ---- ids
-
--- an id that is denied is mentioned, and so isn't invented
-abbrev absent : List Fact
-absent = session (retrieve Stat (by_id (codes "<w0@invented.invalid>")) ∷ group (codes "g") ∷ next ∷ []) (plain 430 ∷ selected 3 1 5 ∷ found 4 (codes "<b@x>") ∷ [])
-
-absent_is_mentioned : is_mentioned absent (codes "<w0@invented.invalid>") ≡ true
-absent_is_mentioned = refl
 
 invented_zero : invented 0 ≡ codes "<w0@invented.invalid>"
 invented_zero = ap (λ digits. codes "<w" ++ digits ++ codes "@invented.invalid>") (decimal_digit 0 (omega arith))
@@ -188,47 +185,13 @@ one_is_invented = (1, (omega arith, ap (is_mentioned absent) invented_one, passe
     passed : (i : ℕ) → 0 ≤ i → i < 1 → IsTrue (is_mentioned absent (invented i))
     passed i some low = subst (λ i. is_mentioned absent (invented i) ≡ true) (let e : 0 ≡ i = omega arith in e) (ap (is_mentioned absent) invented_zero)
 
--- one id at two numbers of a group is what no spool has
-abbrev repeated : List Fact
-repeated = session (group (codes "g") ∷ stat 1 ∷ stat 2 ∷ []) (selected 2 1 2 ∷ found 1 (codes "<a@b>") ∷ found 2 (codes "<a@b>") ∷ [])
-
-same_id : id_shown repeated (codes "g") 1 ≡ id_shown repeated (codes "g") 2
-same_id = refl
-
 repeated_falls : Together repeated → ⊥
 repeated_falls h =
     let one = h.ids_once (codes "g") (codes "<a@b>") in
     let at_two : first_given (number_in (codes "g") (codes "<a@b>")) repeated ≡ Some 2 = one.1.1.1.1.1.0 in
     cc
 
--- a head that was sent
-abbrev headed : List Fact
-headed = session (retrieve Head (by_id (codes "<a@b>")) ∷ []) (sends (record { code = 221; number = 0; id = codes "<a@b>"; block = Some (codes "Subject: one" ∷ []) }) ∷ [])
-
-head_is_sent : first_given (head_in (codes "<a@b>")) headed ≡ Some (codes "Subject: one" ∷ [])
-head_is_sent = refl
-
--- ---- the last number
-
-abbrev at_limit : List Ask
-at_limit = asks (group (codes "g") ∷ stat 2147483647 ∷ next ∷ []) (selected 1 2147483647 2147483647 ∷ found 2147483647 (codes "<m@x>") ∷ plain 421 ∷ [])
-
-at_limit_asks : at_limit ≡ Estimates Lenient (marks 1 2147483647 2147483647) ∷ Has 2147483647 ∷ IsTop (Known 2147483647) ∷ []
-at_limit_asks = refl
-
 -- ---- NEXT from the unseen first number, and LAST back to it
-
-abbrev returned : List Ask
-returned = asks (group (codes "g") ∷ next ∷ last ∷ []) (selected 3 1 5 ∷ found 4 (codes "<b@x>") ∷ found 2 (codes "<a@x>") ∷ [])
-
-returned_asks : returned ≡ Estimates Lenient (marks 3 1 5) ∷ StepsUp First 4 ∷ Has 4 ∷ StepsDown (Known 4) 2 ∷ Has 2 ∷ []
-returned_asks = refl
-
-step_is_a_gap : is_denied returned 3 ≡ true
-step_is_a_gap = refl
-
-one_is_free : is_denied returned 1 ≡ false
-one_is_free = refl
 
 -- 2 is shown below 4, so no number more is needed
 returned_needs_none : (n : ℕ) → IsOneMore returned n → ⊥
