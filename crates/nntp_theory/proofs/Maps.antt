@@ -105,11 +105,7 @@ module _ {K X : Type 0} {R : K → K → Ordering} (o : IsTotalOrder R) (same : 
 
   -- what is found has its key among the keys
   pub key_of : (m : FinMap R X) (q : K) → IsSome (get m q) → In q (keys m)
-  key_of m q i = by (get m q) refl i
-    where
-      by : (o : Option X) → get m q ≡ o → IsSome o → In q (keys m)
-      by None e i = cc
-      by (Some v) e i = in_map (λ e. e.0) (q, v) (entries m) (get_in m q v e)
+  key_of m q i = grind (arith, in_map, get_in)
 
   -- and back
   pub of_key : (m : FinMap R X) (q : K) → In q (keys m) → IsSome (get m q)

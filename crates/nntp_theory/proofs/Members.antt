@@ -115,11 +115,7 @@ all_parts P f (x ∷ xs) h = all_both P (f x) (flat_map f xs) (h x (inl refl)) (
 -- one of the facts gives what the first gives
 pub first_found : {A : Type 0} (f : Fact → Option A) (xs : List Fact) (y : A) → first_given f xs ≡ Some y → (x : Fact) × In x xs × (f x ≡ Some y)
 first_found f [] y e = cc
-first_found {A} f (x ∷ xs) y e = by (f x) refl (first_found f xs y) e
-  where
-    by : (o : Option A) → f x ≡ o → (first_given f xs ≡ Some y → (z : Fact) × In z xs × (f z ≡ Some y)) → option_or o (first_given f xs) ≡ Some y → (z : Fact) × In z (x ∷ xs) × (f z ≡ Some y)
-    by (Some z) is rest e = (x, inl refl, is ∙ e)
-    by None is rest e = let r = rest e in (r.0, inr r.1, r.2)
+first_found {A} f (x ∷ xs) y e = grind (arith, first_found f xs y)
 
 -- where one of the facts gives something, the first gives something
 pub first_there : {A : Type 0} (f : Fact → Option A) (xs : List Fact) (x : Fact) (y : A) → In x xs → f x ≡ Some y → (z : A) × (first_given f xs ≡ Some z)

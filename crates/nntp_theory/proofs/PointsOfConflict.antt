@@ -7,11 +7,11 @@ use Rattle.nntp_wire.specs.declared.{command.What.{What}, marks.Marks.TheVariant
 use Rattle.nntp_article.{proofs.SessionLemmas.FiniteMapsDecided.{Dec, dec_some, dec_texts, dec_lists}, specs.{Article.Parts.{Id, Line}, Session.Spool.{Name}}}
 use Rattle.nntp_article.specs.{Session.{Spool.{Numbers, numbers}, Machine.{is_same}}, declared.session.profile.Profile.{Profile}}
 use Rattle.nntp_said.specs.{Asks.{Ask}, Facts.{Fact, ThereIs, ThereIsNo, Asks, IdAt, TextIs, NoArticle, GroupsAre}}
-use Rattle.nntp_theory.specs.Given.{asks_in, asks_of, is_shown_group, shows_group, first_given, id_in, head_in, body_in, is_known, is_denied, demand}
-use Rattle.nntp_theory.specs.{Given.{IsGivenNumber, HasGivenNumbers}, Inner.{Given.{size}, Together.{IsWellFormed, Together}, Conflict.{FitsThere}}}
-use Rattle.nntp_theory.specs.{Together.{is_possible, MeetsDemand, IsFewFor, denies_group, number_in, shows_article, denies_article, GiveOne}, Conflict.{Placed}}
-use Rattle.nntp_theory.specs.Conflict.{told, told_with, SomeHas, Point, Step, Group, Number, Count, First, IdOf, PlaceOf, Article, HeadOf, BodyOf, ConflictAt}
-use Rattle.nntp_theory.{specs.Conflict.{rank, IsFirstPoint}, proofs.{PointsByRank.{each, or_next, PointsOf, of_rank}, Members.{In, all_at, all_from, any_in}}}
+use Rattle.nntp_theory.specs.Given.{asks_of, is_shown_group, shows_group, first_given, id_in, head_in, body_in, is_known, is_denied, demand, IsGivenNumber}
+use Rattle.nntp_theory.specs.{Given.{HasGivenNumbers}, Inner.{Given.{size}, Together.{IsWellFormed, Together}, Conflict.{FitsThere}}, Together.{is_possible}}
+use Rattle.nntp_theory.specs.{Together.{MeetsDemand, IsFewFor, denies_group, number_in, shows_article, denies_article, GiveOne}, Conflict.{Placed, told}}
+use Rattle.nntp_theory.specs.Conflict.{told_with, SomeHas, Point, Step, Group, Number, Count, First, IdOf, PlaceOf, Article, HeadOf, BodyOf, ConflictAt, rank}
+use Rattle.nntp_theory.{specs.Conflict.{IsFirstPoint}, proofs.{PointsByRank.{each, or_next, PointsOf, of_rank}, Members.{In, all_at, all_from, any_in}}}
 use Rattle.nntp_theory.proofs.{Members.{found_in}, Together.FactsOfASpoolStand.{same_itself}, Session.NumbersOfShownGroups.{Placed as IsPlaced}}
 use Rattle.nntp_theory.proofs.{Session.{NumbersWithinLimit.{free_in_limit}, FittingFacts.{IsFitting}}, Given.ConstructedSpool.{made, made_group, made_given}}
 use Rattle.nntp_theory.proofs.{GivenNumbers.AsksDecided.{denied_or_not, too_many_or_not, unmet_or_met}, Conflicts.{with_told, told_together, told_fitting}}
@@ -105,13 +105,7 @@ module _ (facts : List Fact) where
 
     -- nothing is asked of the numbers of one that isn't
     none_asked : (name : Name) → is_shown_group facts name ≡ false → asks_of name facts ≡ []
-    none_asked name hidden = flat_none (asks_in name) facts (λ fact i. by fact i (all_at (IsPlaced Lenient facts) fact facts placed i))
-      where
-        unless : (b : Bool) (ask : Ask) → (b ≡ true → ⊥) → cond b (ask ∷ []) [] ≡ []
-        unless b ask out = ap (λ b. cond b (ask ∷ []) []) (false_from_ne_true b out)
-
-        by : (fact : Fact) → In fact facts → IsPlaced Lenient facts fact → asks_in name fact ≡ []
-        by fact i p = grind (arith, unless, true≢false, shown_of, flat_none, any_in)
+    none_asked name hidden = grind (arith, flat_none, all_at, false_from_ne_true, true≢false, shown_of, any_in)
 
     -- of what is asked of a group the one is so, or of each the other is
     each_asked : (C : Type 0) (P : List Ask → Type 0) → P [] → ((name : Name) → IsTrue (is_shown_group facts name) → C ⊎ P (asks_of name facts)) → C ⊎ ((name : Name) → P (asks_of name facts))

@@ -1,7 +1,7 @@
 -- What stands together holds of the spool that is given for it.
-use Rattle.std.proofs.Common.{◌≡◌, ℕ, ◌+◌, ◌<◌, ◌⊎◌, Bool, true, false, cond, ◌&&◌, ◌==◌, IsTrue, List, [], ◌∷◌, ◌++◌, map, length, Option, None, Some, is_some}
-use Rattle.std.proofs.{Common.{inl, inr, refl, sym, ap, subst, ◌∙◌, arith}, lemmas.Bool.{true≢false, and_parts, and_from, and_cases, false_from_ne_true}}
-use Rattle.std.{proofs.lemmas.{Bool.{not-false, eqb-true, eq-eqb}, List.Elements.{All-from_recursion}}, specs.Prelude.{IsFalse, IfSome, unwrap_or}}
+use Rattle.std.proofs.Common.{◌≡◌, ℕ, ◌+◌, ◌<◌, ◌⊎◌, true, false, cond, ◌==◌, IsTrue, List, [], ◌∷◌, ◌++◌, map, length, Option, None, Some, is_some, inl, inr}
+use Rattle.std.proofs.{Common.{refl, sym, ap, subst, ◌∙◌, arith}, lemmas.Bool.{true≢false, and_parts, and_from, and_cases, false_from_ne_true, not-false}}
+use Rattle.std.{proofs.lemmas.{Bool.{eqb-true, eq-eqb}, List.Elements.{All-from_recursion}}, specs.Prelude.{IsFalse, IfSome, unwrap_or}}
 use Rattle.std.specs.{List.{AllByRecursion, list_any}, Option.{option_map_or}, Ordering.{nat_cmp}, FinMap.{get, empty, entries, get-entries, get-empty}}
 use Rattle.std.specs.FinMap.{nat_cmp-IsAntisymmetric, slice_cmp-IsAntisymmetric}
 use Rattle.nntp_article.specs.{Article.Parts.{head_part, body_part, is_empty, Id, Line}, Session.Spool.{Spool, Text, Numbers, IsNumber, IsGroup, numbers}}
@@ -111,16 +111,7 @@ module _ (profile : Profile) (B : ℕ) (G : Spool) (facts : List Fact) (s : Sett
 
   -- an id that is shown is that of one of the facts
   pub shown_at : (name : Name) (n : ℕ) (id : Id) → id_shown facts name n ≡ Some id → ShownAt facts name n id
-  shown_at name n id e = let f = first_found (id_in name n) facts id e in let a = by f.0 f.2 in record { fact = f.0; there = f.1; number = a.0; article = a.1; mentioned = a.2; formed = a.3 }
-    where
-      by : (fact : Fact) → id_in name n fact ≡ Some id → (number_in name id fact ≡ Some n) × (shows_article id fact ≡ true) × (mentions id fact ≡ true) × (IsWellFormed fact → IsMessageId id)
-      by (IdAt g m other) e = one (is_same g name) (m == n) refl e
-        where
-          one : (a b : Bool) → (m == n) ≡ b → cond (a && b) (Some other) None ≡ Some id
-              → (cond (a && is_same other id) (Some m) None ≡ Some n) × (is_same other id ≡ true) × (is_same other id ≡ true)
-              × (IsMessageId other → IsMessageId id)
-          one a b is e = grind (arith, same_itself, eqb-true)
-      by fact e = cc
+  shown_at name n id e = grind (arith, first_found, mentioned, same_itself, eqb-true)
 
   -- an id that a fact shows to have an article isn't denied
   not_denied : (id : Id) (fact : Fact) → In fact facts → shows_article id fact ≡ true → In (NoArticle id) facts → ⊥

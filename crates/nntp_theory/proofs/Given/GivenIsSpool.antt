@@ -1,6 +1,6 @@
 -- The spool that is given is a spool.
 use Rattle.std.specs.{Ordering.{nat_cmp}, Prelude.{unwrap_or}, List.{AllByRecursion, list_any}, Option.{option_map_or}, FinMap.{get, len, empty_of_len}}
-use Rattle.std.{specs.{FinMap.{get-empty}, Cmp.Lexicographic.{same_text}}, proofs.Common.{◌≡◌, ℕ, ◌≤◌, Bool, true, false, cond, IsTrue, List, [], ◌∷◌, ◌++◌}}
+use Rattle.std.{specs.{FinMap.{get-empty}, Cmp.Lexicographic.{same_text}}, proofs.Common.{◌≡◌, ℕ, ◌≤◌, Bool, true, false, cond, IsTrue, List, ◌∷◌, ◌++◌}}
 use Rattle.std.proofs.{Common.{Option, None, Some, is_some, IsSome, inl, inr, refl, sym, ap, subst, ◌∙◌, arith}, lemmas.Bool.{true≢false, and_parts, or_cases}}
 use Rattle.std.proofs.lemmas.{Bool.{cases_eq}, List.Elements.{All-from_recursion}}
 use Rattle.nntp_theory.proofs.{GivenNumbers.LeastNumber.{not_number}, Together.FewEnough.{within_one}, Given.{ShownNames.{shown_named}, GivenHolds.{Setting}}}
@@ -12,7 +12,7 @@ use Rattle.nntp_theory.specs.{Inner.Together.{IsWellFormed}, Together.{number_in
 use Rattle.nntp_article.specs.{Article.Parts.{is_head, said_id, head_part, body_part, Id, Line}, Session.Spool.{Spool, Text, IsNumber, IsGroup, numbers}}
 use Rattle.nntp_article.specs.{Session.{Spool.{IsSpool, Name, is_line, Numbers}, Machine.{is_same, says_own_id}}, declared.session.profile.Profile.{Profile}}
 use Rattle.nntp_said.specs.Facts.{Fact, TextIs}
-use Rattle.nntp_wire.specs.{Name.{IsGroupName, IsMessageId}, declared.command.What.TheVariants.{Article, Head, Body}}
+use Rattle.nntp_wire.specs.{Name.{IsGroupName, IsMessageId}, declared.command.What.TheVariants.{Article, Head}}
 
 -- a head for an id, without lines that hold NUL, CR or LF, and it says no other id
 record IsHeadOf (id : Id) (head : List Line) : Type 0 where
@@ -127,17 +127,7 @@ module _ (profile : Profile) (B : ℕ) (G : Spool) (facts : List Fact) (s : Sett
 
   -- and a body that was sent has lines
   sent_body : (id : Id) (lines : List Line) (fact : Fact) → IsWellFormed fact → body_in id fact ≡ Some lines → AllByRecursion (λ line. IsTrue (is_line line)) lines
-  sent_body id lines (TextIs Article other (Some ls)) h e = by (is_same other id) e
-    where
-      by : (b : Bool) → cond b (Some (body_part ls)) None ≡ Some lines → AllByRecursion (λ line. IsTrue (is_line line)) lines
-      by true e = subst (AllByRecursion (λ line. IsTrue (is_line line))) (let q : body_part ls ≡ lines = cc in q) (body_lines (λ line. IsTrue (is_line line)) ls h.1)
-      by false e = cc
-  sent_body id lines (TextIs Body other (Some ls)) h e = by (is_same other id) e
-    where
-      by : (b : Bool) → cond b (Some ls) None ≡ Some lines → AllByRecursion (λ line. IsTrue (is_line line)) lines
-      by true e = subst (AllByRecursion (λ line. IsTrue (is_line line))) (let q : ls ≡ lines = cc in q) h.1
-      by false e = cc
-  sent_body id lines fact h e = cc
+  sent_body id lines fact h e = grind (arith, body_lines)
 
   -- the head of an id is one
   head_is : (id : Id) (t : Text) → get G.articles id ≡ Some t → IsHeadOf id t.head
@@ -148,11 +138,7 @@ module _ (profile : Profile) (B : ℕ) (G : Spool) (facts : List Fact) (s : Sett
 
   -- a body that was sent, or none
   body_is : (id : Id) (t : Text) → get G.articles id ≡ Some t → AllByRecursion (λ line. IsTrue (is_line line)) t.body
-  body_is id t e = subst (AllByRecursion (λ line. IsTrue (is_line line))) (sym (s.given.bodies id t e)) (by (first_given (body_in id) facts) refl)
-    where
-      by : (o : Option (List Line)) → first_given (body_in id) facts ≡ o → AllByRecursion (λ line. IsTrue (is_line line)) (unwrap_or o [])
-      by None is = tt
-      by (Some lines) is = let f = first_found (body_in id) facts lines is in sent_body id lines f.0 (formed f.0 f.1) f.2
+  body_is id t e = grind (arith, first_found, sent_body, formed)
 
   -- the given spool is a spool
   pub given_is_spool : IsSpool profile.limit G

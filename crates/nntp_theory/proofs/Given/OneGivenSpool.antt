@@ -2,7 +2,7 @@
 use Rattle.std.proofs.Common.{◌≡◌, ℕ, ◌+◌, cond, List, [], ◌∷◌, ◌++◌, map, Option, None, Some, is_some, IsSome, inl, inr, refl, sym, ap, subst, ◌∙◌, arith}
 use Rattle.std.{proofs.lemmas.Bool.{true≢false}, specs.{Prelude.{unwrap_or}, List.{flat_map}, Cmp.{nat_cmp_total, Lexicographic.{nat_list_cmp_total}}}}
 use Rattle.std.specs.FinMap.{get, keys, entries, empty, same_entries_map, same_map, nat_cmp-IsAntisymmetric}
-use Rattle.nntp_article.specs.{Session.Spool.{Spool, Text, Numbers, IsNumber, IsGroup, numbers, Name}, Article.Parts.{Id}}
+use Rattle.nntp_article.specs.{Session.Spool.{Spool, Numbers, IsNumber, IsGroup, numbers, Name}, Article.Parts.{Id}}
 use Rattle.nntp_said.specs.Facts.{Fact}
 use Rattle.nntp_theory.{specs.Given.{id_shown, is_mentioned, invented, AreInvented, unshown_in, IsGiven}, proofs.GivenNumbers.FirstFreeNumber.{first_free_once}}
 use Rattle.nntp_theory.proofs.{Members.{In}, Maps.{same_keys, in_get}, Given.ConstructedSpool.{names_apart}}
@@ -111,10 +111,7 @@ module _ (facts : List Fact) (G H : Spool) (given : IsGiven facts G) (other : Is
 
   -- the articles are the same
   articles_alike : (id : Id) → get G.articles id ≡ get H.articles id
-  articles_alike id = by (get G.articles id) refl (get H.articles id) refl
-    where
-      by : (o : Option Text) → get G.articles id ≡ o → (p : Option Text) → get H.articles id ≡ p → get G.articles id ≡ get H.articles id
-      by o e p f = grind (arith, true≢false, back, there)
+  articles_alike id = grind (arith, true≢false, back, there)
 
   -- two given spools are one
   pub given_once : G ≡ H

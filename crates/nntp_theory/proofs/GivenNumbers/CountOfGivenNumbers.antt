@@ -1,10 +1,10 @@
 -- The given numbers are those that are known, and the one more.
-use Rattle.std.proofs.{Common.{refl, ◌≡◌, ℕ, ◌+◌, ◌↔◌, cond, IsTrue, List, [], Some, is_some, inl, inr, sym, ap, ◌∙◌, arith}, lemmas.Bool.{true≢false}}
-use Rattle.std.{proofs.lemmas.Bool.{cases_eq, eq-eqb, ne_eqb, false_from_ne_true, ltb-true, lt-ltb}, specs.{Ordering.{nat_cmp, eq_by_cmp}, Cmp.{nat_cmp_total}}}
+use Rattle.std.proofs.{Common.{◌≡◌, ℕ, ◌+◌, ◌↔◌, cond, IsTrue, List, [], Some, is_some, inl, inr, sym, ap, ◌∙◌, arith}, lemmas.Bool.{true≢false, cases_eq}}
+use Rattle.std.{proofs.lemmas.Bool.{eq-eqb, ne_eqb, false_from_ne_true, ltb-true, lt-ltb}, specs.{Ordering.{nat_cmp, eq_by_cmp}, Cmp.{nat_cmp_total}}}
 use Rattle.std.specs.FinMap.{get, len, insert, get-insert, len-insert}
 use Rattle.nntp_article.specs.Session.Spool.{Numbers, IsNumber}
 use Rattle.nntp_said.specs.Asks.{Ask}
-use Rattle.nntp_theory.specs.{Given.{is_known, demand, IsOneMore, IsGivenNumber, HasGivenNumbers}, declared.demand.Demand.{Demand}, Together.{MeetsDemand}}
+use Rattle.nntp_theory.specs.{Given.{is_known, demand, IsOneMore, IsGivenNumber, HasGivenNumbers}, Together.{MeetsDemand}}
 use Rattle.nntp_theory.proofs.{GivenNumbers.MetNumbersStand.{one_more_once, second_shown, shown_known}, Maps.{len_le}}
 
 -- the one more isn't known
@@ -37,10 +37,7 @@ as_many_given asks N M g h = search (arith, len_le)
 
 -- where there is one more, the demand is met
 pub more_meets : (asks : List Ask) (e : ℕ) → IsOneMore asks e → MeetsDemand (demand asks) (IsGivenNumber asks)
-more_meets asks e x = by (demand asks) refl
-  where
-    by : (d : Demand) → demand asks ≡ d → MeetsDemand d (IsGivenNumber asks)
-    by d is = grind (arith, true≢false, one_more_once, shown_known, second_shown, ltb-true, lt-ltb)
+more_meets asks e x = grind (arith, true≢false, one_more_once, shown_known, second_shown, ltb-true, lt-ltb)
 
 -- else if those that are known meet it
 pub known_meet : (asks : List Ask) → ((e : ℕ) → IsOneMore asks e → ⊥) → MeetsDemand (demand asks) (IsGivenNumber asks) ↔ MeetsDemand (demand asks) (λ n. IsTrue (is_known asks n))

@@ -11,11 +11,7 @@ first_free_once taken k i j x y = grind arith
 pub free_is : (taken : ℕ → Bool) (k n j : ℕ) → free taken k n ≡ Some j → IsFirstFree taken n j
 unfolding free
 free_is taken zero n j e = cc
-free_is taken (suc k) n j e = by (taken n) refl (free_is taken k (n + 1) j) e
-  where
-    by : (b : Bool) → taken n ≡ b → (free taken k (n + 1) ≡ Some j → IsFirstFree taken (n + 1) j) → cond b (free taken k (n + 1)) (Some n) ≡ Some j → IsFirstFree taken n j
-    by true t rest e = let r = rest e in let l = r.0 in (omega arith, r.1, λ m a b. elim (cases_eq m n) [ inl s ↦ ap taken s ∙ t | inr ne ↦ r.2 m (omega arith) b ])
-    by false f rest e = let s : n ≡ j = cc in (omega arith, ap taken (sym s) ∙ f, λ m a b. absurd (omega arith))
+free_is taken (suc k) n j e = grind (arith, free_is taken k (n + 1) j)
 
 -- where none is found, all are taken
 pub free_none : (taken : ℕ → Bool) (k n : ℕ) → free taken k n ≡ None → (m : ℕ) → n ≤ m → m < n + k → taken m ≡ true

@@ -1,9 +1,9 @@
 -- The given numbers meet what is asked of them, if that stands together.
 use Rattle.nntp_wire.{specs.declared.marks.Marks.{Marks, TheVariants.{Lenient, Strict}}, proofs.OptionLemmas.{none_of}}
-use Rattle.std.proofs.Common.{◌≡◌, ℕ, ◌≤◌, ◌⊎◌, Bool, true, false, ◌==◌, IsTrue, List, [], ◌∷◌, Some, inl, inr, refl, sym, ap, subst, ◌∙◌, arith}
+use Rattle.std.proofs.Common.{◌≡◌, ℕ, ◌≤◌, ◌⊎◌, true, false, IsTrue, List, [], ◌∷◌, Some, inl, inr, refl, sym, ap, subst, ◌∙◌, arith}
 use Rattle.std.proofs.lemmas.Bool.{true≢false, and_cases, false_from_ne_true, eqb-true, ltb-true, ltb-false, cases_lt, eq-eqb, not-false, or_cases, or_left}
-use Rattle.std.{proofs.lemmas.Bool.{or_right, and_parts, and_from, cases_Bool, or_parts, Decides.{nat_tests}}, specs.Prelude.{IsFalse, cond}}
-use Rattle.std.specs.{List.{AllByRecursion, list_any}, FinMap.{get}}
+use Rattle.std.{proofs.lemmas.Bool.{or_right, and_parts, and_from, cases_Bool, or_parts, Decides.{nat_tests}}, specs.{Prelude.{IsFalse}, List.{AllByRecursion}}}
+use Rattle.std.specs.{List.{list_any}, FinMap.{get}}
 use Rattle.nntp_article.specs.Session.{Spool.{Numbers, IsNumber, IsNextAbove, NoneAbove, NoneBelow}, Machine.{is_in_range, AreEnds}}
 use Rattle.nntp_said.specs.Asks.{Ask, Meets, Estimates, Bounds, ListsIn, Has, Lacks, StandsAt, StandsNowhere, StepsUp, StepsDown, IsTop, IsBottom}
 use Rattle.nntp_said.specs.declared.position.Position.TheVariants.{Nowhere, First, Known}
@@ -29,10 +29,7 @@ parted P OnlyOne Impossible h = absurd h
 parted P (SecondIs m) NoDemand h = (h, tt)
 parted P (SecondIs m) NotEmpty h = (h, (h.1, h.3))
 parted P (SecondIs m) OnlyOne h = absurd h
-parted P (SecondIs m) (SecondIs k) h = by (m == k) refl h
-  where
-    by : (b : Bool) → (m == k) ≡ b → MeetsDemand (cond b (SecondIs m) Impossible) P → MeetsDemand (SecondIs m) P × MeetsDemand (SecondIs k) P
-    by b e h = grind arith
+parted P (SecondIs m) (SecondIs k) h = grind arith
 parted P (SecondIs m) Impossible h = absurd h
 parted P Impossible e h = absurd h
 

@@ -1,5 +1,5 @@
 -- The demand of two lists of asks is that of both.
-use Rattle.std.proofs.Common.{◌≡◌, Bool, true, false, cond, ◌==◌, List, [], ◌∷◌, ◌++◌, refl, sym, ap, ◌∙◌, arith}
+use Rattle.std.proofs.Common.{◌≡◌, true, false, cond, ◌==◌, List, [], ◌∷◌, ◌++◌, refl, sym, ap, ◌∙◌, arith}
 use Rattle.nntp_said.specs.Asks.{Ask}
 use Rattle.nntp_theory.specs.{Given.{demand_in, join, demand}, declared.demand.Demand.{Demand, TheVariants.{NoDemand, NotEmpty, OnlyOne, SecondIs, Impossible}}}
 
@@ -19,10 +19,7 @@ join_assoc (SecondIs m) (SecondIs k) NoDemand = elim (m == k) as (λ b. join (co
 join_assoc (SecondIs m) (SecondIs k) NotEmpty = elim (m == k) as (λ b. join (cond b (SecondIs m) Impossible) NotEmpty ≡ cond b (SecondIs m) Impossible) [ true ↦ refl | false ↦ refl ]
 join_assoc (SecondIs m) (SecondIs k) OnlyOne = elim (m == k) as (λ b. join (cond b (SecondIs m) Impossible) OnlyOne ≡ Impossible) [ true ↦ refl | false ↦ refl ]
 join_assoc (SecondIs m) (SecondIs k) Impossible = elim (m == k) as (λ b. join (cond b (SecondIs m) Impossible) Impossible ≡ Impossible) [ true ↦ refl | false ↦ refl ]
-join_assoc (SecondIs m) (SecondIs k) (SecondIs j) = by (m == k) refl (k == j) refl
-  where
-    by : (a : Bool) → (m == k) ≡ a → (b : Bool) → (k == j) ≡ b → join (cond a (SecondIs m) Impossible) (SecondIs j) ≡ join (SecondIs m) (cond b (SecondIs k) Impossible)
-    by a e b f = grind arith
+join_assoc (SecondIs m) (SecondIs k) (SecondIs j) = grind arith
 join_assoc d e f = refl
 
 -- the demand of both

@@ -75,10 +75,7 @@ joined P OnlyOne (SecondIs k) h g = let a = h.2 k g.0 in let b = h.2 g.1 g.3 in 
 joined P OnlyOne Impossible h g = g
 joined P OnlyOne e h g = h
 joined P (SecondIs m) OnlyOne h g = let a = g.2 m h.0 in let b = g.2 h.1 h.3 in let l = h.2 in omega arith
-joined P (SecondIs m) (SecondIs k) h g = by (m == k) refl
-  where
-    by : (b : Bool) → (m == k) ≡ b → MeetsDemand (cond b (SecondIs m) Impossible) P
-    by b e = grind arith
+joined P (SecondIs m) (SecondIs k) h g = grind arith
 joined P (SecondIs m) Impossible h g = g
 joined P (SecondIs m) e h g = h
 joined P Impossible e h g = h
@@ -97,11 +94,7 @@ join_second OnlyOne (SecondIs m) k h = cc
 join_second OnlyOne Impossible k h = cc
 join_second OnlyOne e k h = cc
 join_second (SecondIs m) OnlyOne k h = cc
-join_second (SecondIs m) (SecondIs j) k h = by (m == j) h
-  where
-    by : (b : Bool) → cond b (SecondIs m) Impossible ≡ SecondIs k → (SecondIs m ≡ SecondIs k) ⊎ (SecondIs j ≡ SecondIs k)
-    by true h = inl h
-    by false h = cc
+join_second (SecondIs m) (SecondIs j) k h = grind arith
 join_second (SecondIs m) Impossible k h = cc
 join_second (SecondIs m) e k h = inl h
 join_second Impossible e k h = cc

@@ -1,5 +1,5 @@
 -- Whether one more number is needed, and the search for it.
-use Rattle.std.proofs.Common.{◌≡◌, ℕ, ◌≤◌, Bool, true, false, cond, IsTrue, List, Option, None, Some, inl, inr, refl, sym, subst, ◌∙◌, arith, [], ◌∷◌}
+use Rattle.std.proofs.Common.{◌≡◌, ℕ, ◌≤◌, Bool, true, false, cond, IsTrue, List, Option, None, Some, inl, refl, sym, subst, ◌∙◌, arith, [], ◌∷◌}
 use Rattle.std.{proofs.lemmas.Bool.{false_from_ne_true, true≢false}, specs.List.{list_any, flat_map}}
 use Rattle.nntp_said.specs.Asks.{Ask}
 use Rattle.nntp_theory.specs.{Given.{is_known, is_denied, demand, wants, IsOneMore}, Inner.OneMore.{free, if_wanted}}
@@ -26,11 +26,7 @@ in_known_list asks n t =
 -- and back
 pub from_known_list : (asks : List Ask) (n : ℕ) → In n (known_list asks) → IsTrue (is_known asks n)
 unfolding known_list if_known
-from_known_list asks n i = let f = from_flat (if_known asks) n (flat_map named_by asks) i in by f.0 (is_known asks f.0) refl f.2
-  where
-    by : (m : ℕ) (b : Bool) → is_known asks m ≡ b → In n (cond b (m ∷ []) []) → IsTrue (is_known asks n)
-    by m true t i = elim i [ inl e ↦ subst (λ n. is_known asks n ≡ true) e t | inr j ↦ absurd j ]
-    by m false t i = absurd i
+from_known_list asks n i = grind (arith, from_flat, if_known, named_by)
 
 -- ---- the one more number, if it is needed
 
@@ -45,15 +41,7 @@ more limit asks = cond (is_met asks) None (if_wanted (demand asks) (free (is_den
 -- what the search finds is the one more number
 pub more_is : (limit : ℕ) (asks : List Ask) (n : ℕ) → more limit asks ≡ Some n → IsOneMore asks n
 unfolding more
-more_is limit asks n e = by (is_met asks) refl (free (is_denied asks) limit 1) refl e
-  where
-    found : (none : is_met asks ≡ false) (m : ℕ) → free (is_denied asks) limit 1 ≡ Some m → (b : Bool) → wants (demand asks) m ≡ b → cond b (Some m) None ≡ Some n → IsOneMore asks n
-    found none m is b t e = grind (arith, false_from_ne_true, true≢false, any_in, known_list, in_known_list, free_is)
-
-    by : (b : Bool) → is_met asks ≡ b → (o : Option ℕ) → free (is_denied asks) limit 1 ≡ o → cond b None (if_wanted (demand asks) o) ≡ Some n → IsOneMore asks n
-    by true t o is e = cc
-    by false none None is e = cc
-    by false none (Some m) is e = found none m is (wants (demand asks) m) refl e
+more_is limit asks n e = grind (arith, false_from_ne_true, true≢false, any_in, known_list, in_known_list, free_is)
 
 -- and it is found, if it is within the limit
 pub more_found : (limit : ℕ) (asks : List Ask) (n : ℕ) → IsOneMore asks n → n ≤ limit → more limit asks ≡ Some n

@@ -10,10 +10,7 @@ use Rattle.nntp_theory.proofs.{Members.{to_flat, first_found}, Given.GivenHolds.
 
 -- a fact that gives the id at the number gives the number of the id
 placed_by : (name : Name) (n : ℕ) (id : Id) (fact : Fact) → id_in name n fact ≡ Some id → number_in name id fact ≡ Some n
-placed_by name n id (IdAt g m other) e = by (is_same g name) (m == n) refl e
-  where
-    by : (a b : Bool) → (m == n) ≡ b → cond (a && b) (Some other) None ≡ Some id → cond (a && is_same other id) (Some m) None ≡ Some n
-    by a b is e = grind (arith, same_itself, eqb-true)
+placed_by name n id (IdAt g m other) e = grind (arith, same_itself, eqb-true)
 placed_by name n id fact e = cc
 
 -- where facts give an id, they show the number

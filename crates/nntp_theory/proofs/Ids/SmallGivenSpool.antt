@@ -130,12 +130,7 @@ ask_few : (g : Name) (ask : Ask) (names : List Name) → IsDistinct (eq_by_cmp (
     → length (flat_map (λ n. flat_map named_by (cond (is_same g n) (ask ∷ []) [])) names) ≤ size_in (Asks g ask)
 unfolding IsDistinct
 ask_few g ask [] d = omega arith
-ask_few g ask (name ∷ names) d = by (is_same g name) refl d.0 (ask_few g ask names d.1)
-  where
-    by : (b : Bool) → is_same g name ≡ b → AllByRecursion (λ other. eq_by_cmp (slice_cmp nat_cmp) name other ≡ false) names
-        → length (flat_map (λ n. flat_map named_by (cond (is_same g n) (ask ∷ []) [])) names) ≤ size_in (Asks g ask)
-        → length (flat_map named_by (cond b (ask ∷ []) []) ++ flat_map (λ n. flat_map named_by (cond (is_same g n) (ask ∷ []) [])) names) ≤ size_in (Asks g ask)
-    by b e apart rest = grind (arith, asked_few, none_left, length-append)
+ask_few g ask (name ∷ names) d = grind (arith, asked_few, none_left, length-append, ask_few g ask names d.1)
 
 -- where nothing is shown of any group
 nothing_few : (f : Name → List ℕ) (names : List Name) → ((name : Name) → f name ≡ []) → length (flat_map f names) ≡ 0

@@ -1,6 +1,6 @@
 -- What a session says of numbers, it says of groups that it shows.
 use Rattle.nntp_wire.specs.{declared.{marks.Marks.{Marks}, water_marks.WaterMarks.{WaterMarks}}, Answer.{Asked, Response}}
-use Rattle.std.{proofs.Common.{◌≡◌, IsTrue, List, [], ◌∷◌, Option, Some, is_some, refl, arith}, specs.{Prelude.{unwrap_or, ⊤}, List.{AllByRecursion}}}
+use Rattle.std.{proofs.Common.{◌≡◌, IsTrue, List, [], ◌∷◌, Some, is_some, arith}, specs.{Prelude.{⊤}, List.{AllByRecursion}}}
 use Rattle.nntp_article.specs.{Session.{Spool.{Name}, Machine.{Visible, visible_after, start, fits}}, declared.session.profile.Profile.{Profile}}
 use Rattle.nntp_said.specs.{Asks.{position_after, Estimates}, declared.position.Position.{Position, TheVariants.{Nowhere}}, Facts.{Fact, ThereIs, Asks, IdAt}}
 use Rattle.nntp_said.{specs.{Facts.{here, facts_of, facts_from}, Inner.Facts.{FitsAll}}, proofs.Rows.{Row, row, nowhere, top, bottom, lacks, marks, listing}}
@@ -34,10 +34,7 @@ HasNoted how all v = (name : Name) → v.selected ≡ Some name → IsSelectable
 
 -- the selected group, if one is selected, is there
 here_stands : (how : Marks) (all : List Fact) (v : Visible) → HasNoted how all v → IsTrue (is_some v.selected) → IsSelectable how all (here v)
-here_stands how all v stands some = by v.selected refl some
-  where
-    by : (o : Option Name) → v.selected ≡ o → IsTrue (is_some o) → IsSelectable how all (unwrap_or o [])
-    by o e h = grind arith
+here_stands how all v stands some = grind arith
 
 -- what a row whose condition holds says of numbers, it says of a group that is there
 row_placed : {profile : Profile} {v : Visible} {at : Position} {Fits : Type 0} {a : Response} {facts : List Fact} (all : List Fact) → Row profile v at Fits a facts → Fits

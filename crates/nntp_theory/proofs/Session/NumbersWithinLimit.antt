@@ -51,21 +51,7 @@ module _ (profile : Profile) (facts : List Fact) (how : Marks) (fitting : AllByR
 
   -- a number that is shown is one
   shown_num : (name : Name) (n : ℕ) → IsTrue (is_shown (asks_of name facts) n) → IsTrue (is_article_number profile.limit n)
-  shown_num name n t =
-      let f = found_in (λ ask. shows ask n) (asks_of name facts) t in
-      let g = from_flat (asks_in name) f.0 facts f.1 in
-      by g.0 (fits g.0 g.1) f.0 g.2 f.2
-    where
-      only : (b : Bool) (x ask : Ask) → In ask (cond b (x ∷ []) []) → x ≡ ask
-      only b x ask i = grind arith
-
-      by : (fact : Fact) → IsFitting profile fact → (ask : Ask) → In ask (asks_in name fact) → shows ask n ≡ true → IsTrue (is_article_number profile.limit n)
-      by (Asks g x) h ask i t = num_of g x n h (subst (λ a. shows a n ≡ true) (sym (only (is_same g name) x ask i)) t)
-      by (IdAt g m id) h ask i t = num_of g (Has m) n h (subst (λ a. shows a n ≡ true) (sym (only (is_same g name) (Has m) ask i)) t)
-      by (GroupsAre p lines) h ask i t =
-          let f = from_flat (λ (line : ActiveValue). cond (is_same line.name name) (Bounds line.low line.high ∷ []) []) ask lines i in
-          grind (arith, only, true≢false)
-      by fact h ask i t = absurd i
+  shown_num name n t = grind (arith, found_in, from_flat, fits, num_of, true≢false)
 
   -- and so is one of all
   pub end_in_limit : (name : Name) (n count : ℕ) → IsTrue (list_any (λ ask. is_end ask n) (asks_of name facts))
