@@ -1,9 +1,8 @@
 -- A content, piece by piece.
-use Rattle.std.proofs.Common.{◌≡◌, ℕ, Bool, true, false, List, [], ◌∷◌, ◌++◌, length, take, refl, sym, ◌∙◌, ap, append_assoc, append-nil}
-use Rattle.std.{proofs.lemmas.List.{take_at}, specs.{Prelude.{if◌then◌else◌}, List.{concat, after_first}}}
-use Rattle.nntp_wire.specs.Octets.{is_blank}
+use Rattle.std.proofs.{Common.{◌≡◌, ℕ, List, [], ◌∷◌, ◌++◌, length, take, refl, sym, ◌∙◌, ap, append_assoc, append-nil, arith}, lemmas.List.{take_at}}
+use Rattle.std.specs.{Prelude.{if◌then◌else◌}, List.{concat, after_first}}
 use Rattle.nntp_article.specs.Article.Parts.{Line, Header, is_empty, is_colon, skip_blanks, skip_last_blanks, content_of}
-use Rattle.nntp_article.proofs.ArticleLemmas.WordLemmas.{skip-blank, skip-other, ends_blank}
+use Rattle.nntp_article.proofs.ArticleLemmas.WordLemmas.{ends_blank}
 
 -- octets so far, with more behind them
 abbrev pub joined : List ℕ → List ℕ → List ℕ
@@ -11,10 +10,7 @@ joined octets more = if is_empty octets then skip_blanks more else octets ++ mor
 
 skip-append : (octets more : List ℕ) → skip_blanks (octets ++ more) ≡ joined (skip_blanks octets) more
 skip-append [] more = refl
-skip-append (b ∷ bs) more = at (is_blank b) refl (skip-append bs more) where
-  at : (v : Bool) → is_blank b ≡ v → skip_blanks (bs ++ more) ≡ joined (skip_blanks bs) more → skip_blanks ((b ∷ bs) ++ more) ≡ joined (skip_blanks (b ∷ bs)) more
-  at true e rest = skip-blank b (bs ++ more) e ∙ rest ∙ ap (λ t. joined t more) (sym (skip-blank b bs e))
-  at false e rest = skip-other b (bs ++ more) e ∙ ap (λ t. joined t more) (sym (skip-other b bs e))
+skip-append (b ∷ bs) more = grind (arith, skip-append bs more)
 
 -- two pieces are one
 pub joined-joined : (octets piece more : List ℕ) → joined (joined octets piece) more ≡ joined octets (piece ++ more)

@@ -1,6 +1,6 @@
 -- A head has no empty line, so the first empty line ends it.
-use Rattle.std.{proofs.{Common.{◌≡◌, true, false, refl, List, [], ◌∷◌, ◌++◌, sym, ◌∙◌}, lemmas.Bool.{and_parts}}, specs.List.{list_any, list_all}}
-use Rattle.nntp_article.specs.{Article.Parts.{Line, is_empty, begins_header, is_head, head_part, body_part}, Inner.Parts.{is_head_line}}
+use Rattle.std.{proofs.{Common.{◌≡◌, true, false, refl, List, [], ◌∷◌, ◌++◌, arith}, lemmas.Bool.{and_parts}}, specs.List.{list_any, list_all}}
+use Rattle.nntp_article.specs.{Article.Parts.{Line, is_empty, is_head, head_part, body_part}, Inner.Parts.{is_head_line}}
 use Rattle.nntp_article.proofs.ArticleLemmas.{HeadLemmas.{is_head-lines}, PartLemmas.{parts-split}}
 
 -- no line that may stand in a head is empty
@@ -11,10 +11,7 @@ no_empty_lines ((c ∷ cs) ∷ lines) h = no_empty_lines lines (and_parts (is_he
 
 no_empty_line : (lines : List Line) → is_head lines ≡ true → list_any is_empty lines ≡ false
 no_empty_line [] h = refl
-no_empty_line (line ∷ lines) h = at line (and_parts (begins_header line) (list_all is_head_line lines) (sym (is_head-lines line lines) ∙ h)) where
-  at : (line : Line) → (begins_header line ≡ true) × (list_all is_head_line lines ≡ true) → list_any is_empty (line ∷ lines) ≡ false
-  at [] both = let never : false ≡ true = both.0 in cc
-  at (c ∷ cs) both = no_empty_lines lines both.1
+no_empty_line (line ∷ lines) h = grind (arith, and_parts, is_head-lines, no_empty_lines)
 
 -- the parts of an article are its head and its body
 pub parts : (head body : List Line) → is_head head ≡ true → (head_part (head ++ [] ∷ body) ≡ head) × (body_part (head ++ [] ∷ body) ≡ body)

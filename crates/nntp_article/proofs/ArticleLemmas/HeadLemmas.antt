@@ -1,7 +1,7 @@
 -- The headers of lines, from the front.
 use Rattle.std.proofs.{Common.{◌≡◌, ℕ, suc, ◌+◌, Bool, true, false, List, [], ◌∷◌, take, drop, refl, sym, ◌∙◌, ap, arith}, lemmas.Bool.{and_parts}}
 use Rattle.std.{proofs.lemmas.Bool.Decides.{nat_tests}, specs.{Prelude.{◌&&◌}, List.{list_all, prefix_len, take_while, before_first}}}
-use Rattle.nntp_article.specs.Article.Parts.{Line, is_empty, is_colon, name_of, is_continuation, begins_header, is_header, with_line, headers, is_head}
+use Rattle.nntp_article.specs.Article.Parts.{Line, is_empty, is_colon, name_of, is_continuation, begins_header, is_header, headers, is_head}
 use Rattle.nntp_article.specs.Inner.Parts.{is_head_line}
 
 -- the lines that continue the header before them, and those behind
@@ -29,19 +29,12 @@ after-no line lines h = rw h refl
 -- the first line takes what continues it
 pub headers-cons : (line : Line) (lines : List Line) → headers (line ∷ lines) ≡ (line ∷ more lines) ∷ headers (after lines)
 headers-cons line [] = refl
-headers-cons line (next ∷ lines) = at (is_continuation next) refl (headers-cons next lines) where
-  at : (b : Bool) → is_continuation next ≡ b → headers (next ∷ lines) ≡ (next ∷ more lines) ∷ headers (after lines)
-      → headers (line ∷ next ∷ lines) ≡ (line ∷ more (next ∷ lines)) ∷ headers (after (next ∷ lines))
-  at true h rest = ap (with_line line) rest ∙ (rw (more-yes next lines h, after-yes next lines h, h) refl)
-  at false h rest = ap (with_line line) rest ∙ (rw (more-no next lines h, after-no next lines h, h) (ap (λ t. (line ∷ []) ∷ t) (sym rest)))
+headers-cons line (next ∷ lines) = grind (arith, more-yes, after-yes, more-no, after-no, headers-cons next lines)
 
 -- those that continue do
 pub more-all : (lines : List Line) → list_all is_continuation (more lines) ≡ true
 more-all [] = refl
-more-all (line ∷ lines) = at (is_continuation line) refl (more-all lines) where
-  at : (b : Bool) → is_continuation line ≡ b → list_all is_continuation (more lines) ≡ true → list_all is_continuation (more (line ∷ lines)) ≡ true
-  at true h rest = rw (more-yes line lines h, h) rest
-  at false h rest = rw (more-no line lines h) refl
+more-all (line ∷ lines) = grind (arith, more-yes, more-no, more-all lines)
 
 -- a first line behind which others follow
 first_and_more : (line : Line) (lines : List Line) → is_header (line ∷ more lines) ≡ begins_header line
@@ -50,14 +43,7 @@ first_and_more line lines = rw (more-all lines) (grind (arith, nat_tests))
 -- the lines that continue pass the test, and those behind them go on
 behind-lines : (lines : List Line) → list_all is_header (headers (after lines)) ≡ list_all is_head_line lines
 behind-lines [] = refl
-behind-lines (line ∷ lines) = at (is_continuation line) refl (behind-lines lines) where
-  at : (b : Bool) → is_continuation line ≡ b → list_all is_header (headers (after lines)) ≡ list_all is_head_line lines
-      → list_all is_header (headers (after (line ∷ lines))) ≡ list_all is_head_line (line ∷ lines)
-  at true h rest = ap (λ t. list_all is_header (headers t)) (after-yes line lines h) ∙ rest ∙ (rw h refl)
-  at false h rest =
-      ap (λ t. list_all is_header (headers t)) (after-no line lines h)
-      ∙ ap (list_all is_header) (headers-cons line lines)
-      ∙ (rw (first_and_more line lines, rest, h) refl)
+behind-lines (line ∷ lines) = grind (arith, after-yes, after-no, headers-cons, first_and_more, behind-lines lines)
 
 -- the headers are headers exactly if the first line begins one and each other line may stand in a head
 pub headers-lines : (line : Line) (lines : List Line) → list_all is_header (headers (line ∷ lines)) ≡ (begins_header line && list_all is_head_line lines)

@@ -63,13 +63,7 @@ words-cut word (b ∷ bs) some solid begins = (words_of bs, words-solid_then wor
 -- octets without a word are blanks
 blank-words : (octets : List ℕ) → words_of octets ≡ [] → list_all is_blank octets ≡ true
 blank-words [] h = refl
-blank-words (b ∷ bs) h = at (is_blank b) refl (blank-words bs) (cut bs) where
-  at : (v : Bool) → is_blank b ≡ v → (words_of bs ≡ [] → list_all is_blank bs ≡ true) → Cut bs → list_all is_blank (b ∷ bs) ≡ true
-  at true e rest c = rw e (rest (sym (words_of-blank b bs e) ∙ h))
-  at false e rest c =
-      let is = words-cut (b ∷ c.word) c.rest (omega arith) (rw e c.solid) c.begins in
-      let none : [] ≡ (b ∷ c.word) ∷ is.0 = sym h ∙ ap (λ t. words_of (b ∷ t)) c.whole ∙ is.1 in
-      cc
+blank-words (b ∷ bs) h = grind (arith, blank-words bs)
 
 -- nothing of octets without a blank is cut off
 skip_last-solid : (octets : List ℕ) → is_solid octets ≡ true → skip_last_blanks octets ≡ octets

@@ -1,12 +1,11 @@
 -- The colon of a line, and blanks at its ends.
 use Rattle.std.proofs.Common.{◌≡◌, ℕ, ◌+◌, Bool, true, false, List, [], ◌∷◌, ◌++◌, Option, None, Some, length, drop, refl, sym, ◌∙◌, ap, arith}
 use Rattle.std.proofs.lemmas.{List.{take_all, drop_all, drop-drop, Sums.{position_or_len_is}, Folds.{list_all-append}}, Bool.{false_from_ne_true}}
-use Rattle.std.{proofs.lemmas.Bool.Decides.{nat_tests}, specs.{Prelude.{◌&&◌, ◌||◌, ◌==◌, not, cond}, Option.{option_eq}, List.{list_any, list_all, find}}}
-use Rattle.std.specs.List.{prefix_len, position_or_len, before_first, after_first}
+use Rattle.std.{proofs.lemmas.Bool.Decides.{nat_tests}, specs.{Prelude.{◌&&◌, ◌==◌, not}, Option.{option_eq}, List.{list_any, list_all, find, prefix_len}}}
+use Rattle.std.specs.List.{position_or_len, before_first, after_first}
 use Rattle.memchr.specs.Find.{IsFirstByte, is_byte}
 use Rattle.nntp_wire.specs.Octets.{is_blank}
-use Rattle.nntp_article.specs.Article.Parts.{Line, is_colon, is_empty, is_name_octet, begins_header, skip_last_blanks}
-use Rattle.nntp_article.proofs.ArticleLemmas.HeadLemmas.{one-more}
+use Rattle.nntp_article.{specs.Article.Parts.{Line, is_colon, is_name_octet, begins_header, skip_last_blanks}, proofs.ArticleLemmas.HeadLemmas.{one-more}}
 
 -- where a search for the colon found it
 pub colon-found : (line : Line) (n : ℕ) → IsFirstByte (is_byte 58) line (Some n) → position_or_len is_colon line ≡ n
@@ -41,43 +40,11 @@ not_name c h = rw h (grind (arith, nat_tests))
 -- octets of a name and a colon behind them: the first other octet is the colon
 names-then_colon : (octets : List ℕ) → (list_any is_colon octets && list_all is_name_octet (before_first is_colon octets)) ≡ is_some_colon (behind_name octets)
 names-then_colon [] = refl
-names-then_colon (c ∷ cs) = at (is_colon c) refl (is_name_octet c) refl (names-then_colon cs) where
-  one : (k n any all r : Bool) → k ≡ false → n ≡ true → (any && all) ≡ r → ((k || any) && (n && all)) ≡ r
-  one k n any all r h e rest = grind (arith, nat_tests)
-
-  none : (k n any all : Bool) → n ≡ false → ((k || any) && (n && all)) ≡ false
-  none k n any all e = grind (arith, nat_tests)
-
-  other : is_name_octet c ≡ false → is_some_colon (behind_name (c ∷ cs)) ≡ is_colon c
-  other e = ap (λ t. is_some_colon (cond (not t) (Some c) (behind_name cs))) e
-
-  at : (k : Bool) → is_colon c ≡ k → (n : Bool) → is_name_octet c ≡ n
-      → (list_any is_colon cs && list_all is_name_octet (before_first is_colon cs)) ≡ is_some_colon (behind_name cs)
-      → (list_any is_colon (c ∷ cs) && list_all is_name_octet (before_first is_colon (c ∷ cs))) ≡ is_some_colon (behind_name (c ∷ cs))
-  at true h n e rest =
-      let found : true ≡ (list_any is_colon (c ∷ cs) && list_all is_name_octet (before_first is_colon (c ∷ cs))) = rw h refl in
-      sym found ∙ sym (other (not_name c h) ∙ h)
-  at false h true e rest =
-      ap (λ name. list_any is_colon (c ∷ cs) && list_all is_name_octet name) (name-plain c cs h)
-      ∙ one (is_colon c) (is_name_octet c) (list_any is_colon cs) (list_all is_name_octet (before_first is_colon cs)) _ h e rest
-      ∙ sym (ap (λ t. is_some_colon (cond (not t) (Some c) (behind_name cs))) e)
-  at false h false e rest =
-      ap (λ name. list_any is_colon (c ∷ cs) && list_all is_name_octet name) (name-plain c cs h)
-      ∙ none (is_colon c) (is_name_octet c) (list_any is_colon cs) (list_all is_name_octet (before_first is_colon cs)) e
-      ∙ sym (other e ∙ h)
+names-then_colon (c ∷ cs) = grind (arith, nat_tests, not_name, name-plain, names-then_colon cs)
 
 -- a line whose first octet may stand in a name
 pub begins_by_name : (c : ℕ) (cs : List ℕ) → is_name_octet c ≡ true → begins_header (c ∷ cs) ≡ is_some_colon (behind_name cs)
-begins_by_name c cs e =
-    ap (λ name. list_any is_colon (c ∷ cs) && not (is_empty name) && list_all is_name_octet name) (name-plain c cs (not_colon c e))
-    ∙ one (is_colon c) (is_name_octet c) (list_any is_colon cs) (list_all is_name_octet (before_first is_colon cs)) (not_colon c e) e
-    ∙ names-then_colon cs
-  where
-    not_colon : (c : ℕ) → is_name_octet c ≡ true → is_colon c ≡ false
-    not_colon c e = grind (arith, nat_tests)
-
-    one : (k n any all : Bool) → k ≡ false → n ≡ true → ((k || any) && true && (n && all)) ≡ (any && all)
-    one k n any all h e = grind (arith, nat_tests)
+begins_by_name c cs e = grind (arith, name-plain, names-then_colon, nat_tests)
 
 -- a blank at the end is passed over
 pub skip_last-blank : (octets : List ℕ) (c : ℕ) → is_blank c ≡ true → skip_last_blanks (octets ++ c ∷ []) ≡ skip_last_blanks octets

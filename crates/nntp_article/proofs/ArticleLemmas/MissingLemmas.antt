@@ -1,6 +1,5 @@
 -- The required headers, header by header.
-use Rattle.std.{proofs.{Common.{◌≡◌, ℕ, Bool, List, ◌∷◌, refl, arith}, lemmas.Bool.Decides.{nat_tests}}, specs.Prelude.{◌&&◌, ◌||◌, not, codes}}
-use Rattle.std.specs.List.{list_any}
+use Rattle.std.{proofs.Common.{◌≡◌, ℕ, Bool, List, ◌∷◌, refl, arith}, specs.Prelude.{◌&&◌, not, codes}}
 use Rattle.nntp_article.specs.{Article.{Parts.{Header, is_named}, Required.{lacks}}, declared.article.missing_headers.Missing.{Missing}}
 
 -- what is missing beside these headers too
@@ -17,9 +16,7 @@ still missing headers = record {
 -- one header more
 pub lacks-more : (before now : Bool) (name : List ℕ) (header : Header) (headers : List Header)
     → now ≡ (before && not (is_named name header)) → (now && lacks headers name) ≡ (before && lacks (header ∷ headers) name)
-lacks-more before now name header headers e = rw e (at before (is_named name header) (list_any (is_named name) headers)) where
-  at : (a b c : Bool) → ((a && not b) && not c) ≡ (a && not (b || c))
-  at a b c = grind (arith, nat_tests)
+lacks-more before now name header headers e = grind arith
 
 same_flags : {a b c d e f t u v w x y : Bool} → a ≡ t → b ≡ u → c ≡ v → d ≡ w → e ≡ x → f ≡ y
     → record { from = a; date = b; newsgroups = c; subject = d; message_id = e; path = f } ≡

@@ -3,20 +3,16 @@ use Rattle.std.proofs.{Common.{◌≡◌, ◌↔◌, ℕ, Bool, true, false, Lis
 use Rattle.std.{proofs.lemmas.Bool.{and_parts, and_from, not-true, Decides.{nat_tests}}, specs.{Prelude.{not}, List.{list_any, list_all, flat_map, prefix_len}}}
 use Rattle.std.specs.List.{before_first}
 use Rattle.nntp_wire.specs.Octets.{is_blank}
-use Rattle.nntp_article.specs.Article.Parts.{Line, Header, is_empty, is_colon, is_continuation, is_name_octet, begins_header, is_header, continues_first}
-use Rattle.nntp_article.specs.{Article.Parts.{with_line, headers, is_head, head_part, body_part}, Inner.Parts.{AreHeaders, AreParts}}
-use Rattle.nntp_article.proofs.ArticleLemmas.HeadLemmas.{one-more, more, after, more-yes, more-no, after-yes, after-no, headers-cons}
-use Rattle.nntp_article.proofs.ArticleLemmas.PartLemmas.{parts-split}
+use Rattle.nntp_article.specs.Article.Parts.{Line, Header, is_empty, is_colon, is_continuation, is_name_octet, begins_header, is_header, with_line, headers}
+use Rattle.nntp_article.{specs.{Article.Parts.{is_head, head_part, body_part}, Inner.Parts.{AreHeaders, AreParts}}, proofs.ArticleLemmas.HeadLemmas.{one-more}}
+use Rattle.nntp_article.proofs.ArticleLemmas.{HeadLemmas.{more, after, more-yes, more-no, after-yes, after-no, headers-cons}, PartLemmas.{parts-split}}
 
 abbrev flat : List Header → List Line
 flat hs = flat_map (λ header. header) hs
 
 flat-with : (line : Line) (hs : List Header) → flat (with_line line hs) ≡ line ∷ flat hs
 flat-with line [] = refl
-flat-with line (h ∷ hs) = at (continues_first h) refl where
-  at : (v : Bool) → continues_first h ≡ v → flat (with_line line (h ∷ hs)) ≡ line ∷ flat (h ∷ hs)
-  at true e = rw e refl
-  at false e = rw e refl
+flat-with line (h ∷ hs) = grind arith
 
 -- the headers are all the lines
 flat-headers : (lines : List Line) → flat (headers lines) ≡ lines
@@ -24,12 +20,7 @@ flat-headers [] = refl
 flat-headers (line ∷ lines) = flat-with line (headers lines) ∙ ap (λ t. line ∷ t) (flat-headers lines)
 
 pub head-iff : (lines : List Line) → IsTrue (is_head lines) ↔ AreHeaders lines (headers lines)
-head-iff lines = (to, from) where
-  to : IsTrue (is_head lines) → AreHeaders lines (headers lines)
-  to h = let both = and_parts _ _ h in record { some = not-true _ both.0; each = both.1; whole = sym (flat-headers lines) }
-
-  from : AreHeaders lines (headers lines) → IsTrue (is_head lines)
-  from are = and_from _ _ (ap not are.some) are.each
+head-iff lines = grind (arith, and_parts, not-true, flat-headers, and_from)
 
 -- a line that begins a header continues none
 begins-no : (line : Line) → begins_header line ≡ true → is_continuation line ≡ false

@@ -1,13 +1,12 @@
 -- What the lines so far leave to say of the id, line by line.
-use Rattle.std.proofs.Common.{Bor, ◌≡◌, ◌≢◌, ℕ, Bool, true, false, List, [], ◌∷◌, ◌++◌, Option, None, Some, refl, sym, ◌∙◌, ap, inl, inr, ◌⊎◌}
-use Rattle.std.{proofs.lemmas.Bool.{false≢true, true≢false, or_cases, eqb-true}, specs.{Prelude.{◌==◌, not, if◌then◌else◌, codes}, Option.{SomeIff}}}
-use Rattle.std.specs.List.{filter, flat_map, concat, prefix_len, after_first}
+use Rattle.std.proofs.Common.{Bor, ◌≡◌, ◌≢◌, ℕ, Bool, true, false, List, [], ◌∷◌, ◌++◌, Option, None, Some, refl, sym, ◌∙◌, ap, arith}
+use Rattle.std.{proofs.lemmas.Bool.{false≢true, true≢false}, specs.{Prelude.{if◌then◌else◌, codes}, Option.{SomeIff}, List.{filter, flat_map, concat}}}
+use Rattle.std.specs.List.{after_first}
 use Rattle.nntp_wire.{specs.{Octets.{is_blank}, Words.{words_of}, Name.{IsMessageId}, Decided.{is_message_id}}, proofs.DecidedLemmas.{message_id-iff}}
 use Rattle.nntp_article.specs.{Article.Parts.{Line, Id, Header, is_continuation, is_colon, headers, is_named, only_id, said_id}, Inner.SaidId.{names_id}}
 use Rattle.nntp_article.specs.{Inner.SaidId.{id_of_words, id_alone, id_with, ids_behind}, declared.article.said_id.Found.{Found, TheVariants.{NoHeader}}}
-use Rattle.nntp_article.{specs.declared.article.said_id.Found.TheVariants.{NoWord, Word, NoId}, proofs.ArticleLemmas.HeadLemmas.{one-more, more, after}}
-use Rattle.nntp_article.proofs.ArticleLemmas.{HeadLemmas.{more-yes, more-no, more-all, after-yes, after-no, headers-cons}, WordLemmas.{words-lines}}
-use Rattle.nntp_article.proofs.ArticleLemmas.IdLemmas.{content-id}
+use Rattle.nntp_article.{specs.declared.article.said_id.Found.TheVariants.{NoWord, Word}, proofs.ArticleLemmas.HeadLemmas.{more, after, more-yes, more-no}}
+use Rattle.nntp_article.proofs.ArticleLemmas.{HeadLemmas.{more-all, after-yes, after-no, headers-cons}, WordLemmas.{words-lines}, IdLemmas.{content-id}}
 
 abbrev is_id_header : Header → Bool
 is_id_header header = is_named (codes "Message-ID") header
@@ -18,10 +17,7 @@ words_behind is_open lines = if is_open then flat_map words_of (more lines) else
 
 -- no name begins with a blank
 blank_name : (b : ℕ) (bs : List ℕ) → is_blank b ≡ true → names_id (b ∷ bs) ≡ false
-blank_name b bs h = at (or_cases (b == 32) (b == 9) h) where
-  at : (((b == 32) ≡ true) ⊎ ((b == 9) ≡ true)) → names_id (b ∷ bs) ≡ false
-  at (inl is) = let e : b ≡ 32 = eqb-true b 32 is in rw (e, one-more (prefix_len (λ c. not (is_colon c)) bs)) refl
-  at (inr is) = let e : b ≡ 9 = eqb-true b 9 is in rw (e, one-more (prefix_len (λ c. not (is_colon c)) bs)) refl
+blank_name b bs h = grind arith
 
 continuation_name : (line : Line) (lines : List Line) → is_continuation line ≡ true → is_id_header (line ∷ lines) ≡ false
 continuation_name [] lines h = absurd (false≢true h)
@@ -100,25 +96,13 @@ begun-first found new is_open line value lines h named none is by =
 pub begun-again : (found : Found) (is_open : Bool) (line : Line) (lines : List Line) → is_continuation line ≡ false → names_id line ≡ true
     → found ≢ NoHeader
     → None ≡ id_with found (words_behind is_open (line ∷ lines)) (ids_behind (line ∷ lines))
-begun-again found is_open line lines h named some =
-    at found some ∙ ap (id_with found (words_behind is_open (line ∷ lines))) (sym (behind-named line lines h named))
-  where
-    at : (found : Found) → found ≢ NoHeader → None ≡ id_with found (words_behind is_open (line ∷ lines)) ((line ∷ more lines) ∷ ids_behind lines)
-    at NoHeader some = absurd (some refl)
-    at NoWord some = refl
-    at (Word word) some = refl
-    at NoId some = refl
+begun-again found is_open line lines h named some = grind arith
 
 -- ---- the end
 
 -- a word that was tested for an id
 pub tested-id : (word : List ℕ) (r : Option Id) → SomeIff r (IsMessageId word) word → r ≡ (if is_message_id word then Some word else None)
-tested-id word r is = at (is_message_id word) refl r is where
-  at : (v : Bool) → is_message_id word ≡ v → (r : Option Id) → SomeIff r (IsMessageId word) word → r ≡ (if is_message_id word then Some word else None)
-  at true e None none = absurd (none ((message_id-iff word).0 e))
-  at true e (Some x) is = rw e (ap Some is.1)
-  at false e None none = rw e refl
-  at false e (Some x) is = absurd (false≢true (sym e ∙ (message_id-iff word).1 is.0))
+tested-id word r is = grind (arith, message_id-iff, false≢true)
 
 pub ended-word : (found : Found) (is_open : Bool) (word : Bor Line) → found ≡ Word word
     → (if is_message_id word.now then Some word.now else None) ≡ id_with found (words_behind is_open []) (ids_behind [])

@@ -22,10 +22,7 @@ split-append (x ∷ xs) b rest h = at (is_blank x) refl (split-append xs b rest 
 
 filter-append : (test : List ℕ → Bool) (xs ys : List (List ℕ)) → filter test (xs ++ ys) ≡ filter test xs ++ filter test ys
 filter-append test [] ys = refl
-filter-append test (x ∷ xs) ys = at (test x) refl (filter-append test xs ys) where
-  at : (v : Bool) → test x ≡ v → filter test (xs ++ ys) ≡ filter test xs ++ filter test ys → filter test ((x ∷ xs) ++ ys) ≡ filter test (x ∷ xs) ++ filter test ys
-  at true e others = rw e (ap (λ t. x ∷ t) others)
-  at false e others = rw e others
+filter-append test (x ∷ xs) ys = grind (arith, filter-append test xs ys)
 
 -- no word goes over a blank
 pub words-append : (octets : List ℕ) (b : ℕ) (rest : List ℕ) → is_blank b ≡ true → words_of (octets ++ b ∷ rest) ≡ words_of octets ++ words_of (b ∷ rest)
@@ -48,20 +45,12 @@ words-lines octets ((b ∷ bs) ∷ lines) h =
 -- blanks have no word
 pub words-blank : (octets : List ℕ) → list_all is_blank octets ≡ true → words_of octets ≡ []
 words-blank [] h = refl
-words-blank (b ∷ bs) h = at (is_blank b) refl (words-blank bs) h where
-  at : (v : Bool) → is_blank b ≡ v → (list_all is_blank bs ≡ true → words_of bs ≡ []) → list_all is_blank (b ∷ bs) ≡ true → words_of (b ∷ bs) ≡ []
-  at true e others all = let rest : list_all is_blank bs ≡ true = rw e at all in words_of-blank b bs e ∙ others rest
-  at false e others all = let none : false ≡ true = rw e at all in absurd (false≢true none)
+words-blank (b ∷ bs) h = grind (arith, words-blank bs)
 
 -- blanks behind have none either
 pub words-then_blank : (octets tail : List ℕ) → list_all is_blank tail ≡ true → words_of (octets ++ tail) ≡ words_of octets
 words-then_blank octets [] h = ap words_of (append-nil octets)
-words-then_blank octets (b ∷ bs) h =
-    let first = parts (is_blank b) _ h in
-    words-append octets b bs first ∙ ap (λ t. words_of octets ++ t) (words-blank (b ∷ bs) h) ∙ append-nil (words_of octets)
-  where
-    parts : (a c : Bool) → (a && c) ≡ true → a ≡ true
-    parts a c e = grind (arith, nat_tests)
+words-then_blank octets (b ∷ bs) h = grind (arith, words-append, words-blank, append-nil, nat_tests)
 
 pub skip-blank : (b : ℕ) (bs : List ℕ) → is_blank b ≡ true → skip_blanks (b ∷ bs) ≡ skip_blanks bs
 skip-blank b bs e = rw e refl
@@ -71,10 +60,7 @@ skip-other b bs e = rw e refl
 
 pub words-skip : (octets : List ℕ) → words_of (skip_blanks octets) ≡ words_of octets
 words-skip [] = refl
-words-skip (b ∷ bs) = at (is_blank b) refl (words-skip bs) where
-  at : (v : Bool) → is_blank b ≡ v → words_of (skip_blanks bs) ≡ words_of bs → words_of (skip_blanks (b ∷ bs)) ≡ words_of (b ∷ bs)
-  at true e others = ap words_of (skip-blank b bs e) ∙ others ∙ sym (words_of-blank b bs e)
-  at false e others = ap words_of (skip-other b bs e)
+words-skip (b ∷ bs) = grind (arith, words-skip bs)
 
 -- what is cut off at the end is blank
 pub record EndsBlank (octets : List ℕ) : Type 0 where

@@ -8,7 +8,7 @@ use Rattle.std.specs.{Cmp.{eq_by_cmp_equiv, Lexicographic.{nat_list_cmp_total}},
 use Rattle.std.specs.{FinMap.{slice_cmp-IsAntisymmetric}, declared.cmp.Ordering.{Ordering}}
 use Rattle.nntp_article.specs.Session.Spool.{Spool, Numbers, IsNumber, numbers, IsNextAbove, IsNextBelow, NoneAbove, NoneBelow, Lists, IsInRange, text_of}
 use Rattle.nntp_article.specs.Session.Machine.{State, selected_numbers, AreEnds, Bound, is_generic, CodeAgrees, NumberAgrees, Agrees, ActivesAgree, MayAnswer}
-use Rattle.nntp_article.{specs.{Session.Machine.{Run, fits, after}, declared.session.profile.Profile.{Profile}}, proofs.SessionLemmas.FiniteMapsDecided.{Dec}}
+use Rattle.nntp_article.{specs.{Session.Machine.{Run, after}, declared.session.profile.Profile.{Profile}}, proofs.SessionLemmas.FiniteMapsDecided.{Dec}}
 use Rattle.nntp_article.proofs.SessionLemmas.FiniteMapsDecided.{dec_true, dec_le, dec_both, dec_three, dec_by, dec_none, dec_some_text, each_key, dec_some}
 use Rattle.nntp_article.proofs.SessionLemmas.FiniteMapsDecided.{dec_option, dec_lists, dec_unless, dec_to, passes, fails, dec_all}
 use Rattle.nntp_wire.specs.Answer.{Success, Asked, Response, greeting, to, group_is, numbers_are, sends, active_are, plain}
@@ -179,13 +179,7 @@ dec_agrees marks S s p (active_are lines) = inr (λ h. h)
 
 -- whether an answer is permitted
 pub dec_may_answer : (profile : Profile) (S : Spool) (s : State) (p : Asked) (a : Response) → Dec (MayAnswer profile S s p a)
-dec_may_answer profile S s p a =
-    dec_by (λ h. record { is_open = h.0; fits_visible = h.1; agrees = h.2 }) (λ h. (h.is_open, h.fits_visible, h.agrees))
-    (dec_three (dec_false s.visible.closed) (dec_true (fits profile s.visible p a)) (dec_agrees profile.marks S s p a))
-  where
-    dec_false : (b : Bool) → Dec (b ≡ false)
-    dec_false false = inl refl
-    dec_false true = inr (λ h. cc)
+dec_may_answer profile S s p a = grind (arith, dec_by, dec_three, dec_true, dec_agrees)
 
 -- whether a spool permits a session
 pub dec_run : (profile : Profile) (S : Spool) (s : State) (ps : List Asked) (answers : List Response) → Dec (Run profile S s ps answers)

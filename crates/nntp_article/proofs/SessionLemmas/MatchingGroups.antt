@@ -25,13 +25,7 @@ member_names q (l ∷ lines) = rw (is_eq-slice_cmp q l.name) (ap (λ b. is_same 
 -- no other is the same
 none_same : (name : List ℕ) (lines : List ActiveValue) → list_any (λ line. is_same name line.name) lines ≡ false → list_all (λ other. not (is_same name other.name)) lines ≡ true
 none_same name [] e = refl
-none_same name (l ∷ lines) e = by (is_same name l.name) (list_any (λ line. is_same name line.name) lines) refl e (none_same name lines)
-  where
-    by : (a b : Bool) → is_same name l.name ≡ a → (a || b) ≡ false
-        → (b ≡ false → list_all (λ other. not (is_same name other.name)) lines ≡ true)
-        → list_all (λ other. not (is_same name other.name)) (l ∷ lines) ≡ true
-    by true b p e rest = absurd (true≢false e)
-    by false b p e rest = rw p (rest e)
+none_same name (l ∷ lines) e = grind (arith, none_same name lines)
 
 no_other : (name : Name) (lines : List ActiveValue) → list_all (λ other. not (is_same name other.name)) lines ≡ true → AllByRecursion (λ y. same_name name y ≡ false) (names_of lines)
 no_other name [] e = tt
@@ -98,11 +92,7 @@ module _ {X : Type 0} where
     member_if q here passes = member_kept q ∙ rw passes here
 
     member_is : (q : Name) → is_member same_name kept q ≡ true → (is_some (get m q) ≡ true) × (t q ≡ true)
-    member_is q e = by (t q) refl (sym (member_kept q) ∙ e)
-      where
-        by : (b : Bool) → t q ≡ b → cond b (is_some (get m q)) false ≡ true → (is_some (get m q) ≡ true) × (t q ≡ true)
-        by true p h = (h, p)
-        by false p h = absurd (true≢false (sym h))
+    member_is q e = grind (arith, member_kept, true≢false)
 
     module _ (lines : List ActiveValue) (differ : names_differ lines ≡ true) (are : (q : Name) → list_any (λ line. is_same q line.name) lines ≡ true → (is_some (get m q) ≡ true) × (t q ≡ true)) where
       length-names : length (names_of lines) ≡ length lines

@@ -1,16 +1,16 @@
 -- An answer fits exactly if there is no reason why it doesn't.
 use Rattle.std.proofs.Common.{◌≡◌, ℕ, ◌↔◌, Bool, true, false, not, ◌&&◌, ◌||◌, ◌==◌, IsTrue, Option, None, Some, is_some, List, [], ◌∷◌, refl, sym, ap, ◌∙◌}
-use Rattle.std.{proofs.lemmas.Cmp.{nat_list_eq_equiv}, specs.{Prelude.{◌+◌, ◌-◌, nat_le, nat_lt, is_none, unwrap_or, if◌then◌else◌}, List.{list_any, list_all}}}
-use Rattle.std.specs.{Option.{option_map_or, option_or}, FinMap.{get}}
+use Rattle.std.{proofs.{Common.{arith}, lemmas.Cmp.{nat_list_eq_equiv}}, specs.{Prelude.{◌+◌, nat_le, nat_lt, is_none, if◌then◌else◌}, List.{list_any}}}
+use Rattle.std.specs.{List.{list_all}, Option.{option_map_or, option_or}}
 use Rattle.nntp_wire.specs.Answer.{Success, Asked, Response, greeting, to, group_is, numbers_are, sends, active_are, plain, success_code}
 use Rattle.nntp_wire.specs.declared.{water_marks.WaterMarks.{WaterMarks}, range.Range.{Range}, command.What.{What, TheVariants.{Article, Head, Body, Stat}}}
 use Rattle.nntp_wire.specs.{Listing.{ActiveValue, listed_numbers, active_groups}, Decided.{matches_name}, Command.{Target, by_id, by_number, current, group}}
 use Rattle.nntp_wire.{specs.{Command.{list_group, next, last, retrieve, list_active}, Reason.{unless}}, proofs.Reasons.{none_unless, none_two, none_three}}
 use Rattle.nntp_wire.proofs.Reasons.{none_four, none_each, none_by_test, and_true}
 use Rattle.nntp_article.specs.{Article.Parts.{Line, Id, is_empty, is_head, said_id, head_part}, Session.{Spool.{Name}, Machine.{Visible, is_same, is_generic}}}
-use Rattle.nntp_article.specs.Session.Machine.{is_greeting, is_article_number, are_zeros, is_in_range, code_fits, marks_fit, head_fits, active_fits}
-use Rattle.nntp_article.specs.Session.{Machine.{names_differ, number_fits, fits}, Misfit.{Misfit, no_head, listed_twice, name_misfit, marks_misfit}}
-use Rattle.nntp_article.specs.Session.Misfit.{step_misfit, order_misfit, listed_misfit, selected_misfit, target_misfit, said_misfit, head_misfit, active_misfit}
+use Rattle.nntp_article.specs.Session.Machine.{is_greeting, is_article_number, is_in_range, code_fits, marks_fit, head_fits, active_fits, names_differ}
+use Rattle.nntp_article.specs.Session.{Machine.{number_fits, fits}, Misfit.{Misfit, no_head, listed_twice, name_misfit, marks_misfit, step_misfit}}
+use Rattle.nntp_article.specs.Session.Misfit.{order_misfit, listed_misfit, selected_misfit, target_misfit, said_misfit, head_misfit, active_misfit}
 use Rattle.nntp_article.specs.{Session.Misfit.{twice_misfit, step_sent_misfit, code_misfit, misfit}, Inner.{Ascending.{ascends_from}, MisfitView.{why_if}}}
 use Rattle.nntp_article.specs.declared.session.{misfit.Misfit.{Misfit as Reason}, profile.Profile.{Profile}}
 use Rattle.nntp_article.proofs.SessionLemmas.AscendingNumbers.{ascends-ascending}
@@ -22,17 +22,7 @@ none_if true o p e = refl
 none_if false o p e = e
 
 none_marks : (profile : Profile) (v : Visible) (name : Name) (m : WaterMarks) → is_none (marks_misfit profile v name m) ≡ marks_fit profile v name m
-none_marks profile v name m =
-    none_if (are_zeros m) _ _
-    (none_four _ _ _ _ _ _ _ _ (none_unless (nat_le 1 m.low) _) (none_unless (nat_le m.high profile.limit) _)
-    (none_unless (nat_le m.low (m.high + 1) && nat_le m.estimate (m.high + 1 - m.low)) _)
-    (none_unless (nat_le (unwrap_or (get v.lows name) 0) m.low) _)
-    ∙ shuffled (nat_le 1 m.low) (nat_le m.high profile.limit) (nat_le m.low (m.high + 1)) (nat_le m.estimate (m.high + 1 - m.low)) (nat_le (unwrap_or (get v.lows name) 0) m.low))
-  where
-    shuffled : (a b c d e : Bool) → (a && b && (c && d) && e) ≡ (a && b && c && d && e)
-    shuffled true true c d e = refl
-    shuffled true false c d e = refl
-    shuffled false b c d e = refl
+none_marks profile v name m = grind arith
 
 none_step : (before : Option ℕ) (n : ℕ) → is_none (step_misfit before n) ≡ option_map_or (λ m. nat_lt m n) before true
 none_step None n = refl
@@ -55,15 +45,7 @@ none_selected profile v why number = none_two _ _ _ _ (none_unless (is_some v.se
 
 none_target : (profile : Profile) (v : Visible) (why : Misfit) (which : Target) (number : ℕ) (id : Id)
     → is_none (target_misfit profile v why which number id) ≡ number_fits profile v which number id
-none_target profile v why (by_id word) number id =
-    none_three _ _ _ _ _ _ (none_unless (is_same id word) _) (none_unless (number == 0 || is_some v.selected) _)
-    (none_unless (number == 0 || is_article_number profile.limit number) _)
-    ∙ shared (is_same id word) (number == 0) (is_some v.selected) (is_article_number profile.limit number)
-  where
-    shared : (a z s n : Bool) → (a && (z || s) && (z || n)) ≡ (a && (z || (s && n)))
-    shared true true s n = refl
-    shared true false s n = refl
-    shared false z s n = refl
+none_target profile v why (by_id word) number id = grind arith
 none_target profile v why (by_number None) number id = refl
 none_target profile v why (by_number (Some n)) number id =
     none_three _ _ _ _ _ _ (none_unless (is_some v.selected) why) (none_unless (number == n) _) (none_unless (is_article_number profile.limit n) _)
@@ -116,23 +98,7 @@ others_than_more name names (line ∷ lines) =
 
 none_twice : (names : List Name) (lines : List ActiveValue) → is_none (twice_misfit names lines) ≡ (names_differ lines && are_others names lines)
 none_twice names [] = refl
-none_twice names (line ∷ lines) = by (list_any (is_same line.name) names) (none_twice (line.name ∷ names) lines ∙ ap (λ b. names_differ lines && b) (others_than_more line.name names lines))
-  where
-    by : (b : Bool)
-        → is_none (twice_misfit (line.name ∷ names) lines) ≡ (names_differ lines && (list_all (λ other. not (is_same line.name other.name)) lines && are_others names lines))
-        → is_none (if b then Some (listed_twice line.name) else twice_misfit (line.name ∷ names) lines) ≡ (names_differ (line ∷ lines) && (not b && are_others names lines))
-    by true e = sym (never (names_differ (line ∷ lines)))
-      where
-        never : (b : Bool) → (b && false) ≡ false
-        never true = refl
-        never false = refl
-    by false e = e ∙ shuffled (names_differ lines) (list_all (λ other. not (is_same line.name other.name)) lines) (are_others names lines)
-      where
-        shuffled : (d a l : Bool) → (d && (a && l)) ≡ ((a && d) && l)
-        shuffled true true l = refl
-        shuffled true false l = refl
-        shuffled false true l = refl
-        shuffled false false l = refl
+none_twice names (line ∷ lines) = grind (arith, others_than_more, none_twice (line.name ∷ names) lines)
 
 none_names : (lines : List ActiveValue) → is_none (twice_misfit [] lines) ≡ names_differ lines
 none_names lines = none_twice [] lines ∙ ap (λ b. names_differ lines && b) (others_than_none lines) ∙ and_true (names_differ lines)
@@ -141,13 +107,7 @@ none_names lines = none_twice [] lines ∙ ap (λ b. names_differ lines && b) (o
 
 none_step_sent : (profile : Profile) (v : Visible) (why : Misfit) (sent : Success)
     → is_none (step_sent_misfit profile v why sent) ≡ (sent.code == 223 && is_some v.selected && is_article_number profile.limit sent.number)
-none_step_sent profile v why sent =
-    none_two _ _ _ _ (none_unless (sent.code == 223) why) (none_selected profile v why sent.number)
-    ∙ left (sent.code == 223) (is_some v.selected) (is_article_number profile.limit sent.number)
-  where
-    left : (p q r : Bool) → (p && (q && r)) ≡ (p && q && r)
-    left true q r = refl
-    left false q r = refl
+none_step_sent profile v why sent = grind arith
 
 none_misfit : (profile : Profile) (v : Visible) (asked : Asked) (response : Response) → is_none (misfit profile v asked response) ≡ fits profile v asked response
 none_misfit profile v greeting (plain code) = none_unless (is_greeting code) _

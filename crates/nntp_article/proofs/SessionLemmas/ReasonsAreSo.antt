@@ -5,9 +5,9 @@ use Rattle.std.specs.{Prelude.{◌+◌, ◌-◌, nat_le, nat_lt, unwrap_or, opti
 use Rattle.std.specs.{FinMap.{get}, Cmp.Lexicographic.{bytes_decides}}
 use Rattle.nntp_wire.specs.Answer.{Success, Asked, Response, greeting, to, group_is, numbers_are, sends, active_are, plain, success_code}
 use Rattle.nntp_wire.specs.{declared.{water_marks.WaterMarks.{WaterMarks}, command.What.{What, TheVariants.{Article, Head, Body, Stat}}}, Listing.{ActiveValue}}
-use Rattle.nntp_wire.specs.{Listing.{listed_numbers, active_groups}, Decided.{matches_name}, Command.{Target, by_id, by_number, current, group, list_group}}
-use Rattle.nntp_wire.{specs.{Command.{next, last, retrieve, list_active}, Reason.{unless, first}}, proofs.Reasons.{so_unless, so_first, so_each}}
-use Rattle.nntp_article.specs.{Article.Parts.{Line, Id, is_empty, is_head, said_id, head_part}, Session.{Spool.{Name}, Machine.{Visible, is_same, is_generic}}}
+use Rattle.nntp_wire.specs.{Listing.{listed_numbers, active_groups}, Decided.{matches_name}, Command.{Target, group, list_group, next, last, retrieve}}
+use Rattle.nntp_wire.{specs.{Command.{list_active}, Reason.{unless, first}}, proofs.Reasons.{so_unless, so_first, so_each}}
+use Rattle.nntp_article.specs.{Article.Parts.{Line, is_empty, is_head, said_id, head_part}, Session.{Spool.{Name}, Machine.{Visible, is_same, is_generic}}}
 use Rattle.nntp_article.specs.Session.{Machine.{is_greeting, is_article_number, are_zeros, is_in_range, code_fits}, Misfit.{Misfit, wrong_code, wrong_name}}
 use Rattle.nntp_article.specs.Session.Misfit.{wrong_number, wrong_id, below_low, wrong_marks, beyond_limit, not_above, beyond_range, unmatched, listed_twice}
 use Rattle.nntp_article.specs.Session.Misfit.{no_head, other_id, name_misfit, marks_misfit, step_misfit, order_misfit, listed_misfit, selected_misfit}
@@ -125,11 +125,7 @@ so_marks profile v asked response name m is given =
 
 so_selected : (profile : Profile) (v : Visible) (asked : Asked) (response : Response) (why : Misfit) (n : ℕ) → Tells profile v asked response why
     → IfSome (selected_misfit profile v why n) (Tells profile v asked response)
-so_selected profile v asked response why n t =
-    so_first Q _ _ (so_unless Q (is_some v.selected) why (λ e. t)) (so_first Q _ _ (so_unless Q (is_article_number profile.limit n) (beyond_limit n) (λ e. e)) tt)
-  where
-    Q : Misfit → Type 0
-    Q = Tells profile v asked response
+so_selected profile v asked response why n t = grind arith
 
 none_some : (o : Option Name) → is_some o ≡ false → o ≡ None
 none_some None e = refl
@@ -141,40 +137,11 @@ OfSent profile v what which sent = Tells profile v (to (retrieve what which)) (s
 
 so_target : (profile : Profile) (v : Visible) (what : What) (which : Target) (sent : Success) (why : Misfit) → OfSent profile v what which sent why
     → IfSome (target_misfit profile v why which sent.number sent.id) (OfSent profile v what which sent)
-so_target profile v what (by_id word) sent why t =
-    so_first Q _ _ (so_unless Q (is_same sent.id word) (wrong_id sent.id) (λ e. (refl, e)))
-    (so_first Q _ _ (so_unless Q (sent.number == 0 || is_some v.selected) (wrong_number sent.number)
-    (λ e. (refl, none_some v.selected (or_false (sent.number == 0) (is_some v.selected) e))))
-    (so_first Q _ _ (so_unless Q (sent.number == 0 || is_article_number profile.limit sent.number) (beyond_limit sent.number)
-    (or_false (sent.number == 0) (is_article_number profile.limit sent.number))) tt))
-  where
-    Q : Misfit → Type 0
-    Q = OfSent profile v what (by_id word) sent
-so_target profile v what (by_number None) sent why t = t
-so_target profile v what (by_number (Some k)) sent why t =
-    so_first Q _ _ (so_unless Q (is_some v.selected) why (λ e. t))
-    (so_first Q _ _ (so_unless Q (sent.number == k) (wrong_number sent.number) (λ e. (refl, e)))
-    (so_first Q _ _ (so_unless Q (is_article_number profile.limit k) (beyond_limit k) (λ e. e)) tt))
-  where
-    Q : Misfit → Type 0
-    Q = OfSent profile v what (by_number (Some k)) sent
-so_target profile v what current sent why t = so_selected profile v (to (retrieve what current)) (sends sent) why sent.number t
-
-so_said : (profile : Profile) (v : Visible) (what : What) (which : Target) (sent : Success) (head : List Line) → sent_head (to (retrieve what which)) (sends sent) ≡ Some head
-    → (o : Option Id) → said_id head ≡ o → IfSome (said_misfit sent.id o) (OfSent profile v what which sent)
-so_said profile v what which sent head is None says = tt
-so_said profile v what which sent head is (Some said) says =
-    so_unless (OfSent profile v what which sent) (is_same said sent.id) (other_id said)
-    (λ e. (subst (λ o. MatchOption o ⊥ (λ head. said_id head ≡ Some said)) (sym is) says, e))
+so_target profile v what which sent why t = grind (arith, so_first, so_unless, none_some, or_false, so_selected)
 
 so_parsed : (profile : Profile) (v : Visible) (what : What) (which : Target) (sent : Success) (b : Bool) (head : List Line) → has_parts what sent.block ≡ b
     → sent_head (to (retrieve what which)) (sends sent) ≡ Some head → IfSome (first (unless b no_head ∷ said_misfit sent.id (said_id head) ∷ [])) (OfSent profile v what which sent)
-so_parsed profile v what which sent b head parts is =
-    so_first Q (unless b no_head) (said_misfit sent.id (said_id head) ∷ []) (so_unless Q b no_head (λ e. ap not (parts ∙ e)))
-    (so_first Q (said_misfit sent.id (said_id head)) [] (so_said profile v what which sent head is (said_id head) refl) tt)
-  where
-    Q : Misfit → Type 0
-    Q = OfSent profile v what which sent
+so_parsed profile v what which sent b head parts is = grind arith
 
 so_head : (profile : Profile) (v : Visible) (what : What) (which : Target) (sent : Success) (lines : Option (List Line)) → sent.block ≡ lines
     → IfSome (head_misfit what sent.id lines) (OfSent profile v what which sent)
@@ -255,12 +222,7 @@ so_twice names (line ∷ lines) = by (list_any (is_same line.name) names) refl (
 -- where nothing stands before them, the lines list it twice
 all_twice : (profile : Profile) (v : Visible) (asked : Asked) (lines : List (List ℕ)) (why : Misfit) → IsListedTwice [] (active_groups lines) why
     → Tells profile v asked (active_are lines) why
-all_twice profile v asked lines why t = subst (Tells profile v asked (active_are lines)) (sym t.is) (at t.ways)
-  where
-    at : ((list_any (is_same t.name) [] ≡ true) × Occurs (listed_names (active_groups lines)) t.name) ⊎ IsTwice (listed_names (active_groups lines)) t.name
-        → IsTwice (listed_names (active_groups lines)) t.name
-    at (inl none) = absurd (true≢false (sym none.0))
-    at (inr two) = two
+all_twice profile v asked lines why t = grind arith
 
 so_name : (profile : Profile) (v : Visible) (asked : Asked) (response : Response) (why : Misfit) (o : Option Name) (name : Name) (m : WaterMarks)
     → marked_by response ≡ Some (name, m) → asked_group v asked ≡ o → Tells profile v asked response why
@@ -274,12 +236,7 @@ so_name profile v asked response why (Some word) name m marked is t =
 
 so_step_sent : (profile : Profile) (v : Visible) (asked : Asked) (sent : Success)
     → IfSome (step_sent_misfit profile v (code_misfit v asked sent.code) sent) (Tells profile v asked (sends sent))
-so_step_sent profile v asked sent =
-    so_first Q _ _ (so_unless Q (sent.code == 223) _ (λ e. (refl, refl)))
-    (so_first Q _ _ (so_selected profile v asked (sends sent) (code_misfit v asked sent.code) sent.number (refl, refl)) tt)
-  where
-    Q : Misfit → Type 0
-    Q = Tells profile v asked (sends sent)
+so_step_sent profile v asked sent = grind arith
 
 -- ---- answers
 
