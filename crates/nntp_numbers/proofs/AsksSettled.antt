@@ -71,17 +71,7 @@ module _ (asks : List Ask) where
 
   -- what is given meets the demand by what is shown, or by one more
   pub met_by : MeetsDemand (demand asks) (IsGivenNumber asks) → MeetsDemand (demand asks) Shown ⊎ ((e : ℕ) × IsOneMore asks e)
-  met_by = by (demand asks) refl
-    where
-      by : (d : Demand) → demand asks ≡ d → MeetsDemand d (IsGivenNumber asks) → MeetsDemand d Shown ⊎ ((e : ℕ) × IsOneMore asks e)
-      by NoDemand is met = inl tt
-      by NotEmpty is (n, inl s) = inl (n, s)
-      by NotEmpty is (n, inr x) = inr (n, x)
-      by OnlyOne is (n, inl s, once) = inl (n, s, λ m t. once m (inl t))
-      by OnlyOne is (n, inr x, once) = inr (n, x)
-      by (SecondIs k) is (second, n, below, inl s, once) = inl (shown_known asks k (second_shown asks k is), n, below, s, λ m l t. once m l (inl t))
-      by (SecondIs k) is (second, n, below, inr x, once) = inr (n, x)
-      by Impossible is met = absurd met
+  met_by = grind arith
 
   -- so there is no other way
   pub ways : (count : ℕ) → Counted count → AsksStand asks → Ways count
@@ -122,14 +112,6 @@ module _ (asks : List Ask) (c : ℕ) (e : Option ℕ) (within : (n : ℕ) → is
       (grind (arith, false_from_ne_true, found_is))
       (sym (within (c + 1)) ∙ p.1)
 
-  -- and back
-  room_of_more : (d : Demand) → d ≡ demand asks → (f : Option ℕ) → FirstFree (is_denied asks) f → (n : ℕ) → IsOneMore asks n → IsTrue (is_within_all asks (c + 1)) → has_room d f c e ≡ true
-  room_of_more d is f free n x few = grind arith
-
-  -- one more isn't needed where a wanted number is shown
-  not_needed : (d : Demand) → d ≡ demand asks → (n : ℕ) → (is_known asks n && wants d n) ≡ true → (m : ℕ) → IsOneMore asks m → ⊥
-  not_needed d is n t m x = grind arith
-
   -- by those that are known, where they meet the demand
   by_known : (d : Demand) → d ≡ demand asks → (w : HowMany) → PassSoMany (λ n. is_known asks n && wants d n) w → is_met d w ≡ true → IsTrue (is_within e c) → Ways asks c
   by_known d is w found met t = ByShown (subst (λ d. MeetsDemand d (Shown asks)) is (met_if asks d is w found met)) (sym (within c) ∙ t)
@@ -155,20 +137,7 @@ module _ (asks : List Ask) (c : ℕ) (e : Option ℕ) (within : (n : ℕ) → is
 
     -- and the way tells that it passes
     test : (d : Demand) → d ≡ demand asks → (w : HowMany) → PassSoMany (λ n. is_known asks n && wants d n) w → Ways asks c → is_settled d w f c e ≡ true
-    test d is w found (ByMore n x few) = by d is w found
-      where
-        by : (d : Demand) → d ≡ demand asks → (w : HowMany) → PassSoMany (λ n. is_known asks n && wants d n) w → is_settled d w f c e ≡ true
-        by NoDemand is w found = absurd (true≢false (sym x.wanted ∙ sym (ap (λ d. wants d n) is)))
-        by Impossible is w found = absurd (true≢false (sym x.wanted ∙ sym (ap (λ d. wants d n) is)))
-        by NotEmpty is Absent found = room_of_more NotEmpty is f free n x few
-        by OnlyOne is Absent found = room_of_more OnlyOne is f free n x few
-        by (SecondIs k) is Absent found = room_of_more (SecondIs k) is f free n x few
-        by NotEmpty is Single found = absurd (not_needed NotEmpty is found.0 found.1 n x)
-        by NotEmpty is Several found = absurd (not_needed NotEmpty is found.0 found.3 n x)
-        by OnlyOne is Single found = absurd (not_needed OnlyOne is found.0 found.1 n x)
-        by OnlyOne is Several found = absurd (not_needed OnlyOne is found.0 found.3 n x)
-        by (SecondIs k) is Single found = absurd (not_needed (SecondIs k) is found.0 found.1 n x)
-        by (SecondIs k) is Several found = absurd (not_needed (SecondIs k) is found.0 found.3 n x)
+    test d is w found (ByMore n x few) = grind arith
     test d is w found (ByShown met few) = few_settle d w f (is_met_if asks d w found (subst (λ d. MeetsDemand d (Shown asks)) (sym is) met)) ∙ within c ∙ few
 
 -- where nothing that is known is denied, and each ask can be met, all stands together exactly if the test passes

@@ -1,11 +1,11 @@
 -- The parts of what is asked of a group, each by itself: a known number that is denied, too many given numbers, an unmet demand.
-use Rattle.std.proofs.Common.{◌≡◌, ℕ, ◌+◌, ◌^◌, ◌<◌, Bool, true, false, not, cond, ◌&&◌, ◌||◌, ◌==◌, IsTrue, List, [], Option, None, Some, is_some, inl, inr}
-use Rattle.std.proofs.{Common.{refl, sym, ap, subst, ◌∙◌, arith}, lemmas.Bool.{cases_lt, true≢false, and_from, or_cases, eqb-true, false_from_ne_true}}
+use Rattle.std.proofs.Common.{◌≡◌, ℕ, ◌+◌, ◌^◌, Bool, true, false, not, cond, ◌&&◌, ◌||◌, ◌==◌, IsTrue, List, [], Option, None, Some, is_some, inl, inr, refl}
+use Rattle.std.proofs.{Common.{sym, ap, subst, ◌∙◌, arith}, lemmas.Bool.{cases_lt, true≢false, and_from, or_cases, eqb-true, false_from_ne_true}}
 use Rattle.std.specs.{Prelude.{MatchOption, IsFalse, ◌↔◌}, FinMap.{len}}
 use Rattle.nntp_intervals.specs.Inner.Intervals.{holds}
 use Rattle.nntp_article.specs.Session.Spool.{Numbers}
 use Rattle.nntp_said.specs.Asks.{Ask}
-use Rattle.nntp_theory.specs.{Given.{is_shown, is_known, is_denied, demand, wants, IsOneMore, IsGivenNumber, HasGivenNumbers}, Together.{MeetsDemand}}
+use Rattle.nntp_theory.specs.{Given.{is_known, is_denied, demand, wants, IsOneMore, IsGivenNumber, HasGivenNumbers}, Together.{MeetsDemand}}
 use Rattle.nntp_theory.specs.{Inner.{Estimates.{is_within_all}, Conflict.{AreApart}}, Conflict.{AreTooMany}}
 use Rattle.nntp_theory.proofs.{GivenNumbers.CountOfGivenNumbers.{as_many_given, more_meets, known_meet}, Together.FewEnough.{few_for, within_all}}
 use Rattle.nntp_numbers.specs.Inner.{Part.{is_end_of}, Unseen.{known_ends_in, one_more_in}, Summary.{Summary, IsSummary, AreBounded, has, PassSoMany}}
@@ -39,16 +39,7 @@ module _ (s : Summary) (asks : List Ask) (sum : IsSummary s asks) (bounded : Are
   pub end_or_apart : DeniedAmong (has s.shown) s.denied None → (found : Option ℕ) → DeniedAmong (is_end_of (known_ends_in s)) s.denied found
       → MatchOption found (AreApart asks) (λ n. IsTrue (is_known asks n) × IsTrue (is_denied asks n))
   end_or_apart shown (Some n) at = (end_known n at.0, denied_kept n at.1)
-  end_or_apart shown None ends = λ n k. by_hull n (sym (apart_by_hull asks by_hull n) ∙ k)
-    where
-      free : (n : ℕ) → n < 2 ^ 64 → holds s.denied n ≡ false → IsFalse (is_denied asks n)
-      free n small f = sym (sum.denied n small) ∙ f
-
-      by_hull : (n : ℕ) → IsTrue (is_known_by asks n) → IsFalse (is_denied asks n)
-      by_hull n t = elim (or_cases (is_shown asks n) (is_end_of (known_ends_in s) n) (sym (hull_is s asks sum bounded n) ∙ t)) [
-        | inl a ↦ (let f = shown n (sum.shown n ∙ a) in free n f.0 f.1)
-        | inr b ↦ (let f = ends n b in free n f.0 f.1)
-      ]
+  end_or_apart shown None ends = grind (arith, apart_by_hull, is_known_by, or_cases, hull_is)
 
   -- ---- what is counted
 

@@ -119,20 +119,7 @@ module _ (p : Said) (regular : IsRegular p) where
   pub none_denied : (shown : List ℕ) (is : List (ℕ × ℕ)) (b : Bool) → is ≡ gaps (Some p.first) p.last p.numbers
       → ((n : ℕ) → has shown n ≡ true → (nat_lt n p.low || nat_lt p.high n) ≡ false) → (IsTrue b ↔ ((n : ℕ) → has shown n ≡ true → holds is n ≡ false))
       → IsTrue b ↔ ((n : ℕ) → has shown n ≡ true → part_denies p n ≡ false)
-  none_denied shown is b same inside none = (
-    λ t n s. sym (denied n s) ∙ or_from (nat_lt n p.low || nat_lt p.high n) (holds is n) (inside n s) (none.0 t n s),
-    λ free. none.1 (λ n s. (or_parts (nat_lt n p.low || nat_lt p.high n) (holds is n) (denied n s ∙ free n s)).1),
-  )
-    where
-      below : (n : ℕ) → has shown n ≡ true → n < 2 ^ 64
-      below n s =
-          let o = or_parts (nat_lt n p.low) (nat_lt p.high n) (inside n s) in
-          let l = ltb-false p.high n o.1 in
-          let h = regular.high in
-          omega arith
-
-      denied : (n : ℕ) → has shown n ≡ true → ((nat_lt n p.low || nat_lt p.high n) || holds is n) ≡ part_denies p n
-      denied n s = ap (λ is. (nat_lt n p.low || nat_lt p.high n) || holds is n) same ∙ denies_by_gaps n (below n s)
+  none_denied shown is b same inside none = grind (arith, or_from, or_parts, ltb-false, denies_by_gaps)
 
 -- ---- the numbers of a part that are open
 

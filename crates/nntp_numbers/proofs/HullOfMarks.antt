@@ -2,11 +2,11 @@
 use Rattle.std.proofs.Common.{◌≡◌, ℕ, ◌≤◌, ◌⊎◌, Bool, true, false, cond, ◌&&◌, ◌||◌, ◌==◌, IsTrue, List, [], ◌∷◌, ◌++◌, Option, None, Some, inl, inr, refl, sym}
 use Rattle.std.proofs.{Common.{ap, subst, ◌∙◌, arith}, lemmas.Bool.{true≢false, and_from, or_left, or_right, or_cases, or_parts, cases_Bool, cases_lt, eq-eqb}}
 use Rattle.std.proofs.{lemmas.Bool.{eqb-true, lt-ltb, false_from_ne_true}, Math.Nat.{min-eq_left, min-eq_right, max-eq_left, max-eq_right}}
-use Rattle.std.specs.{Prelude.{IsFalse, nat_lt, min, max}, List.{list_any}, Cmp.{both_ways}}
+use Rattle.std.specs.{Prelude.{IsFalse, nat_lt, min, max}, List.{list_any}}
 use Rattle.nntp_wire.specs.declared.{water_marks.WaterMarks.{WaterMarks}, marks.Marks.TheVariants.{Lenient, Strict}}
 use Rattle.nntp_said.specs.{Asks.{Ask, Estimates, ListsIn, Has, StandsAt, StepsUp, StepsDown, IsTop, IsBottom}, declared.position.Position.TheVariants.{First}}
 use Rattle.nntp_theory.specs.{Given.{shows, denies, is_shown, is_denied, is_known, is_end, says_some, demand_in, join, demand}, Inner.OneMore.{is_demanding}}
-use Rattle.nntp_theory.specs.{Inner.{Together.{AsksStand}, Conflict.{AreApart}}, declared.demand.Demand.{Demand, TheVariants.{NoDemand, SecondIs, Impossible}}}
+use Rattle.nntp_theory.specs.{Inner.{Together.{AsksStand}, Conflict.{AreApart}}, declared.demand.Demand.{Demand, TheVariants.{NoDemand, SecondIs}}}
 use Rattle.nntp_theory.proofs.{Members.{In, any_in, found_in}, GivenNumbers.GivenNumbersMeet.{shows_some, no_demand}}
 use Rattle.nntp_numbers.specs.{Inner.Part.{join_ends, ends_in, ends_of, is_end_of}, declared.ends.Ends.{Ends}}
 
@@ -119,28 +119,11 @@ module _ (asks : List Ask) (e : Ends) (is : ends_of asks ≡ Some e) (low : IsFa
 
   -- all strict marks are the hull's
   pub same_ends : (n : ℕ) → list_any (λ ask. is_end ask n) asks ≡ is_end_of (Some e) n
-  same_ends n = both_ways (list_any (λ ask. is_end ask n) asks) (e.low == n || e.high == n)
-      (λ t. let f = found_in (λ ask. is_end ask n) asks t in one f.0 f.1 f.2)
-      (λ t. elim (or_cases (e.low == n) (e.high == n) t) [ inl a ↦ subst (HasEnd asks) (eqb-true e.low n a) ends.0 | inr a ↦ subst (HasEnd asks) (eqb-true e.high n a) ends.1 ])
-    where
-      one : (ask : Ask) → In ask asks → is_end ask n ≡ true → (e.low == n || e.high == n) ≡ true
-      one (Estimates Strict m) i t = elim (or_cases (m.low == n) (m.high == n) t) [
-        | inl a ↦ or_left (e.low == n) _ (eq-eqb e.low n (same_low m i ∙ eqb-true m.low n a))
-        | inr a ↦ or_right (e.low == n) _ (eq-eqb e.high n (same_high m i ∙ eqb-true m.high n a))
-      ]
-      one ask i t = cc
+  same_ends n = grind (arith, found_in, or_cases, eqb-true, ends, or_left, eq-eqb, same_low, or_right, same_high)
 
   -- what isn't denied is between the ends
   pub between_ends : (n : ℕ) → IsFalse (is_denied asks n) → (e.low ≤ n) × (n ≤ e.high)
-  between_ends n free = let f = found_in (λ ask. is_end ask e.low) asks ends.0 in one f.0 f.1 f.2
-    where
-      one : (ask : Ask) → In ask asks → is_end ask e.low ≡ true → (e.low ≤ n) × (n ≤ e.high)
-      one (Estimates Strict m) i t =
-          let w = between_marks m i n free in
-          let l = same_low m i in
-          let h = same_high m i in
-          (omega arith, omega arith)
-      one ask i t = cc
+  between_ends n free = grind (arith, found_in, ends, between_marks, same_low, same_high)
 
 -- the ends are given, where it is said that there is a number
 pub ends_known : (asks : List Ask) (e : Ends) → ends_of asks ≡ Some e → list_any says_some asks ≡ true → IsTrue (is_known asks e.low) × IsTrue (is_known asks e.high)
@@ -152,22 +135,12 @@ ends_known asks e is some =
 
 -- no end, where there is no hull
 pub no_hull : (asks : List Ask) → ends_of asks ≡ None → (n : ℕ) → list_any (λ ask. is_end ask n) asks ≡ false
-no_hull asks is n = false_from_ne_true _ (λ t. let f = found_in (λ ask. is_end ask n) asks t in one f.0 f.1 f.2)
-  where
-    one : (ask : Ask) → In ask asks → is_end ask n ≡ true → ⊥
-    one (Estimates Strict m) i t = let w = within_ends asks m i in (let q : None ≡ Some w.0 = sym is ∙ w.1 in cc)
-    one ask i t = cc
+no_hull asks is n = grind (arith, false_from_ne_true, found_in, within_ends)
 
 -- where the ends aren't denied, or no number is said to be there, what is known is known by the hull
 pub known_by : (asks : List Ask) → (list_any says_some asks ≡ true → (e : Ends) → ends_of asks ≡ Some e → IsFalse (is_denied asks e.low) × IsFalse (is_denied asks e.high))
     → (n : ℕ) → is_known asks n ≡ is_known_by asks n
-known_by asks free n = by (list_any says_some asks) refl (ends_of asks) refl
-  where
-    by : (some : Bool) → list_any says_some asks ≡ some → (o : Option Ends) → ends_of asks ≡ o
-        → (is_shown asks n || (some && list_any (λ ask. is_end ask n) asks)) ≡ (is_shown asks n || (some && is_end_of o n))
-    by false said o is = refl
-    by true said None is = ap (λ b. is_shown asks n || b) (no_hull asks is n)
-    by true said (Some e) is = let f = free said e is in ap (λ b. is_shown asks n || b) (same_ends asks e is f.0 f.1 n)
+known_by asks free n = grind (arith, no_hull, same_ends)
 
 -- so it is where nothing that is known is denied
 pub apart_known : (asks : List Ask) → AreApart asks → (n : ℕ) → is_known asks n ≡ is_known_by asks n
@@ -179,25 +152,13 @@ stands_by_hull asks stand = apart_known asks (λ n t. stand.not_denied n (inl t)
 
 -- and where nothing that is known by the hull is denied
 pub apart_by_hull : (asks : List Ask) → ((n : ℕ) → IsTrue (is_known_by asks n) → IsFalse (is_denied asks n)) → (n : ℕ) → is_known asks n ≡ is_known_by asks n
-apart_by_hull asks apart = known_by asks
-    (λ said e is. (
-      apart e.low (at said e is e.low (or_left (e.low == e.low) _ (eq-eqb e.low e.low refl))),
-      apart e.high
-          (at said e is e.high (or_right (e.low == e.high) _ (eq-eqb e.high e.high refl))),
-    ))
-  where
-    at : list_any says_some asks ≡ true → (e : Ends) → ends_of asks ≡ Some e → (n : ℕ) → is_end_of (Some e) n ≡ true → IsTrue (is_known_by asks n)
-    at said e is n t = or_right (is_shown asks n) _ (and_from (list_any says_some asks) _ said (ap (λ o. is_end_of o n) is ∙ t))
+apart_by_hull asks apart = grind (arith, known_by, or_left, eq-eqb, or_right, and_from)
 
 -- ---- whether a number is said to be there
 
 -- of two demands
 demanding_both : (d e : Demand) → is_demanding (join d e) ≡ (is_demanding d || is_demanding e)
-demanding_both (SecondIs m) (SecondIs k) = by (m == k)
-  where
-    by : (b : Bool) → is_demanding (cond b (SecondIs m) Impossible) ≡ true
-    by true = refl
-    by false = refl
+demanding_both (SecondIs m) (SecondIs k) = grind arith
 demanding_both d NoDemand = refl
 demanding_both d e = refl
 

@@ -126,19 +126,7 @@ module _ (s : Summary) (p : Said) (asks more : List Ask) (sum : IsSummary s asks
     module _ (stand : AsksStand asks) (agrees : AgreesWith s.shown s.denied p) (open_ends : AreOpen s.denied p (ends_after s p)) where
       -- so nothing that is known then is denied
       free_known : (n : ℕ) → known_after s p n ≡ true → (n < 2 ^ 64) × (denied_after s.denied p n ≡ false)
-      free_known n t = elim (or_cases (shown_after s.shown p.numbers n) (is_end_of (ends_after s p) n) t) [
-        | inl u ↦ elim (or_cases (has s.shown n) (is_one_of p.numbers n) u) [
-          | inl a ↦
-              let free = agrees.before n a in
-              let small = below p says.regular n free in
-              (small, or_from (holds s.denied n) (part_denies p n) (sum.denied n small ∙ stand.not_denied n (inl (shown_known asks n (sym (sum.shown n) ∙ a)))) free)
-          | inr b ↦ by (agrees.after n b)
-        ]
-        | inr e ↦ by (open_ends n e)
-      ]
-        where
-          by : denied_after s.denied p n ≡ false → (n < 2 ^ 64) × (denied_after s.denied p n ≡ false)
-          by free = (below p says.regular n (or_parts (holds s.denied n) (part_denies p n) free).1, free)
+      free_known n t = grind (arith, or_cases, below, or_from, shown_known, or_parts)
 
       apart_by : (n : ℕ) → IsTrue (is_known_by (asks ++ more) n) → IsFalse (is_denied (asks ++ more) n)
       apart_by n t = let f = free_known n (hull_grows n ∙ t) in sym (denied_grows n f.0) ∙ f.1

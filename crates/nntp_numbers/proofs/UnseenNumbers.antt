@@ -1,15 +1,14 @@
 -- The numbers that are given and aren't shown, by what is kept of the group.
-use Rattle.std.proofs.Common.{◌≡◌, ℕ, zero, suc, ◌+◌, ◌^◌, ◌<◌, ◌≤◌, ◌⊎◌, Bool, true, false, not, cond, ◌&&◌, ◌||◌, ◌==◌, IsTrue, List, length, Option, None}
-use Rattle.std.proofs.{Common.{Some, inl, inr, refl, sym, ap, subst, ◌∙◌, arith}, lemmas.Bool.{cases_lt, true≢false, and_from, and_parts, or_left, or_right}}
+use Rattle.std.proofs.Common.{◌≡◌, ℕ, zero, suc, ◌+◌, ◌^◌, ◌<◌, ◌≤◌, Bool, true, false, not, cond, ◌&&◌, ◌||◌, ◌==◌, IsTrue, List, length, Option, None, Some}
+use Rattle.std.proofs.{Common.{inl, inr, refl, sym, ap, subst, ◌∙◌, arith}, lemmas.Bool.{cases_lt, true≢false, and_from, and_parts, or_left, or_right}}
 use Rattle.std.proofs.lemmas.{Bool.{or_cases, eq-eqb, eqb-true, false_from_ne_true}, Map.{Views.{tells_apart}, Lookups.{exact_unsigned}}}
-use Rattle.std.specs.{Prelude.{MatchOption, IfSome, IsFalse}, List.{list_any}, BTreeMap.{is_at}, Ordering.{nat_cmp}, Cmp.{nat_cmp_total, eq_by_cmp_equiv}}
+use Rattle.std.specs.{Prelude.{MatchOption, IsFalse}, List.{list_any}, BTreeMap.{is_at}, Ordering.{nat_cmp}, Cmp.{nat_cmp_total, eq_by_cmp_equiv}}
 use Rattle.nntp_intervals.specs.Inner.Intervals.{holds, IsLeastFree, IsFullFrom}
 use Rattle.nntp_said.specs.Asks.{Ask}
 use Rattle.nntp_theory.specs.Given.{is_shown, is_denied, demand, wants, says_some, IsFirstFree, IsOneMore, IsGivenNumber, is_known}
 use Rattle.nntp_theory.specs.{declared.demand.Demand.{Demand}, Inner.{Together.{AsksStand}, OneMore.{is_demanding, free, if_wanted, all_numbers}}}
-use Rattle.nntp_theory.{specs.Inner.Unseen.{AreUnseen, IsLeastGiven, IsGreatestGiven}, proofs.GivenNumbers.FirstFreeNumber.{free_is, free_none}}
-use Rattle.nntp_theory.proofs.{GivenNumbers.{FirstFreeNumber.{first_free_once}, MetNumbersStand.{shown_known, one_more_once, wants_less}}, Members.{In, any_in}}
-use Rattle.nntp_theory.proofs.Members.{found_in}
+use Rattle.nntp_theory.{specs.Inner.Unseen.{AreUnseen}, proofs.GivenNumbers.FirstFreeNumber.{free_is, free_none, first_free_once}}
+use Rattle.nntp_theory.proofs.{GivenNumbers.MetNumbersStand.{shown_known, one_more_once, wants_less}, Members.{In, any_in, found_in}}
 use Rattle.nntp_numbers.specs.{declared.{ends.Ends.{Ends}, shown.HowMany.{HowMany, TheVariants.{Absent, Single, Several}}}, Inner.Part.{ends_of, is_end_of}}
 use Rattle.nntp_numbers.specs.Inner.{Summary.{Summary, IsSummary, AreBounded, has, PassSoMany, FirstFreeBelow}, Unseen.{one_more_in, known_ends_in}}
 use Rattle.nntp_numbers.{specs.Inner.Unseen.{unseen_beside, unseen_in, unseen_high_beside, unseen_high_in}, proofs.MoreAsks.{some_there, there_is_has}}
@@ -21,11 +20,7 @@ use Rattle.nntp_numbers.proofs.HullOfMarks.{is_known_by, end_if, some_is, stands
 free_within : (taken : ℕ → Bool) (k n j : ℕ) → free taken k n ≡ Some j → j < n + k
 unfolding free
 free_within taken zero n j e = cc
-free_within taken (suc k) n j e = by (taken n) (free_within taken k (n + 1) j) e
-  where
-    by : (b : Bool) → (free taken k (n + 1) ≡ Some j → j < n + 1 + k) → cond b (free taken k (n + 1)) (Some n) ≡ Some j → j < n + suc k
-    by true rest e = let l = rest e in omega arith
-    by false rest e = let s : n ≡ j = cc in omega arith
+free_within taken (suc k) n j e = grind (arith, free_within taken k (n + 1) j)
 
 -- where there is a first, it is found
 free_found : (taken : ℕ → Bool) (k n f : ℕ) → IsFirstFree taken n f → f < n + k → free taken k n ≡ Some f
@@ -37,11 +32,7 @@ free_found taken k n f first low = by (free taken k n) refl
 
 -- where all are taken, none is
 free_full : (taken : ℕ → Bool) (k n : ℕ) → ((m : ℕ) → n ≤ m → m < n + k → taken m ≡ true) → free taken k n ≡ None
-free_full taken k n full = by (free taken k n) refl
-  where
-    by : (o : Option ℕ) → free taken k n ≡ o → o ≡ None
-    by None e = refl
-    by (Some m) e = let f = free_is taken k n m e in absurd (true≢false (sym (full m f.0 (free_within taken k n m e)) ∙ f.1))
+free_full taken k n full = grind (arith, free_is, true≢false, free_within)
 
 -- the numbers that are searched are those of 64 bits
 all_small : 1 + all_numbers ≡ 2 ^ 64
@@ -167,11 +158,7 @@ module _ (s : Summary) (asks : List Ask) (sum : IsSummary s asks) (bounded : Are
 
   -- the strict marks that are kept, where there is a number
   pub ends_kept : (e : Ends) → known_ends_in s ≡ Some e → (list_any says_some asks ≡ true) × (ends_of asks ≡ Some e)
-  ends_kept e is = by (not (length s.shown == 0) || is_demanding s.demand) refl is
-    where
-      by : (b : Bool) → (not (length s.shown == 0) || is_demanding s.demand) ≡ b → cond b s.ends None ≡ Some e → (list_any says_some asks ≡ true) × (ends_of asks ≡ Some e)
-      by true t is = (sym some_kept ∙ t, sym sum.ends ∙ is)
-      by false f is = cc
+  ends_kept e is = grind (arith, some_kept)
 
   -- what is known by the hull is shown, or one of these
   pub hull_is : (n : ℕ) → is_known_by asks n ≡ (is_shown asks n || is_end_of (known_ends_in s) n)
@@ -244,65 +231,7 @@ module _ (s : Summary) (asks : List Ask) (sum : IsSummary s asks) (bounded : Are
       -- the low one, where it isn't shown; and the high one, where it isn't shown, and isn't the low one
       by_ends : (a : Bool) → is_shown asks e.low ≡ a → (b : Bool) → (e.high == e.low) ≡ b → (c : Bool) → is_shown asks e.high ≡ c
           → AreUnseen asks (cond a None (Some e.low)) (cond b None (cond c None (Some e.high)))
-      by_ends a at b bt c ct = record {
-        given = λ n. (
-          λ g. elim (or_cases (is_shown asks n) (e.low == n || e.high == n) (sym (known_by_ends n) ∙ known_of n g)) [
-            | inl t ↦ inl t
-            | inr t ↦ elim (or_cases (e.low == n) (e.high == n) t) [
-              | inl l ↦ is_low a at n (eqb-true e.low n l)
-              | inr h ↦ is_high b bt c ct n (eqb-true e.high n h)
-            ]
-          ],
-          λ u. elim u [
-            | inl t ↦ inl (shown_known asks n t)
-            | inr (inl q) ↦ inl (subst (λ m. IsTrue (is_known asks m)) (some_low a q) low_known)
-            | inr (inr q) ↦ inl (subst (λ m. IsTrue (is_known asks m)) (some_high b c q) high_known)
-          ],
-        );
-        least = least_low a at;
-        greatest = greatest_high b bt c ct;
-      }
-        where
-          is_low : (a : Bool) → is_shown asks e.low ≡ a → (n : ℕ) → e.low ≡ n → IsTrue (is_shown asks n) ⊎ (cond a None (Some e.low) ≡ Some n) ⊎ (cond b None (cond c None (Some e.high)) ≡ Some n)
-          is_low true at n same = inl (subst (λ m. IsTrue (is_shown asks m)) same at)
-          is_low false at n same = inr (inl (ap Some same))
-
-          is_high : (b : Bool) → (e.high == e.low) ≡ b → (c : Bool) → is_shown asks e.high ≡ c → (n : ℕ) → e.high ≡ n
-              → IsTrue (is_shown asks n) ⊎ (cond a None (Some e.low) ≡ Some n) ⊎ (cond b None (cond c None (Some e.high)) ≡ Some n)
-          is_high true bt c ct n same = by a at (sym (eqb-true e.high e.low bt) ∙ same)
-            where
-              by : (a : Bool) → is_shown asks e.low ≡ a → e.low ≡ n → IsTrue (is_shown asks n) ⊎ (cond a None (Some e.low) ≡ Some n) ⊎ (None ≡ Some n)
-              by true at same = inl (subst (λ m. IsTrue (is_shown asks m)) same at)
-              by false at same = inr (inl (ap Some same))
-          is_high false bt true ct n same = inl (subst (λ m. IsTrue (is_shown asks m)) same ct)
-          is_high false bt false ct n same = inr (inr (ap Some same))
-
-          some_low : (a : Bool) {n : ℕ} → cond a None (Some e.low) ≡ Some n → e.low ≡ n
-          some_low true q = cc
-          some_low false q = cc
-
-          some_high : (b c : Bool) {n : ℕ} → cond b None (cond c None (Some e.high)) ≡ Some n → e.high ≡ n
-          some_high true c q = cc
-          some_high false true q = cc
-          some_high false false q = cc
-
-          least_low : (a : Bool) → is_shown asks e.low ≡ a → IfSome (cond a None (Some e.low)) (λ n. IsFalse (is_shown asks n) × IsLeastGiven asks n)
-          least_low true at = tt
-          least_low false at = (at, (inl low_known, λ m g. (within m g).0))
-
-          greatest_high : (b : Bool) → (e.high == e.low) ≡ b → (c : Bool) → is_shown asks e.high ≡ c
-              → IfSome (cond b None (cond c None (Some e.high))) (λ n. IsFalse (is_shown asks n) × IsGreatestGiven asks n × ¬ (IsLeastGiven asks n))
-          greatest_high true bt c ct = tt
-          greatest_high false bt true ct = tt
-          greatest_high false bt false ct = (
-            ct,
-            (inl high_known, λ m g. (within m g).1),
-            λ l.
-                let down = l.1 e.low (inl low_known) in
-                let up = (within e.low (inl low_known)).1 in
-                let same : e.high ≡ e.low = omega arith in
-                true≢false (sym (eq-eqb e.high e.low same) ∙ bt),
-          )
+      by_ends a at b bt c ct = grind (arith, or_cases, known_by_ends, known_of, eqb-true, shown_known, low_known, high_known, within, true≢false, eq-eqb)
 
     -- what is read off is what is given beside what is shown
     pub are_unseen : AreUnseen asks (unseen_in s) (unseen_high_in s)
