@@ -1,8 +1,8 @@
 -- What a reason names is at fault.
 use Rattle.std.proofs.Common.{◌≡◌, ℕ, ◌≤◌, Bool, true, false, not, ◌&&◌, ◌||◌, ◌==◌, Option, None, Some, is_some, MatchOption, List, [], ◌∷◌, ◌++◌, map, ◌⊎◌}
-use Rattle.std.proofs.{Common.{inl, inr, refl, sym, ap, subst, arith, ◌∙◌}, lemmas.{Bool.{true≢false, or_cases, leb-false, ltb-false}, Option.{IfSome_then}}}
-use Rattle.std.specs.{Prelude.{◌+◌, ◌-◌, nat_le, nat_lt, unwrap_or, option_map, if◌then◌else◌, IfSome}, List.{list_any}, Option.{option_map_or, option_or}}
-use Rattle.std.specs.{FinMap.{get}, Cmp.Lexicographic.{bytes_decides}}
+use Rattle.std.proofs.{Common.{inl, inr, refl, sym, ap, subst, arith, ◌∙◌}, lemmas.Bool.{true≢false, or_cases, leb-false, ltb-false, and_right, and_from}}
+use Rattle.std.{proofs.lemmas.{Bool.{or_left, or_right}, Option.{IfSome_then}}, specs.Prelude.{◌+◌, ◌-◌, nat_le, nat_lt, unwrap_or, option_map, if◌then◌else◌}}
+use Rattle.std.specs.{Prelude.{IfSome}, List.{list_any}, Option.{option_map_or, option_or}, FinMap.{get}, Cmp.Lexicographic.{bytes_decides}}
 use Rattle.nntp_wire.specs.Answer.{Success, Asked, Response, greeting, to, group_is, numbers_are, sends, active_are, plain, success_code}
 use Rattle.nntp_wire.specs.{declared.{water_marks.WaterMarks.{WaterMarks}, command.What.{What, TheVariants.{Article, Head, Body, Stat}}}, Listing.{ActiveValue}}
 use Rattle.nntp_wire.specs.{Listing.{listed_numbers, active_groups}, Decided.{matches_name}, Command.{Target, group, list_group, next, last, retrieve}}
@@ -72,24 +72,9 @@ Tells profile v asked response (other_id said) =
 Tells profile v asked response (wrong_marks name) = has_wrong_marks response name ≡ true
 Tells profile v asked response no_head = lacks_parts asked response ≡ true
 
-and_false : (a b : Bool) → b ≡ false → (a && b) ≡ false
-and_false true b e = e
-and_false false b e = refl
-
 or_false : (a b : Bool) → (a || b) ≡ false → b ≡ false
 or_false true b e = absurd (true≢false e)
 or_false false b e = e
-
-and_both : (a b : Bool) → a ≡ true → b ≡ true → (a && b) ≡ true
-and_both true b e f = f
-and_both false b e f = e
-
-or_left : (a b : Bool) → a ≡ true → (a || b) ≡ true
-or_left a b e = ap (λ a. a || b) e
-
-or_right : (a b : Bool) → b ≡ true → (a || b) ≡ true
-or_right true b e = refl
-or_right false b e = e
 
 -- ---- marks
 
@@ -107,7 +92,7 @@ so_marks : (profile : Profile) (v : Visible) (asked : Asked) (response : Respons
 so_marks profile v asked response name m is given =
     so_if Q (are_zeros m) _
     (λ z. so_first Q _ _ (so_unless Q (nat_le 1 m.low) _ (λ e. wrong z (or_left _ _ (ap (λ b. not (b && nat_le m.low (m.high + 1))) e))))
-    (so_first Q _ _ (so_unless Q (nat_le m.high profile.limit) _ (λ e. and_false (nat_le 1 m.high) (nat_le m.high profile.limit) e))
+    (so_first Q _ _ (so_unless Q (nat_le m.high profile.limit) _ (λ e. and_right (nat_le 1 m.high) (nat_le m.high profile.limit) e))
     (so_first Q _ _ (so_unless Q (nat_le m.low (m.high + 1) && nat_le m.estimate (m.high + 1 - m.low)) _
     (λ e. wrong z (disordered (nat_le 1 m.low) (nat_le m.low (m.high + 1)) (nat_le m.estimate (m.high + 1 - m.low)) e)))
     (so_first Q _ _ (so_unless Q (nat_le (unwrap_or (get v.lows name) 0) m.low) _
@@ -117,7 +102,7 @@ so_marks profile v asked response name m is given =
     Q = Tells profile v asked response
 
     wrong : are_zeros m ≡ false → (are_out_of_order m.low m.high || not (nat_le m.estimate (m.high + 1 - m.low))) ≡ true → has_wrong_marks response name ≡ true
-    wrong z x = given ∙ and_both (is_same name name) (have_no_room m) ((bytes_decides name name).1 refl) (and_both (not (are_zeros m)) _ (ap not z) x)
+    wrong z x = given ∙ and_from (is_same name name) (have_no_room m) ((bytes_decides name name).1 refl) (and_from (not (are_zeros m)) _ (ap not z) x)
 
     above : (o : Option ℕ) → get v.lows name ≡ o → nat_le (unwrap_or o 0) m.low ≡ false → IsAbove v (unwrap_or o 0) (name, m)
     above None got e = let below = leb-false 0 m.low e in absurd (omega arith)
@@ -161,9 +146,9 @@ so_active profile v response p line listed =
     so_first Q _ _
     (so_if Q (line.low == 0 && line.high == 0) _
     (λ z. so_first Q _ _ (so_unless Q (nat_le 1 line.low && nat_le line.low (line.high + 1)) _
-    (λ e. listed (and_both (is_same line.name line.name && not (line.low == 0 && line.high == 0)) (are_out_of_order line.low line.high)
-    (and_both (is_same line.name line.name) _ ((bytes_decides line.name line.name).1 refl) (ap not z)) (ap not e))))
-    (so_first Q _ _ (so_unless Q (nat_le line.high profile.limit) _ (and_false (nat_le 1 line.high) (nat_le line.high profile.limit))) tt)))
+    (λ e. listed (and_from (is_same line.name line.name && not (line.low == 0 && line.high == 0)) (are_out_of_order line.low line.high)
+    (and_from (is_same line.name line.name) _ ((bytes_decides line.name line.name).1 refl) (ap not z)) (ap not e))))
+    (so_first Q _ _ (so_unless Q (nat_le line.high profile.limit) _ (and_right (nat_le 1 line.high) (nat_le line.high profile.limit))) tt)))
     (so_first Q _ _ (so_unless Q (option_map_or (λ w. matches_name w line.name) p true) (unmatched line.name) (by p)) tt)
   where
     Q : Misfit → Type 0
