@@ -80,13 +80,8 @@ module _ (profile : Profile) (bad : Placed) (answers more : List Placed) where
           end.in_each these among (λ h. none (still these there h));
     }
 
-  found_still : (rest : Option ℕ) (places : List ℕ) → MatchOption rest ⊤ (λ bound. 0 < length places)
-      → MatchOption rest (IsCore profile bad answers places) (λ bound. IsEndOfCore profile bad answers bound places)
-      → MatchOption rest (IsCore profile bad (answers ++ more) places) (λ bound. IsEndOfCore profile bad (answers ++ more) bound places)
-  found_still rest places h i = grind (arith, core_still, end_still)
-
   pub core_goes_on : (core : Core) → HasLast core → IsFound profile bad answers core → IsFound profile bad (answers ++ more) core
-  core_goes_on core some is = record { ascending = is.ascending; found = found_still core.rest core.places some is.found }
+  core_goes_on core some is = grind (arith, core_still, end_still)
 
   all_of : (rest : Option ℕ) (places : List ℕ) → MatchOption rest ⊤ (λ bound. 0 < length places)
       → MatchOption rest (IsCore profile bad answers places) (λ bound. IsEndOfCore profile bad answers bound places)

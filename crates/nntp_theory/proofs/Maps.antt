@@ -14,14 +14,11 @@ use Rattle.nntp_theory.proofs.Members.{In, all_at, any_in, in_map, from_map}
 T-is_true : (b : Bool) → T b → b ≡ true
 T-is_true b h = grind arith
 
-is_less : (r : Ordering) → is_lt r ≡ true → r ≡ Less
-is_less r h = grind arith
-
 below_keys : {K X : Type 0} (R : K → K → Ordering) (x : K) (es : List (K × X)) → T (below_all R x es) → AllByRecursion (λ y. R x y ≡ Less) (map (λ e. e.0) es)
 below_keys R x [] h = tt
 below_keys R x (e ∷ es) h =
     let p = and_parts (is_lt (R x e.0)) (below_all R x es) (T-is_true _ h) in
-    (is_less (R x e.0) p.0, below_keys R x es (T_from_true _ p.1))
+    ((grind arith), below_keys R x es (T_from_true _ p.1))
 
 -- the keys of sorted entries are sorted
 pub sorted_keys : {K X : Type 0} (R : K → K → Ordering) (es : List (K × X)) → T (is_sorted R es) → IsStrictlySortedBy R (map (λ e. e.0) es)

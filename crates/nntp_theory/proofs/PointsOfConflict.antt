@@ -99,13 +99,9 @@ module _ (facts : List Fact) where
       by name fact s t = cc
 
   module _ (placed : AllByRecursion (IsPlaced Lenient facts) facts) where
-    -- a group of which numbers are spoken is shown
-    shown_of : (name g : Name) → In (ThereIs g) facts → is_same g name ≡ true → IsTrue (is_shown_group facts name)
-    shown_of name g i t = subst (λ name. IsTrue (is_shown_group facts name)) (same_text g name (sym t)) (any_in (shows_group g) (ThereIs g) facts i (same_itself g))
-
     -- nothing is asked of the numbers of one that isn't
     none_asked : (name : Name) → is_shown_group facts name ≡ false → asks_of name facts ≡ []
-    none_asked name hidden = grind (arith, flat_none, all_at, false_from_ne_true, true≢false, shown_of, any_in)
+    none_asked name hidden = grind (arith, flat_none, all_at, false_from_ne_true, true≢false, any_in)
 
     -- of what is asked of a group the one is so, or of each the other is
     each_asked : (C : Type 0) (P : List Ask → Type 0) → P [] → ((name : Name) → IsTrue (is_shown_group facts name) → C ⊎ P (asks_of name facts)) → C ⊎ ((name : Name) → P (asks_of name facts))

@@ -7,8 +7,8 @@ use Rattle.nntp_theory.proofs.{GivenNumbers.LeastNumber.{not_number}, Together.F
 use Rattle.nntp_theory.proofs.{Given.GivenHolds.{one_given, group_of_number, id_cases, shown_at, unshown_once}, Members.{In, all_at, all_both, any_in}}
 use Rattle.nntp_theory.proofs.{Members.{found_in, first_found}, Ids.PlainHead.{plain_says, plain_is_head, plain_is_clean}, Session.FittingFacts.{IsFitting}}
 use Rattle.nntp_theory.{proofs.Session.NumbersWithinLimit.{free_in_limit, shown_in_limit, end_in_limit}, specs.Given.{mentions, is_mentioned, gives_article}}
-use Rattle.nntp_theory.specs.Given.{id_shown, first_given, head_in, body_in, plain_head, asks_of, is_shown, is_given_end, says_some}
-use Rattle.nntp_theory.specs.{Inner.Together.{IsWellFormed}, Together.{number_in, IsFewFor}}
+use Rattle.nntp_theory.specs.{Given.{id_shown, first_given, head_in, plain_head, asks_of, is_shown, is_given_end, says_some}, Inner.Together.{IsWellFormed}}
+use Rattle.nntp_theory.specs.Together.{number_in, IsFewFor}
 use Rattle.nntp_article.specs.{Article.Parts.{is_head, said_id, head_part, body_part, Id, Line}, Session.Spool.{Spool, Text, IsNumber, IsGroup, numbers}}
 use Rattle.nntp_article.specs.{Session.{Spool.{IsSpool, Name, is_line, Numbers}, Machine.{is_same, says_own_id}}, declared.session.profile.Profile.{Profile}}
 use Rattle.nntp_said.specs.Facts.{Fact, TextIs}
@@ -125,10 +125,6 @@ module _ (profile : Profile) (B : ℕ) (G : Spool) (facts : List Fact) (s : Sett
       by false is e = cc
   sent_head id lines fact f h e = cc
 
-  -- and a body that was sent has lines
-  sent_body : (id : Id) (lines : List Line) (fact : Fact) → IsWellFormed fact → body_in id fact ≡ Some lines → AllByRecursion (λ line. IsTrue (is_line line)) lines
-  sent_body id lines fact h e = grind (arith, body_lines)
-
   -- the head of an id is one
   head_is : (id : Id) (t : Text) → get G.articles id ≡ Some t → IsHeadOf id t.head
   head_is id t e = subst (IsHeadOf id) (sym (s.given.heads id t e)) (by (first_given (head_in id) facts) refl)
@@ -138,7 +134,7 @@ module _ (profile : Profile) (B : ℕ) (G : Spool) (facts : List Fact) (s : Sett
 
   -- a body that was sent, or none
   body_is : (id : Id) (t : Text) → get G.articles id ≡ Some t → AllByRecursion (λ line. IsTrue (is_line line)) t.body
-  body_is id t e = grind (arith, first_found, sent_body, formed)
+  body_is id t e = grind (arith, first_found, body_lines, formed)
 
   -- the given spool is a spool
   pub given_is_spool : IsSpool profile.limit G

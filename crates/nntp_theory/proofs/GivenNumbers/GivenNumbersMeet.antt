@@ -49,16 +49,12 @@ same_demand P Q f g d h = grind arith
 pub shows_some : (ask : Ask) (n : ℕ) → shows ask n ≡ true → says_some ask ≡ true
 shows_some ask n h = grind arith
 
--- one that doesn't demands nothing
-none_demanded : (ask : Ask) → says_some ask ≡ false → demand_in ask ≡ NoDemand
-none_demanded ask h = grind arith
-
 -- and so of all
 pub no_demand : (asks : List Ask) → list_any says_some asks ≡ false → demand asks ≡ NoDemand
 no_demand [] f = refl
 no_demand (ask ∷ asks) f =
     let p = or_parts (says_some ask) (list_any says_some asks) f in
-    ap (λ d. join d (demand asks)) (none_demanded ask p.0) ∙ no_demand asks p.1
+    grind (arith, or_parts, no_demand asks p.1)
 
 -- where a number is given, it is said that there is one
 pub some_said : (asks : List Ask) (n : ℕ) → IsGivenNumber asks n → IsTrue (list_any says_some asks)

@@ -1,12 +1,12 @@
 -- What numbers meet stands together.
 use Rattle.nntp_wire.specs.declared.range.Range.{Range}
-use Rattle.std.proofs.Common.{◌≡◌, ℕ, ◌+◌, ◌<◌, ◌≤◌, ◌⊎◌, Bool, true, false, ◌==◌, not, IsTrue, List, [], ◌∷◌, Option, None, Some, is_some, MatchOption, inl}
-use Rattle.std.proofs.{Common.{inr, refl, sym, ap, subst, ◌∙◌, arith, ◌&&◌}, lemmas.Bool.{true≢false, or_left, or_right, or_cases, and_parts}}
-use Rattle.std.proofs.lemmas.Bool.{false_from_ne_true, eqb-true, ltb-true, cases_Bool, not-true, cases_eq, cases_order, eq-eqb, and_from, le-leb, lt-ltb}
-use Rattle.std.proofs.lemmas.{Bool.{ne_eqb, Decides.{nat_tests}}, Map.Views.{Contains-from_any, list_any-from_Contains, tells_apart}}
-use Rattle.std.{proofs.lemmas.Map.Lookups.{exact_unsigned}, specs.{Prelude.{IsFalse, nat_le, IfSome, Contains, cond, ◌-◌}, List.{AllByRecursion, list_any}}}
-use Rattle.std.specs.{Ordering.{nat_cmp, eq_by_cmp}, Cmp.{nat_cmp_total, unsigned_tied, nat_eq_equiv, eq_by_cmp_equiv}, FinMap.{get, len, keys, insert, remove}}
-use Rattle.std.specs.{FinMap.{get-insert, get-remove, len-insert, len-remove, empty_of_len, get-empty, contains_key-keys}, Option.{option_map_or}}
+use Rattle.std.proofs.Common.{◌≡◌, ℕ, ◌+◌, ◌<◌, ◌≤◌, ◌⊎◌, Bool, true, false, ◌==◌, not, IsTrue, List, [], ◌∷◌, None, Some, is_some, MatchOption, inl, inr, refl}
+use Rattle.std.proofs.{Common.{sym, ap, subst, ◌∙◌, arith, ◌&&◌}, lemmas.Bool.{true≢false, or_left, or_right, or_cases, and_parts, false_from_ne_true}}
+use Rattle.std.proofs.lemmas.Bool.{eqb-true, ltb-true, cases_Bool, not-true, cases_eq, cases_order, eq-eqb, and_from, le-leb, lt-ltb, ne_eqb}
+use Rattle.std.proofs.lemmas.{Bool.Decides.{nat_tests}, Map.{Views.{Contains-from_any, list_any-from_Contains, tells_apart}, Lookups.{exact_unsigned}}}
+use Rattle.std.specs.{Prelude.{IsFalse, Contains, cond, ◌-◌}, List.{AllByRecursion, list_any}, Ordering.{nat_cmp, eq_by_cmp}, Cmp.{nat_cmp_total}}
+use Rattle.std.specs.{Cmp.{unsigned_tied, nat_eq_equiv, eq_by_cmp_equiv}, FinMap.{get, len, keys, insert, remove, get-insert, get-remove, len-insert}}
+use Rattle.std.specs.FinMap.{len-remove, empty_of_len, get-empty, contains_key-keys}
 use Rattle.nntp_article.specs.Session.{Spool.{Numbers, IsNumber, least, IsInRange}, Machine.{is_in_range}}
 use Rattle.nntp_said.specs.{Asks.{Ask, Meets, ListsIn, Has, StandsAt, StepsUp, StepsDown, IsTop, IsBottom}, declared.position.Position.TheVariants.{First}}
 use Rattle.nntp_theory.specs.Given.{shows, denies, is_shown, is_denied, demand_in, join, demand, wants, IsOneMore, IsGivenNumber, HasGivenNumbers, says_some}
@@ -15,15 +15,12 @@ use Rattle.nntp_theory.specs.{Together.{is_possible, MeetsDemand, IsFewFor}, Inn
 use Rattle.nntp_theory.proofs.{GivenNumbers.{FirstFreeNumber.{first_free_once, first_free}, LeastNumber.{firsts, not_number}}, Members.{In, all_at, all_from}}
 use Rattle.nntp_theory.proofs.{Members.{any_in, found_in, contains_in, in_contains, every}, Maps.{len_le}}
 
-pub at_some : (o : Option ℕ) (c : ℕ) (Q : ℕ → Type 0) → o ≡ Some c → MatchOption o ⊥ Q → Q c
-at_some o c Q e h = subst (λ o. MatchOption o ⊥ Q) e h
-
 -- where the first number is c, what is asked of the first is asked of c
 pub of_first : (N : Numbers) (c : ℕ) (Q : ℕ → Type 0) → least N ≡ Some c → Q c → MatchOption (least N) ⊥ Q
 of_first N c Q e h = subst (λ o. MatchOption o ⊥ Q) (sym e) h
 
 pub first_there : (N : Numbers) (Q : ℕ → Type 0) → MatchOption (least N) ⊥ Q → (c : ℕ) × IsNumber N c × ((m : ℕ) → IsNumber N m → c ≤ m) × Q c
-first_there N Q h = grind (arith, firsts, at_some)
+first_there N Q h = grind (arith, firsts)
 
 pub listed_in : (ns : List ℕ) (n : ℕ) → IsTrue (list_any (λ m. n == m) ns) → Contains ns n
 listed_in ns n h = Contains-from_any eqb-true n ns h
@@ -34,11 +31,8 @@ finds ns n h = list_any-from_Contains nat_eq_equiv n ns h
 pub in_range : (r : Range) (n : ℕ) → IsTrue (is_in_range r n) → IsInRange r n
 in_range r n h = grind arith
 
-last_up_to : (n : ℕ) (last : Option ℕ) → IfSome last (λ last. n ≤ last) → IsTrue (option_map_or (λ last. nat_le n last) last true)
-last_up_to n last h = grind arith
-
 pub in_range_back : (r : Range) (n : ℕ) → IsInRange r n → IsTrue (is_in_range r n)
-in_range_back r n h = and_from _ _ (le-leb r.first n h.0) (last_up_to n r.last h.1)
+in_range_back r n h = grind (arith, and_from, le-leb)
 
 -- ---- what an answer shows is a number, and what it denies isn't
 

@@ -28,16 +28,12 @@ module _ (B : ℕ) (small : (i : ℕ) → i < B → invented_number (invented i)
   same_number : (i : ℕ) (id : Id) → i < B → is_same id (invented i) ≡ true → eqb i (invented_number id) ≡ true
   same_number i id l e = eq-eqb i (invented_number id) (sym (small i l) ∙ ap invented_number (sym (same_text id (invented i) (sym e))))
 
-  -- a fact that mentions an invented id has its number
-  counted_in : (i : ℕ) (fact : Fact) → i < B → mentions (invented i) fact ≡ true → list_any (eqb i) (mentioned_number fact) ≡ true
-  counted_in i fact l e = grind (arith, or_left, invented_number, same_number)
-
   -- and so one of the facts
   pub counted : (i : ℕ) (facts : List Fact) → i < B → is_mentioned facts (invented i) ≡ true → list_any (eqb i) (mentioned facts) ≡ true
   counted i [] l e = cc
   counted i (fact ∷ facts) l e =
       elim (or_cases (mentions (invented i) fact) (is_mentioned facts (invented i)) e) [
-        | inl t ↦ any_front (eqb i) (mentioned_number fact) (mentioned facts) (counted_in i fact l t)
+        | inl t ↦ any_front (eqb i) (mentioned_number fact) (mentioned facts) ((grind (arith, or_left, invented_number, same_number)))
         | inr r ↦ any_back (eqb i) (mentioned_number fact) (mentioned facts) (counted i facts l r)
       ]
 

@@ -1,19 +1,14 @@
 -- What a session says is bounded by its answers.
 use Rattle.nntp_wire.{specs.{declared.marks.Marks.{Marks}, Answer.{Asked, Response}}, proofs.ListingLemmas.{listed_numbers-few, active_groups-few}}
 use Rattle.std.{proofs.Common.{◌+◌, ◌*◌, ◌<◌, ◌≤◌, ◌^◌, List, [], ◌∷◌, length, arith}, specs.List.{AllByRecursion}}
-use Rattle.nntp_article.specs.{Session.Machine.{Visible, visible_after, start}, declared.session.profile.Profile.{Profile}}
-use Rattle.nntp_said.specs.{Asks.{position_after}, declared.position.Position.{Position, TheVariants.{Nowhere}}, Facts.{Fact, facts_of, facts_from}}
-use Rattle.nntp_said.proofs.Rows.{Row, row}
+use Rattle.nntp_article.specs.Session.Machine.{Visible, visible_after, start}
+use Rattle.nntp_said.specs.{Asks.{position_after}, declared.position.Position.{Position, TheVariants.{Nowhere}}, Facts.{facts_of, facts_from}}
 use Rattle.nntp_theory.{specs.{Inner.Given.{size, weight}, Given.{facts_of_session}}, proofs.Given.FirstBadAnswer.{size-append}}
 use Rattle.nntp_pair.specs.{Pairing.{Paired, asked_of, responses_of}, Inner.Pairing.{lines_in}}
 
--- a row says three, and one for each line
-row_size : {profile : Profile} {v : Visible} {at : Position} {Fits : Type 0} {a : Response} {facts : List Fact} → Row profile v at Fits a facts → size facts ≤ lines_in a + 3
-row_size h = grind (arith, listed_numbers-few, active_groups-few)
-
 -- so does an answer
 pub answer_size : (how : Marks) (v : Visible) (at : Position) (p : Asked) (a : Response) → size (facts_of how v at p a) ≤ lines_in a + 3
-answer_size how v at p a = row_size (row (record { limit = 0; marks = how }) v at p a)
+answer_size how v at p a = grind (arith, listed_numbers-few, active_groups-few)
 
 -- and so a session, from any state on
 from_size : (how : Marks) (v : Visible) (at : Position) (ps : List Asked) (answers : List Response) → size (facts_from how v at ps answers) ≤ weight answers

@@ -8,7 +8,7 @@ use Rattle.std.specs.{Cmp.Lexicographic.{nat_list_cmp_total, nat_list_eq_equiv},
 use Rattle.nntp_article.specs.{Session.{Spool.{Spool, Numbers, IsNumber, IsGroup, numbers, Name}, Machine.{is_same}}, Article.Parts.{Id}}
 use Rattle.nntp_said.specs.{Asks.{Ask, Estimates, Bounds, ListsIn, Has, StandsAt, StepsUp, StepsDown}, declared.position.Position.TheVariants.{First}}
 use Rattle.nntp_said.specs.Facts.{Fact, ThereIs, Asks, IdAt, GroupsAre}
-use Rattle.nntp_theory.specs.Given.{shows, IsOneMore, HasGivenNumbers, asks_in, asks_of, shows_group, is_shown_group, unshown_in, unshown_ids, is_known, is_end}
+use Rattle.nntp_theory.specs.Given.{shows, IsOneMore, HasGivenNumbers, asks_in, asks_of, shows_group, is_shown_group, unshown_in, unshown_ids, is_known}
 use Rattle.nntp_theory.{specs.Inner.Given.{size_in, size}, proofs.Members.{In, any_in, found_in, in_map, from_map, to_flat, from_flat, parts_few}}
 use Rattle.nntp_theory.proofs.{GivenNumbers.MetNumbersStand.{one_more_once, any_unknown, key_in, key_is}, Ids.NumbersOfInventedIds.{mentioned}}
 use Rattle.nntp_theory.proofs.Maps.{sorted_keys, keys_among, find_entry}
@@ -71,17 +71,13 @@ pub name_shown : (facts : List Fact) (name : Name) → In name (names_of facts) 
 unfolding names_of
 name_shown facts name i = let f = from_flat names_in name facts i in any_in (shows_group name) f.0 facts f.1 (names_back name f.0 f.2)
 
--- a strict mark is one of the ask's
-end_named : (ask : Ask) (n : ℕ) → is_end ask n ≡ true → In n (named_by ask)
-end_named ask n h = grind arith
-
 -- a number that is shown is one of the ask's
 pub one_shown : (ask : Ask) (n : ℕ) → shows ask n ≡ true → In n (named_by ask)
 one_shown ask n h = grind (arith, found_in, eqb-true)
 
 -- a number that is known is one of an ask's
 pub known_named : (asks : List Ask) (n : ℕ) → IsTrue (is_known asks n) → (ask : Ask) × In ask asks × In n (named_by ask)
-known_named asks n t = grind (arith, or_cases, found_in, one_shown, and_parts, end_named)
+known_named asks n t = grind (arith, or_cases, found_in, one_shown, and_parts)
 
 -- and of the numbers
 pub known_number : (name : Name) (facts : List Fact) (n : ℕ) → IsTrue (is_known (asks_of name facts) n) → In n (shown_numbers name facts)
@@ -106,10 +102,6 @@ no_number : (name : Name) (lines : List ActiveValue) → flat_map named_by (flat
 no_number name [] = refl
 no_number name (line ∷ lines) = grind (arith, no_number name lines)
 
--- an ask shows few numbers
-asked_few : (g : Name) (ask : Ask) (b : Bool) → length (flat_map named_by (cond b (ask ∷ []) [])) ≤ size_in (Asks g ask)
-asked_few g ask b = grind (arith, length-append)
-
 -- ---- over several groups
 
 -- an ask shows numbers of one group: no other has the same name
@@ -130,7 +122,7 @@ ask_few : (g : Name) (ask : Ask) (names : List Name) → IsDistinct (eq_by_cmp (
     → length (flat_map (λ n. flat_map named_by (cond (is_same g n) (ask ∷ []) [])) names) ≤ size_in (Asks g ask)
 unfolding IsDistinct
 ask_few g ask [] d = omega arith
-ask_few g ask (name ∷ names) d = grind (arith, asked_few, none_left, length-append, ask_few g ask names d.1)
+ask_few g ask (name ∷ names) d = grind (arith, none_left, length-append, ask_few g ask names d.1)
 
 -- where nothing is shown of any group
 nothing_few : (f : Name → List ℕ) (names : List Name) → ((name : Name) → f name ≡ []) → length (flat_map f names) ≡ 0

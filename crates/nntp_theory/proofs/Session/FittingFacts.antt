@@ -25,13 +25,9 @@ IsFitting profile fact = ⊤
 marks_within : (profile : Profile) (v : Visible) (name : Name) (m : WaterMarks) → IsTrue (marks_fit profile v name m) → m.high ≤ profile.limit
 marks_within profile v name m f = grind arith
 
--- where the low mark is 0, so is the estimate
-marks_of_none : (profile : Profile) (v : Visible) (name : Name) (m : WaterMarks) → IsTrue (marks_fit profile v name m) → m.low ≡ 0 → m.estimate ≡ 0
-marks_of_none profile v name m f zero = grind arith
-
 -- marks fit
 marks_fitting : (profile : Profile) (v : Visible) (name : Name) (m : WaterMarks) → IsTrue (marks_fit profile v name m) → IsFitting profile (Asks name (Estimates profile.marks m))
-marks_fitting profile v name m f = (marks_within profile v name m f, marks_of_none profile v name m f)
+marks_fitting profile v name m f = grind (arith, marks_within)
 
 -- a row whose condition holds
 row_fitting : {profile : Profile} {v : Visible} {at : Position} {Fits : Type 0} {a : Response} {facts : List Fact} → Row profile v at Fits a facts → Fits → AllByRecursion (IsFitting profile) facts

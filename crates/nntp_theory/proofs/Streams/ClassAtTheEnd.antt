@@ -1,5 +1,5 @@
 -- Where the pairing of two streams ends at octets, they have the class of that end.
-use Rattle.std.proofs.{Common.{◌≡◌, ◌↔◌, ℕ, false, List, [], ◌∷◌, length, map, Option, None, Some, refl, sym, ap, subst, ◌∙◌, arith}, lemmas.List.{length-map}}
+use Rattle.std.proofs.{Common.{◌≡◌, ◌↔◌, ℕ, false, List, [], ◌∷◌, length, map, Option, None, Some, refl, sym, ap, ◌∙◌, arith}, lemmas.List.{length-map}}
 use Rattle.nntp_wire.specs.{Answer.{Asked}, Session.{prompts_of}}
 use Rattle.nntp_pair.specs.{Pairing.{Paired, Unpaired, AreNext, IsBad, responses_of, asked_at, streams}, Inner.Pairing.{IsLasting}}
 use Rattle.nntp_pair.specs.{declared.class.{PairClass.{PairClass, TheVariants.{Surplus as surplus}}, Class.{Class}}, Classes.{class_of}}
@@ -20,11 +20,8 @@ pub record PairedUp (v : Visible) (before left : Unpaired) (pairs : List Paired)
   pub closed : left.is_closed ≡ (visible_from v (map asked_at before.places) (responses_of pairs)).closed
   pub next : asked_next (map asked_at before.places) (responses_of pairs) ≡ first_asked left.places
 
-nothing_next : (places : List (Option (List ℕ))) → asked_next (map asked_at places) [] ≡ first_asked places
-nothing_next places = grind arith
-
 pub paired_up : (v : Visible) (before left : Unpaired) (pairs : List Paired) → before.is_closed ≡ v.closed → AreNext before pairs left → PairedUp v before left pairs
-paired_up v before left [] same e = subst (λ left. PairedUp v before left []) e (record { closed = same; next = nothing_next before.places })
+paired_up v before left [] same e = grind arith
 paired_up v before left (pair ∷ pairs) same (between, first, more) =
     let opened : v.closed ≡ false = sym same ∙ first.is_open in
     let response = pair.response in

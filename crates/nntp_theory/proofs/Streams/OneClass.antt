@@ -102,12 +102,9 @@ one_fitting profile v asked octets a c =
     let same = one-spelling asked a.response c.response a.front c.front a.rest c.rest a.spells c.spells (sym a.whole ∙ c.whole) in
     true≢false (sym a.fitting ∙ ap (fits profile v asked) same.0 ∙ c.fitting)
 
-open_once : (profile : Profile) (v : Visible) (asked : Asked) (octets : List ℕ) (c d : Class) → IsOpenClass profile v asked octets c → IsOpenClass profile v asked octets d → c ≡ d
-open_once profile v asked octets c d h k = search (arith, not_cut, not_malformed, one_fitting)
-
 class_once : (closed : Bool) (profile : Profile) (v : Visible) (next : Option Asked) (octets : List ℕ) (c d : Class)
     → IsClass closed profile v next octets c → IsClass closed profile v next octets d → c ≡ d
-class_once closed profile v next octets c d h k = grind (arith, open_once)
+class_once closed profile v next octets c d h k = grind (arith, not_cut, not_malformed, one_fitting)
 
 some_class : (closed : Bool) (profile : Profile) (v : Visible) (next : Option Asked) (octets : List ℕ) → (class : Class) × IsClass closed profile v next octets class
 some_class false profile v (Some asked) octets = elim (dec_spelling asked octets) [

@@ -4,16 +4,13 @@ use Rattle.nntp_article.specs.Session.Spool.{Numbers}
 use Rattle.nntp_said.specs.Asks.{Ask}
 use Rattle.nntp_theory.specs.{Inner.Estimates.{estimate_in, is_within, is_within_all}, Together.{IsFewFor}}
 
-few_for_one : (N : Numbers) (ask : Ask) → IsTrue (is_within (estimate_in ask) (len N)) → IsFewFor N ask
-few_for_one N ask t = grind arith
-
 pub within_one : (N : Numbers) (ask : Ask) → IsFewFor N ask → is_within (estimate_in ask) (len N) ≡ true
 within_one N ask h = grind arith
 
 -- as few as each ask estimates
 pub few_for : (N : Numbers) (asks : List Ask) → IsTrue (is_within_all asks (len N)) → AllByRecursion (IsFewFor N) asks
 few_for N [] t = tt
-few_for N (ask ∷ asks) t = let p = and_parts (is_within (estimate_in ask) (len N)) (is_within_all asks (len N)) t in (few_for_one N ask p.0, few_for N asks p.1)
+few_for N (ask ∷ asks) t = let p = and_parts (is_within (estimate_in ask) (len N)) (is_within_all asks (len N)) t in ((grind arith), few_for N asks p.1)
 
 pub within_all : (N : Numbers) (asks : List Ask) → AllByRecursion (IsFewFor N) asks → is_within_all asks (len N) ≡ true
 within_all N [] h = refl
