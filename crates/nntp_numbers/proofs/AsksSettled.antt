@@ -116,10 +116,6 @@ module _ (asks : List Ask) (c : ℕ) (e : Option ℕ) (within : (n : ℕ) → is
   by_known : (d : Demand) → d ≡ demand asks → (w : HowMany) → PassSoMany (λ n. is_known asks n && wants d n) w → is_met d w ≡ true → IsTrue (is_within e c) → Ways asks c
   by_known d is w found met t = ByShown (subst (λ d. MeetsDemand d (Shown asks)) is (met_if asks d is w found met)) (sym (within c) ∙ t)
 
-  -- where they meet it, the test is whether there are few
-  few_settle : (d : Demand) (w : HowMany) (f : Option ℕ) → is_met d w ≡ true → is_settled d w f c e ≡ is_within e c
-  few_settle d w f met = grind arith
-
   module _ (f : Option ℕ) (free : FirstFree (is_denied asks) f) where
     -- the test that passes tells the way
     way : (d : Demand) → d ≡ demand asks → (w : HowMany) → PassSoMany (λ n. is_known asks n && wants d n) w → IsTrue (is_settled d w f c e) → Ways asks c
@@ -137,8 +133,7 @@ module _ (asks : List Ask) (c : ℕ) (e : Option ℕ) (within : (n : ℕ) → is
 
     -- and the way tells that it passes
     test : (d : Demand) → d ≡ demand asks → (w : HowMany) → PassSoMany (λ n. is_known asks n && wants d n) w → Ways asks c → is_settled d w f c e ≡ true
-    test d is w found (ByMore n x few) = grind arith
-    test d is w found (ByShown met few) = few_settle d w f (is_met_if asks d w found (subst (λ d. MeetsDemand d (Shown asks)) (sym is) met)) ∙ within c ∙ few
+    test d is w found h = search arith
 
 -- where nothing that is known is denied, and each ask can be met, all stands together exactly if the test passes
 pub settled : (asks : List Ask) (d : Demand) (w : HowMany) (f : Option ℕ) (c : ℕ) (e : Option ℕ) → Looks asks d w f c e → ArePossible asks → AreApart asks

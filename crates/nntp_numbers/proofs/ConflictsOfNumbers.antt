@@ -1,6 +1,6 @@
 -- The parts of what is asked of a group, each by itself: a known number that is denied, too many given numbers, an unmet demand.
-use Rattle.std.proofs.Common.{◌≡◌, ℕ, ◌+◌, ◌^◌, Bool, true, false, not, cond, ◌&&◌, ◌||◌, ◌==◌, IsTrue, List, [], Option, None, Some, is_some, inl, inr, refl}
-use Rattle.std.proofs.{Common.{sym, ap, subst, ◌∙◌, arith}, lemmas.Bool.{cases_lt, true≢false, and_from, or_cases, eqb-true, false_from_ne_true}}
+use Rattle.std.proofs.Common.{◌≡◌, ℕ, ◌+◌, ◌^◌, Bool, true, false, not, cond, ◌&&◌, ◌||◌, IsTrue, List, [], Option, None, Some, is_some, inl, inr, refl, sym}
+use Rattle.std.proofs.{Common.{ap, subst, ◌∙◌, arith}, lemmas.Bool.{cases_lt, true≢false, and_from, or_cases, eqb-true, false_from_ne_true}}
 use Rattle.std.specs.{Prelude.{MatchOption, IsFalse, ◌↔◌}, FinMap.{len}}
 use Rattle.nntp_intervals.specs.Inner.Intervals.{holds}
 use Rattle.nntp_article.specs.Session.Spool.{Numbers}
@@ -30,16 +30,12 @@ module _ (s : Summary) (asks : List Ask) (sum : IsSummary s asks) (bounded : Are
       by (Some e) is t =
           let kept = ends_kept s asks sum bounded e is in
           let known = ends_known asks e kept.1 kept.0 in
-          elim (or_cases (e.low == n) (e.high == n) t) [
-            | inl a ↦ subst (λ m. IsTrue (is_known asks m)) (eqb-true e.low n a) known.0
-            | inr a ↦ subst (λ m. IsTrue (is_known asks m)) (eqb-true e.high n a) known.1
-          ]
+          grind (arith, or_cases, eqb-true)
 
   -- where no shown number is denied, it is the strict mark that is, or no known number is
   pub end_or_apart : DeniedAmong (has s.shown) s.denied None → (found : Option ℕ) → DeniedAmong (is_end_of (known_ends_in s)) s.denied found
       → MatchOption found (AreApart asks) (λ n. IsTrue (is_known asks n) × IsTrue (is_denied asks n))
-  end_or_apart shown (Some n) at = (end_known n at.0, denied_kept n at.1)
-  end_or_apart shown None ends = grind (arith, apart_by_hull, is_known_by, or_cases, hull_is)
+  end_or_apart shown found at = search (arith, end_known, denied_kept, apart_by_hull, is_known_by, or_cases, hull_is)
 
   -- ---- what is counted
 

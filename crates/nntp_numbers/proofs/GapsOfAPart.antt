@@ -1,8 +1,8 @@
 -- The intervals that the numbers of a part leave of its own.
-use Rattle.std.proofs.Common.{◌≡◌, ℕ, ◌+◌, ◌-◌, ◌^◌, ◌<◌, ◌≤◌, Bool, true, false, cond, not, ◌&&◌, ◌||◌, ◌==◌, IsTrue, List, [], ◌∷◌, None, Some, inl, inr}
-use Rattle.std.proofs.{Common.{refl, sym, ap, subst, ◌∙◌, arith}, Math.Bool.{or-false, and-true}, lemmas.Bool.{true≢false, not-true, and_parts, and_from}}
-use Rattle.std.proofs.lemmas.Bool.{or_parts, or_from, or_left, or_right, or_cases, cases_lt, cases_order, false_from_ne_true, le-leb, leb-true, lt-ltb}
-use Rattle.std.{proofs.lemmas.Bool.{ltb-true, ltb-false, eq-eqb, eqb-true, ne_eqb}, specs.{Prelude.{◌↔◌, nat_lt, nat_le}, List.{list_all}, Cmp.{both_ways}}}
+use Rattle.std.proofs.Common.{◌≡◌, ℕ, ◌+◌, ◌^◌, ◌<◌, ◌≤◌, Bool, true, false, cond, not, ◌&&◌, ◌||◌, ◌==◌, IsTrue, List, [], ◌∷◌, None, Some, inl, inr, refl}
+use Rattle.std.proofs.{Common.{sym, ap, subst, ◌∙◌, arith}, Math.Bool.{or-false, and-true}, lemmas.Bool.{true≢false, not-true, and_parts, and_from, or_parts}}
+use Rattle.std.proofs.lemmas.Bool.{or_from, or_left, or_right, or_cases, cases_lt, cases_order, false_from_ne_true, le-leb, leb-true, lt-ltb, ltb-true}
+use Rattle.std.{proofs.lemmas.Bool.{ltb-false, eq-eqb, eqb-true, ne_eqb}, specs.{Prelude.{◌↔◌, nat_lt, nat_le}, List.{list_all}, Cmp.{both_ways}}}
 use Rattle.nntp_intervals.specs.Inner.Intervals.{holds, is_between}
 use Rattle.nntp_article.specs.Session.Machine.{is_ascending}
 use Rattle.nntp_numbers.specs.Inner.{Part.{Said, IsRegular, part_denies, is_one_of}, Summary.{has, AgreesWith, denied_after, is_open, gaps, number_behind}}
@@ -66,37 +66,11 @@ module _ (start last n : ℕ) (ns : List ℕ) (up : IsTrue (is_ascending (n ∷ 
   full l = ap (λ b. holds (gaps (cond b (Some (n + 1)) None) last ns) m) (false_from_ne_true (nat_lt (n + 1) (2 ^ 64)) (λ t. let a = ltb-true (n + 1) (2 ^ 64) t in absurd (omega arith)))
 
   forth : holds (gaps (Some start) last (n ∷ ns)) m ≡ true → (is_between start last m && not (is_one_of (n ∷ ns) m)) ≡ true
-  forth t = elim (or_cases (is_between start (n - 1) m) (holds (gaps (number_behind n) last ns) m) t) [
-    | inl a ↦
-        let b = between_is start (n - 1) m a in
-        let h = here in
-        let below : m < n = omega arith in
-        and_from (is_between start last m) (not (is_one_of (n ∷ ns) m)) (between start last m b.0 (omega arith))
-        (ap not (not_one n ns m (λ e. absurd (omega arith)) (false_from_ne_true (is_one_of ns m) (λ u. not_above m ns n above below u))))
-    | inr a ↦ elim (cases_lt (n + 1) (2 ^ 64)) [
-      | inl l ↦
-          let p = and_parts (is_between (n + 1) last m) (not (is_one_of ns m)) (sym (rest l) ∙ a) in
-          let b = between_is (n + 1) last m p.0 in
-          let h = here in
-          and_from (is_between start last m) (not (is_one_of (n ∷ ns) m)) (between start last m (omega arith) b.1) (ap not (not_one n ns m (λ e. absurd (omega arith)) (not-true (is_one_of ns m) p.1)))
-      | inr g ↦ absurd (true≢false (sym a ∙ full g))
-    ]
-  ]
+  forth t =
+      grind (arith, or_cases, between_is, here, and_from, between, not_one, false_from_ne_true, not_above, above, cases_lt, and_parts, rest, not-true, true≢false, full)
 
   back : (is_between start last m && not (is_one_of (n ∷ ns) m)) ≡ true → holds (gaps (Some start) last (n ∷ ns)) m ≡ true
-  back t =
-      let p = and_parts (is_between start last m) (not (is_one_of (n ∷ ns) m)) t in
-      let b = between_is start last m p.0 in
-      let none = not-true (is_one_of (n ∷ ns) m) p.1 in
-      elim (cases_order m n) [
-        | inl e ↦ absurd (true≢false (sym (or_left (m == n) (is_one_of ns m) (eq-eqb m n e)) ∙ none))
-        | inr (inl l) ↦ or_left (is_between start (n - 1) m) (holds (gaps (number_behind n) last ns) m) (between start (n - 1) m b.0 (omega arith))
-        | inr (inr g) ↦
-            or_right (is_between start (n - 1) m) (holds (gaps (number_behind n) last ns) m)
-            (rest (omega arith) ∙ and_from (is_between (n + 1) last m) (not (is_one_of ns m))
-            (between (n + 1) last m (omega arith) b.1)
-            (ap not (false_from_ne_true (is_one_of ns m) (λ u. true≢false (sym (listed_later n ns m u) ∙ none)))))
-      ]
+  back t = grind arith
 
   gaps_more : holds (gaps (Some start) last (n ∷ ns)) m ≡ (is_between start last m && not (is_one_of (n ∷ ns) m))
   gaps_more = both_ways (holds (gaps (Some start) last (n ∷ ns)) m) (is_between start last m && not (is_one_of (n ∷ ns) m)) forth back

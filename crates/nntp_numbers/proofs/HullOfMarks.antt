@@ -6,8 +6,8 @@ use Rattle.std.specs.{Prelude.{IsFalse, nat_lt, min, max}, List.{list_any}}
 use Rattle.nntp_wire.specs.declared.{water_marks.WaterMarks.{WaterMarks}, marks.Marks.TheVariants.{Lenient, Strict}}
 use Rattle.nntp_said.specs.{Asks.{Ask, Estimates, ListsIn, Has, StandsAt, StepsUp, StepsDown, IsTop, IsBottom}, declared.position.Position.TheVariants.{First}}
 use Rattle.nntp_theory.specs.{Given.{shows, denies, is_shown, is_denied, is_known, is_end, says_some, demand_in, join, demand}, Inner.OneMore.{is_demanding}}
-use Rattle.nntp_theory.specs.{Inner.{Together.{AsksStand}, Conflict.{AreApart}}, declared.demand.Demand.{Demand, TheVariants.{NoDemand, SecondIs}}}
-use Rattle.nntp_theory.proofs.{Members.{In, any_in, found_in}, GivenNumbers.GivenNumbersMeet.{shows_some, no_demand}}
+use Rattle.nntp_theory.{specs.{Inner.{Together.{AsksStand}, Conflict.{AreApart}}, declared.demand.Demand.{Demand}}, proofs.Members.{In, any_in, found_in}}
+use Rattle.nntp_theory.proofs.GivenNumbers.GivenNumbersMeet.{shows_some, no_demand}
 use Rattle.nntp_numbers.specs.{Inner.Part.{join_ends, ends_in, ends_of, is_end_of}, declared.ends.Ends.{Ends}}
 
 -- ---- the hull
@@ -67,17 +67,7 @@ ends_are (Estimates Strict m ∷ asks) e is = by (λ b at. ends_are asks b at) (
     by : ((b : Ends) → ends_of asks ≡ Some b → HasEnd asks b.low × HasEnd asks b.high) → (o : Option Ends) → ends_of asks ≡ o
         → join_ends (Some (marks_are m)) o ≡ Some e → HasEnd (Estimates Strict m ∷ asks) e.low
         × HasEnd (Estimates Strict m ∷ asks) e.high
-    by rest None at is =
-        let same : marks_are m ≡ e = cc in
-        subst (λ (e : Ends). HasEnd (Estimates Strict m ∷ asks) e.low × HasEnd (Estimates Strict m ∷ asks) e.high) same (
-          or_left (m.low == m.low || m.high == m.low) _ (or_left (m.low == m.low) _ (eq-eqb m.low m.low refl)),
-          or_left
-              (m.low == m.high || m.high == m.high) _ (or_right (m.low == m.high) _ (eq-eqb m.high m.high refl)),
-        )
-    by rest (Some b) at is =
-        let same : both (marks_are m) b ≡ e = cc in
-        let later = rest b at in
-        subst (λ (e : Ends). HasEnd (Estimates Strict m ∷ asks) e.low × HasEnd (Estimates Strict m ∷ asks) e.high) same (low b later.0, high b later.1)
+    by rest o at is = grind arith
 ends_are (Estimates Lenient m ∷ asks) e is = ends_are asks e is
 ends_are (ask ∷ asks) e is = ends_are asks e is
 
@@ -158,9 +148,7 @@ apart_by_hull asks apart = grind (arith, known_by, or_left, eq-eqb, or_right, an
 
 -- of two demands
 demanding_both : (d e : Demand) → is_demanding (join d e) ≡ (is_demanding d || is_demanding e)
-demanding_both (SecondIs m) (SecondIs k) = grind arith
-demanding_both d NoDemand = refl
-demanding_both d e = refl
+demanding_both d e = grind arith
 
 -- an ask that says so shows a number or demands one
 shows_or_demands : (ask : Ask) → says_some ask ≡ true → ((n : ℕ) × (shows ask n ≡ true)) ⊎ (is_demanding (demand_in ask) ≡ true)
@@ -179,11 +167,7 @@ said_some [] t = cc
 said_some (ask ∷ asks) t =
     elim (or_cases (says_some ask) (list_any says_some asks) t) [
       | inl here ↦ grind (arith, shows_or_demands, or_left, demanding_both)
-      | inr later ↦ elim (said_some asks later) [
-        | inl s ↦ inl (s.0, or_right (shows ask s.0) _ s.1)
-        | inr d ↦ inr
-            (demanding_both (demand_in ask) (demand asks) ∙ or_right (is_demanding (demand_in ask)) _ d)
-      ]
+      | inr later ↦ grind (arith, or_right, demanding_both, said_some asks later)
     ]
 
 pub shown_says : (asks : List Ask) (n : ℕ) → IsTrue (is_shown asks n) → list_any says_some asks ≡ true

@@ -19,8 +19,7 @@ small_items (k ∷ ns) fits n t = elim (or_cases (n == k) (is_one_of ns n) t) [ 
 
 all_in_range : (r : Range) (ks : List ℕ) → ((n : ℕ) → is_one_of ks n ≡ true → IsTrue (is_in_range r n)) → list_all (is_in_range r) ks ≡ true
 all_in_range r [] within = refl
-all_in_range r (k ∷ ks) within =
-    and_from (is_in_range r k) (list_all (is_in_range r) ks) (within k (or_left (k == k) (is_one_of ks k) (eq-eqb k k refl))) (all_in_range r ks (λ n t. within n (listed_later k ks n t)))
+all_in_range r (k ∷ ks) within = grind (arith, and_from, or_left, eq-eqb, listed_later, all_in_range r ks (λ n t. within n (listed_later k ks n t)))
 
 -- the marks and the list say this
 pub says_range : (how : Marks) (m : WaterMarks) (r : Range) (ns : List ℕ) → ((i : ℕ) → get_or ns i 0 < 2 ^ 64) → IsSmall (part_with ns (ListsIn r ns) (part_with ns (Estimates how m) nothing_said))

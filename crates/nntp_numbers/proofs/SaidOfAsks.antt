@@ -1,5 +1,5 @@
 -- What a part says that one ask made.
-use Rattle.std.{proofs.Common.{◌≡◌, ℕ, ◌+◌, ◌-◌, ◌^◌, ◌<◌, ◌≤◌, Bool, true, false, cond, List, [], ◌∷◌, refl, rules}, specs.Prelude.{nat_lt}}
+use Rattle.std.{proofs.Common.{◌≡◌, ℕ, ◌+◌, ◌-◌, ◌^◌, ◌<◌, ◌≤◌, Bool, true, false, cond, List, [], ◌∷◌, refl, rules, arith}, specs.Prelude.{nat_lt}}
 use Rattle.nntp_wire.specs.declared.{marks.Marks.{Marks}, water_marks.WaterMarks.{WaterMarks}}
 use Rattle.nntp_said.specs.{declared.position.Position.{Position, TheVariants.{Nowhere, First, Known}}, Asks.{Ask, Estimates, Has, Lacks, StandsAt}}
 use Rattle.nntp_said.specs.Asks.{StandsNowhere, StepsUp, StepsDown, IsTop, IsBottom}
@@ -26,14 +26,10 @@ pub says_lacks : (shown : List ℕ) (n : ℕ) → n < 2 ^ 64 → Says (of_ask sh
 says_lacks shown n small = search rules
 
 pub says_stands : (at : Position) (n : ℕ) → IsSmall (of_ask (n ∷ []) (StandsAt at n)) → 1 ≤ n → Says (of_ask (n ∷ []) (StandsAt at n)) (StandsAt at n ∷ Has n ∷ [])
-says_stands Nowhere n small some = search rules
-says_stands First n small some = search rules
-says_stands (Known c) n small some = search rules
+says_stands at n small some = search rules
 
 pub says_nowhere : (shown : List ℕ) (at : Position) → Says (of_ask shown (StandsNowhere at)) (StandsNowhere at ∷ [])
-says_nowhere shown Nowhere = search rules
-says_nowhere shown First = search rules
-says_nowhere shown (Known c) = search rules
+says_nowhere shown at = grind arith
 
 pub says_up : (at : Position) (n : ℕ) → IsSmall (of_ask (n ∷ []) (StepsUp at n)) → 1 ≤ n → Says (of_ask (n ∷ []) (StepsUp at n)) (StepsUp at n ∷ Has n ∷ [])
 says_up Nowhere n small some = search rules
@@ -44,8 +40,7 @@ says_up (Known c) n small some = by (nat_lt c n) refl small
     stepped b = cond b (record (has n) { first = c + 1 }) (impossible (has n))
 
     by : (b : Bool) → nat_lt c n ≡ b → IsSmall (stepped b) → Says (stepped b) (StepsUp (Known c) n ∷ Has n ∷ [])
-    by true e small = search rules
-    by false e small = search rules
+    by b e small = search rules
 
 pub says_down : (at : Position) (n : ℕ) → IsSmall (of_ask (n ∷ []) (StepsDown at n)) → 1 ≤ n → Says (of_ask (n ∷ []) (StepsDown at n)) (StepsDown at n ∷ Has n ∷ [])
 says_down Nowhere n small some = search rules
@@ -60,11 +55,7 @@ says_down (Known c) n small some = by (nat_lt n c) refl small
     by false e small = search rules
 
 pub says_top : (shown : List ℕ) (at : Position) → (of_ask shown (IsTop at)).high < 2 ^ 64 → Says (of_ask shown (IsTop at)) (IsTop at ∷ [])
-says_top shown Nowhere small = search rules
-says_top shown First small = search rules
-says_top shown (Known c) small = search rules
+says_top shown at small = grind arith
 
 pub says_bottom : (shown : List ℕ) (at : Position) → Says (of_ask shown (IsBottom at)) (IsBottom at ∷ [])
-says_bottom shown Nowhere = search rules
-says_bottom shown First = search rules
-says_bottom shown (Known c) = search rules
+says_bottom shown at = grind arith

@@ -1,9 +1,9 @@
 -- How many numbers are shown and wanted, one number more at a time.
-use Rattle.std.proofs.Common.{◌≡◌, ◌≢◌, ℕ, zero, suc, ◌+◌, ◌<◌, Bool, true, false, cond, ◌&&◌, ◌||◌, ◌==◌, IsTrue, List, [], ◌∷◌, take, length, get_or, Some}
-use Rattle.std.proofs.{Common.{is_some, inl, inr, refl, sym, ap, subst, ◌∙◌, arith}, lemmas.Bool.{true≢false, and_parts, or_left, or_right, or_cases, cases_eq}}
-use Rattle.std.proofs.lemmas.{Bool.{eq-eqb, eqb-true, ne_eqb, ltb-true, false_from_ne_true}, List.{take_more, Folds.{list_any-append}}}
-use Rattle.std.{proofs.Math.Seq.{take-length}, specs.{Prelude.{◌↔◌, nat_lt}, List.{list_all, Sorted.{IsStrictlySortedBy}}, Ordering.{nat_cmp, eq_by_cmp}}}
-use Rattle.std.specs.{Cmp.{nat_cmp_total, unsigned_tied, both_ways}, FinMap.{get, len, insert, get-insert, len-insert}}
+use Rattle.std.proofs.Common.{◌≡◌, ◌≢◌, ℕ, suc, ◌+◌, ◌<◌, Bool, true, false, cond, ◌&&◌, ◌||◌, ◌==◌, IsTrue, List, [], ◌∷◌, take, length, get_or, Some, is_some}
+use Rattle.std.proofs.{Common.{inl, inr, sym, ap, subst, ◌∙◌, arith}, lemmas.Bool.{true≢false, and_parts, or_left, or_right, or_cases, cases_eq, eq-eqb}}
+use Rattle.std.proofs.{lemmas.{Bool.{eqb-true, ne_eqb, false_from_ne_true}, List.{take_more, Folds.{list_any-append}}}, Math.Seq.{take-length}}
+use Rattle.std.specs.{Prelude.{◌↔◌, nat_lt}, List.{list_all, Sorted.{IsStrictlySortedBy}}, Ordering.{nat_cmp, eq_by_cmp}, Cmp.{nat_cmp_total, both_ways}}
+use Rattle.std.specs.FinMap.{get, len, insert, get-insert, len-insert}
 use Rattle.nntp_article.specs.Session.{Spool.{IsNumber}, Machine.{is_ascending}}
 use Rattle.nntp_theory.specs.{Given.{wants}, declared.demand.Demand.{Demand}}
 use Rattle.nntp_numbers.specs.{declared.shown.HowMany.{HowMany}, Inner.{Part.{is_one_of}, Summary.{has, PassSoMany, and_one, AreCounted, IsTally}}}
@@ -20,31 +20,21 @@ counted_more p m c fresh (M, is, as_many) = (insert M m [], grown, len-insert na
     at n = ap is_some (get-insert nat_cmp_total M m [] n)
 
     grown : (n : ℕ) → IsNumber (insert M m []) n ↔ IsTrue (p n || m == n)
-    grown n = elim (cases_eq n m) [
-      | inl e ↦ (λ i. or_right (p n) (m == n) (eq-eqb m n (sym e)), λ t. at n ∙ ap (λ b. is_some (cond b (Some []) (get M n))) (unsigned_tied n m ∙ eq-eqb n m e))
-      | inr ne ↦
-          let kept : is_some (get (insert M m []) n) ≡ is_some (get M n) = at n ∙ ap (λ b. is_some (cond b (Some []) (get M n))) (unsigned_tied n m ∙ ne_eqb n m ne) in
-          (λ i. or_left (p n) (m == n) ((is n).0 (sym kept ∙ i)), λ t. kept ∙ (is n).1 (elim (or_cases (p n) (m == n) t) [ inl a ↦ a | inr b ↦ absurd (ne (sym (eqb-true m n b))) ]))
-    ]
+    grown n = grind (arith, cases_eq, or_right, eq-eqb, at, ne_eqb, or_left, or_cases, eqb-true)
 
 pub same_tally : (p q : ℕ → Bool) → ((n : ℕ) → p n ≡ q n) → (d : Demand) (w : HowMany) (c : ℕ) → IsTally p d w c → IsTally q d w c
 same_tally p q same d w c t = subst {A = ℕ → Bool} (λ p. IsTally p d w c) (λ i n. same n i) t
 
 unwanted : (a w b : Bool) → (b ≡ true → w ≡ false) → (a && w) ≡ ((a || b) && w)
-unwanted true w true h = refl
-unwanted true w false h = refl
-unwanted false true true h = sym (h refl)
-unwanted false false true h = refl
-unwanted false w false h = refl
+unwanted a w b h = grind arith
 
 -- a fresh number that is wanted
 pub tally_wanted : (p : ℕ → Bool) (m : ℕ) (d : Demand) (w : HowMany) (c : ℕ) → p m ≡ false → wants d m ≡ true → IsTally p d w c → IsTally (λ n. p n || m == n) d (and_one w) (c + 1)
-tally_wanted p m d w c fresh wanted t = record {
-  found = subst {A = ℕ → Bool} (λ q. PassSoMany q (and_one w))
-      (λ i n. parted (p n) (wants d n) (m == n) (λ e. subst (λ k. wants d k ≡ true) (eqb-true m n e) wanted) i)
-      (and_one_found (λ n. p n && wants d n) m w t.found (ap (λ b. b && wants d m) fresh));
-  count = counted_more p m c fresh t.count;
-}
+tally_wanted p m d w c fresh wanted t =
+    record {
+      found = grind (arith, parted, eqb-true, and_one_found);
+      count = counted_more p m c fresh t.count;
+    }
 
 -- or not
 pub tally_unwanted : (p : ℕ → Bool) (m : ℕ) (d : Demand) (w : HowMany) (c : ℕ) → p m ≡ false → wants d m ≡ false → IsTally p d w c → IsTally (λ n. p n || m == n) d w (c + 1)
@@ -55,9 +45,7 @@ tally_unwanted p m d w c fresh not_wanted t = record {
 
 -- a number that is there already
 absorbed : (a b : Bool) → (b ≡ true → a ≡ true) → a ≡ (a || b)
-absorbed true b h = refl
-absorbed false true h = h refl
-absorbed false false h = refl
+absorbed a b h = grind arith
 
 pub tally_there : (p : ℕ → Bool) (m : ℕ) (d : Demand) (w : HowMany) (c : ℕ) → p m ≡ true → IsTally p d w c → IsTally (λ n. p n || m == n) d w c
 tally_there p m d w c there t = same_tally p (λ n. p n || m == n) (λ n. absorbed (p n) (m == n) (λ e. subst (λ k. p k ≡ true) (eqb-true m n e) there)) d w c t
@@ -65,12 +53,10 @@ tally_there p m d w c there t = same_tally p (λ n. p n || m == n) (λ n. absorb
 -- ---- as the code has it
 
 pub or_assoc : (a b c : Bool) → ((a || b) || c) ≡ (a || (b || c))
-or_assoc true b c = refl
-or_assoc false b c = refl
+or_assoc a b c = grind arith
 
 pub or_none : (a : Bool) → a ≡ (a || false)
-or_none true = refl
-or_none false = refl
+or_none a = grind arith
 
 -- the numbers up to the one at i
 one_more_listed : (xs : List ℕ) (i : ℕ) → i < length xs → (n : ℕ) → (is_one_of (take i xs) n || get_or xs i 0 == n) ≡ is_one_of (take (i + 1) xs) n
@@ -88,8 +74,7 @@ one_more_listed xs i l n =
 pub shown_next : (before now after : ℕ → Bool) (xs : List ℕ) (i : ℕ) → i < length xs
     → ((n : ℕ) → now n ≡ (before n || is_one_of (take i xs) n)) → ((n : ℕ) → after n ≡ (now n || get_or xs i 0 == n)) → (n : ℕ)
     → after n ≡ (before n || is_one_of (take (i + 1) xs) n)
-shown_next before now after xs i l is more n =
-    more n ∙ ap (λ b. b || get_or xs i 0 == n) (is n) ∙ or_assoc (before n) (is_one_of (take i xs) n) (get_or xs i 0 == n) ∙ ap (λ b. before n || b) (one_more_listed xs i l n)
+shown_next before now after xs i l is more n = grind (arith, or_assoc, one_more_listed)
 
 module _ (ns : List ℕ) (d : Demand) where
   -- before the first number of a list
@@ -124,17 +109,15 @@ high_there p low high ne = or_none (p high) ∙ ap (λ b. p high || b) (sym (ne_
 
 -- no number comes twice
 all_above : (x : ℕ) (xs : List ℕ) (i : ℕ) → list_all (λ m. nat_lt x m) xs ≡ true → i < length xs → x < get_or xs i 0
-all_above x [] i t l = absurd (omega arith)
-all_above x (y ∷ xs) zero t l = ltb-true x y (and_parts (nat_lt x y) (list_all (λ m. nat_lt x m) xs) t).0
 all_above x (y ∷ xs) (suc i) t l = all_above x xs i (and_parts (nat_lt x y) (list_all (λ m. nat_lt x m) xs) t).1 (omega arith)
+all_above x xs i t l = grind arith
 
 fresh : (xs : List ℕ) (i : ℕ) → is_ascending xs ≡ true → i < length xs → is_one_of (take i xs) (get_or xs i 0) ≡ false
-fresh [] i up l = absurd (omega arith)
-fresh (x ∷ xs) zero up l = refl
 fresh (x ∷ xs) (suc i) up l =
     let p = and_parts (list_all (λ m. nat_lt x m) xs) (is_ascending xs) up in
     let above = all_above x xs i p.0 (omega arith) in
     (λ j. ne_eqb (get_or xs i 0) x (λ e. absurd (omega arith)) j || fresh xs i p.1 (omega arith) j)
+fresh xs i up l = grind arith
 
 -- so the number at i is there if it was there before the list
 pub there_if : (has : ℕ → Bool) (xs : List ℕ) (i : ℕ) → is_ascending xs ≡ true → i < length xs → has (get_or xs i 0) ≡ (has (get_or xs i 0) || is_one_of (take i xs) (get_or xs i 0))

@@ -8,10 +8,10 @@ use Rattle.nntp_said.specs.Asks.{Ask}
 use Rattle.nntp_theory.specs.Given.{is_shown, is_denied, demand, wants, says_some, IsFirstFree, IsOneMore, IsGivenNumber, is_known}
 use Rattle.nntp_theory.specs.{declared.demand.Demand.{Demand}, Inner.{Together.{AsksStand}, OneMore.{is_demanding, free, if_wanted, all_numbers}}}
 use Rattle.nntp_theory.{specs.Inner.Unseen.{AreUnseen}, proofs.GivenNumbers.FirstFreeNumber.{free_is, free_none, first_free_once}}
-use Rattle.nntp_theory.proofs.{GivenNumbers.MetNumbersStand.{shown_known, one_more_once, wants_less}, Members.{In, any_in, found_in}}
-use Rattle.nntp_numbers.specs.{declared.{ends.Ends.{Ends}, shown.HowMany.{HowMany, TheVariants.{Absent, Single, Several}}}, Inner.Part.{ends_of, is_end_of}}
-use Rattle.nntp_numbers.specs.Inner.{Summary.{Summary, IsSummary, AreBounded, has, PassSoMany, FirstFreeBelow}, Unseen.{one_more_in, known_ends_in}}
-use Rattle.nntp_numbers.{specs.Inner.Unseen.{unseen_beside, unseen_in, unseen_high_beside, unseen_high_in}, proofs.MoreAsks.{some_there, there_is_has}}
+use Rattle.nntp_theory.proofs.{GivenNumbers.MetNumbersStand.{shown_known, wants_less}, Members.{In, any_in, found_in}}
+use Rattle.nntp_numbers.specs.{declared.{ends.Ends.{Ends}, shown.HowMany.{HowMany, TheVariants.{Absent}}}, Inner.{Part.{ends_of, is_end_of}, Summary.{Summary}}}
+use Rattle.nntp_numbers.specs.Inner.{Summary.{IsSummary, AreBounded, has, PassSoMany, FirstFreeBelow}, Unseen.{one_more_in, known_ends_in, unseen_beside}}
+use Rattle.nntp_numbers.{specs.Inner.Unseen.{unseen_in, unseen_high_beside, unseen_high_in}, proofs.MoreAsks.{some_there, there_is_has}}
 use Rattle.nntp_numbers.proofs.HullOfMarks.{is_known_by, end_if, some_is, stands_by_hull, between_ends}
 
 -- ---- the first free number
@@ -43,9 +43,7 @@ all_small = refl
 
 -- one of them is found
 has_one : (ns : List ℕ) (n : ℕ) → has ns n ≡ true → In n ns
-has_one ns n t =
-    let f = found_in (is_at (nat_cmp n)) ns t in
-    subst (λ m. In m ns) (sym (tells_apart exact_unsigned n f.0 f.2)) f.1
+has_one ns n t = grind (arith, found_in, tells_apart, exact_unsigned)
 
 -- and back
 one_has : (ns : List ℕ) (n : ℕ) → In n ns → has ns n ≡ true
@@ -53,9 +51,7 @@ one_has ns n i = any_in (is_at (nat_cmp n)) n ns i ((eq_by_cmp_equiv nat_cmp_tot
 
 -- none is found where none is wanted
 none_wanted : (ns : List ℕ) (d : Demand) → PassSoMany (λ n. has ns n && wants d n) Absent → list_any (wants d) ns ≡ false
-none_wanted ns d none = false_from_ne_true _ (λ t.
-    let f = found_in (wants d) ns t in
-    true≢false (sym (and_from (has ns f.0) (wants d f.0) (one_has ns f.0 f.1) f.2) ∙ none f.0))
+none_wanted ns d none = grind (arith, false_from_ne_true, found_in, true≢false, and_from, one_has)
 
 -- one that is wanted is found
 some_wanted : (ns : List ℕ) (d : Demand) (n : ℕ) → (has ns n && wants d n) ≡ true → list_any (wants d) ns ≡ true
@@ -65,9 +61,7 @@ some_wanted ns d n t = let p = and_parts (has ns n) (wants d n) t in any_in (wan
 
 -- where a number is shown that is wanted
 pub met : (s : Summary) (w : HowMany) → PassSoMany (λ n. has s.shown n && wants s.demand n) w → (w ≡ Absent → ⊥) → None ≡ one_more_in s
-met s Absent found some = absurd (some refl)
-met s Single found some = ap (λ b. cond b None (if_wanted s.demand (free (holds s.denied) all_numbers 1))) (sym (some_wanted s.shown s.demand found.0 found.1))
-met s Several found some = ap (λ b. cond b None (if_wanted s.demand (free (holds s.denied) all_numbers 1))) (sym (some_wanted s.shown s.demand found.0 found.3))
+met s w found some = grind (arith, some_wanted)
 
 module _ (s : Summary) (w : HowMany) (found : PassSoMany (λ n. has s.shown n && wants s.demand n) w) (none : w ≡ Absent) where
   -- what is searched for then
@@ -93,8 +87,7 @@ free_below denied = by (free denied all_numbers 1) refl
     by (Some f) e = (Some f, (subst (λ k. f < k) all_small (free_within denied all_numbers 1 f e), free_is denied all_numbers 1 f e))
 
 or_none : (a : Bool) → (a || false) ≡ a
-or_none true = refl
-or_none false = refl
+or_none a = grind arith
 
 -- ---- what is read off
 
@@ -111,10 +104,7 @@ module _ (s : Summary) (asks : List Ask) (sum : IsSummary s asks) (bounded : Are
       low f e = subst (λ k. f < k) all_small (free_within (holds s.denied) all_numbers 1 f e)
 
       first : (f : ℕ) → free (holds s.denied) all_numbers 1 ≡ Some f → IsFirstFree (is_denied asks) 1 f
-      first f e =
-          let small = low f e in
-          let x = free_is (holds s.denied) all_numbers 1 f e in
-          (x.0, sym (sum.denied f small) ∙ x.1, λ m a b. sym (sum.denied m (omega arith)) ∙ x.2 m a b)
+      first f e = grind (arith, low, free_is)
 
       all_denied : free (holds s.denied) all_numbers 1 ≡ None → (m : ℕ) → 1 ≤ m → is_denied asks m ≡ true
       all_denied e m a = elim (cases_lt m (2 ^ 64)) [
@@ -124,22 +114,14 @@ module _ (s : Summary) (asks : List Ask) (sum : IsSummary s asks) (bounded : Are
 
       found : list_any (wants s.demand) s.shown ≡ false → (f : ℕ) → free (holds s.denied) all_numbers 1 ≡ Some f → (b : Bool) → wants s.demand f ≡ b
           → MatchOption (cond b (Some f) None) ((n : ℕ) → IsOneMore asks n → ⊥) (IsOneMore asks)
-      found none f e true t = record {
-        needed = needed none;
-        wanted = sym (ap (λ d. wants d f) sum.demand) ∙ t;
-        first = first f e;
-      }
+      found none f e true t = search (arith, first)
       found none f e false t = λ n x.
           let same = first_free_once (is_denied asks) 1 f n (first f e) x.first in
           true≢false (sym x.wanted ∙ sym (ap (λ d. wants d n) sum.demand) ∙ ap (wants s.demand) (sym same) ∙ t)
 
       by : (b : Bool) → list_any (wants s.demand) s.shown ≡ b → (o : Option ℕ) → free (holds s.denied) all_numbers 1 ≡ o
           → MatchOption (cond b None (if_wanted s.demand o)) ((n : ℕ) → IsOneMore asks n → ⊥) (IsOneMore asks)
-      by true t o e = λ n x.
-          let f = found_in (wants s.demand) s.shown t in
-          true≢false (sym (ap (λ d. wants d f.0) (sym sum.demand) ∙ f.2) ∙ x.needed f.0 (shown f.0 f.1))
-      by false none None e = λ n x. true≢false (sym (all_denied e n x.first.0) ∙ x.first.1)
-      by false none (Some f) e = found none f e (wants s.demand f) refl
+      by b t o e = grind (arith, found_in, shown, true≢false, all_denied, first, found)
 
   -- none is known that is wanted, where what is known is shown, and none that is shown is wanted
   shown_unwanted : ((n : ℕ) → is_known asks n ≡ is_shown asks n) → list_any (wants s.demand) s.shown ≡ false → (n : ℕ) → IsTrue (is_known asks n) → IsFalse (wants (demand asks) n)
@@ -148,11 +130,9 @@ module _ (s : Summary) (asks : List Ask) (sum : IsSummary s asks) (bounded : Are
 
   -- whether it is said that there is a number
   some_kept : (not (length s.shown == 0) || is_demanding s.demand) ≡ list_any says_some asks
-  some_kept = some_is asks (not (length s.shown == 0) || is_demanding s.demand)
-      (λ t. elim (or_cases (not (length s.shown == 0)) (is_demanding s.demand) t) [
-        | inl there ↦ (let h = there_is_has s.shown there in inl (h.0, sym (sum.shown h.0) ∙ h.1))
-        | inr d ↦ inr (sym (ap is_demanding sum.demand) ∙ d)
-      ])
+  some_kept =
+      some_is asks (not (length s.shown == 0) || is_demanding s.demand)
+      (grind (arith, or_cases, there_is_has))
       (λ n t. or_left (not (length s.shown == 0)) (is_demanding s.demand) (some_there (is_at (nat_cmp n)) s.shown (sum.shown n ∙ t)))
       (λ d. or_right (not (length s.shown == 0)) (is_demanding s.demand) (ap is_demanding sum.demand ∙ d))
 
@@ -162,10 +142,7 @@ module _ (s : Summary) (asks : List Ask) (sum : IsSummary s asks) (bounded : Are
 
   -- what is known by the hull is shown, or one of these
   pub hull_is : (n : ℕ) → is_known_by asks n ≡ (is_shown asks n || is_end_of (known_ends_in s) n)
-  hull_is n =
-      let end : is_end_of (known_ends_in s) n ≡ (list_any says_some asks && is_end_of (ends_of asks) n) =
-      end_if (not (length s.shown == 0) || is_demanding s.demand) s.ends n ∙ (λ i. some_kept i && is_end_of (sum.ends i) n) in
-      sym (ap (λ b. is_shown asks n || b) end)
+  hull_is n = grind (arith, end_if, some_kept)
 
   module _ (stand : AsksStand asks) where
     -- so is what is known
@@ -174,33 +151,8 @@ module _ (s : Summary) (asks : List Ask) (sum : IsSummary s asks) (bounded : Are
 
     -- ---- without strict marks
 
-    -- the one more number is below all that are known
-    more_below : (n : ℕ) → IsOneMore asks n → (m : ℕ) → IsTrue (is_known asks m) → n ≤ m
-    more_below n x m known = elim (cases_lt m n) [
-      | inl l ↦ (let le : m ≤ n = omega arith in absurd (true≢false (sym (wants_less (demand asks) n m le x.wanted) ∙ x.needed m known)))
-      | inr g ↦ g
-    ]
-
     by_more : ((n : ℕ) → is_known asks n ≡ is_shown asks n) → (o : Option ℕ) → MatchOption o ((n : ℕ) → IsOneMore asks n → ⊥) (IsOneMore asks) → AreUnseen asks o None
-    by_more same None none = record {
-      given = λ n. (
-        λ g. elim g [ inl k ↦ inl (sym (same n) ∙ k) | inr x ↦ absurd (none n x) ],
-        λ u. elim u [ inl t ↦ inl (same n ∙ t) | inr (inl e) ↦ cc | inr (inr e) ↦ cc ],
-      );
-      least = tt;
-      greatest = tt;
-    }
-    by_more same (Some f) more = record {
-      given = λ n. (
-        λ g. elim g [ inl k ↦ inl (sym (same n) ∙ k) | inr x ↦ inr (inl (ap Some (one_more_once asks f n more x))) ],
-        λ u. elim u [ inl t ↦ inl (same n ∙ t) | inr (inl e) ↦ (let is : f ≡ n = cc in inr (subst (IsOneMore asks) is more)) | inr (inr e) ↦ cc ],
-      );
-      least = (
-        false_from_ne_true _ (λ t. true≢false (sym more.wanted ∙ more.needed f (shown_known asks f t))),
-        (inr more, λ m g. elim g [ inl k ↦ more_below f more m k | inr x ↦ (let same = one_more_once asks f m more x in omega arith) ]),
-      );
-      greatest = tt;
-    }
+    by_more same o none = grind arith
 
     -- ---- with strict marks
 
