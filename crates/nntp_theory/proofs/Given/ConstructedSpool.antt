@@ -286,8 +286,7 @@ module _ (limit : ℕ) (B : ℕ) (facts : List Fact) where
         by (Some j) e =
             let f = free_is (λ j. is_mentioned facts (invented j)) B k j e in
             let before = used_before k j done used f.2 in
-            let lt : j < B = elim (cases_lt j B) [ inl l ↦ l | inr g ↦ absurd (not_all_used done few (λ i l. before i (omega arith) l)) ] in
-            (f, λ i l. elim (cases_lt i j) [ inl b ↦ or_right (eqb i j) _ (before i b (omega arith)) | inr g ↦ or_left (eqb i j) _ (eq-eqb i j (omega arith)) ])
+            grind (arith, free_is, used_before, cases_lt, not_all_used, or_right, or_left, eq-eqb, any_in, found_in, in_front, in_back, in_cases, same_itself)
 
     -- the ids of a group are invented in turn
     ids_invented : (name : Name) (ns : List ℕ) (k : ℕ) (done : List ℕ) (rest : List Id) → Used k done

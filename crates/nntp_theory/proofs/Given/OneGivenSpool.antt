@@ -1,5 +1,5 @@
 -- There is one given spool at most.
-use Rattle.std.proofs.Common.{◌≡◌, ℕ, ◌+◌, cond, List, [], ◌∷◌, ◌++◌, map, Option, None, Some, is_some, IsSome, inl, inr, refl, sym, ap, subst, ◌∙◌, arith}
+use Rattle.std.proofs.Common.{◌≡◌, ℕ, cond, List, [], ◌∷◌, ◌++◌, map, Option, None, Some, is_some, IsSome, inl, inr, refl, sym, ap, subst, ◌∙◌, arith}
 use Rattle.std.{proofs.lemmas.Bool.{true≢false}, specs.{Prelude.{unwrap_or}, List.{flat_map}, Cmp.{nat_cmp_total, Lexicographic.{nat_list_cmp_total}}}}
 use Rattle.std.specs.FinMap.{get, keys, entries, empty, same_entries_map, same_map, nat_cmp-IsAntisymmetric}
 use Rattle.nntp_article.specs.{Session.Spool.{Spool, Numbers, IsNumber, IsGroup, numbers, Name}, Article.Parts.{Id}}
@@ -42,8 +42,7 @@ same_group facts name k (e ∷ es) (f ∷ fs) xs ys keys ag ag' h g =
         (joined id (a ∙ sym b) r.0, r.1)
     by None is rec (i, a, is_i, h) (j, b, is_j, g) =
         let same = first_free_once (λ i. is_mentioned facts (invented i)) k i j a b in
-        let r = rec (i + 1) h (subst (λ n. AreInvented facts (n + 1) (unshown_in facts name fs ++ ys)) (sym same) g) in
-        (joined e.1 (is_i ∙ ap invented same ∙ sym is_j) r.0, r.1)
+        grind (arith, first_free_once, joined, true≢false)
 
 -- ---- groups
 

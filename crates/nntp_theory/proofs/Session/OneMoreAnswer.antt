@@ -89,6 +89,4 @@ pub size_by_pairs : (how : Marks) (client server : List ℕ) (pairs : List Paire
     → AreNext (streams client server) pairs left
     → size (facts_of_session how (asked_of pairs) (responses_of pairs)) ≤ length server
 size_by_pairs how client server pairs left paired =
-    let spelled = (pairs-spelled client server pairs left paired).0 in
-    let most = size_by_octets how (prompts_of client) (responses_of pairs) spelled.0 spelled.1 in
-    grind (arith, facts_by_pairs, length-append)
+    grind (arith, pairs-spelled, size_by_octets, facts_by_pairs, length-append, session_size, light, prompts_of_pairs, facts_longer, as_few)

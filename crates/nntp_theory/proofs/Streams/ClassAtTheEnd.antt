@@ -80,6 +80,4 @@ end_has_class profile client server pairs left class paired h = grind (arith, ha
 pub explained_pairs : (profile : Profile) (S : Spool) (client server : List ℕ) (pairs : List Paired) (left : Unpaired) → AreNext (streams client server) pairs left
     → IsSpool profile.limit S → Run profile S start (prompts_of client) (responses_of pairs) → ExplainsUpTo profile S client server (length pairs) left.server
 unfolding pairs_before
-explained_pairs profile S client server pairs left paired spool run =
-    let before = pairs_before client server pairs left paired in
-    record { is_spool = spool; answers = before.answers; octets = before.octets; count = before.count; run = run; spelled = before.spelled; whole = before.whole }
+explained_pairs profile S client server pairs left paired spool run = grind (arith, pairs_before, count, pairs-spelled, length-map)

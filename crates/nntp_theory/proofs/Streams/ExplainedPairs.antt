@@ -13,9 +13,7 @@ answers_spelled profile S client server n rest explained = grind (arith, run-sta
 -- an explanation of the first answers is by the first pairs
 pub by_pairs : (profile : Profile) (S : Spool) (client server : List ℕ) (n : ℕ) (rest : List ℕ) (explained : ExplainsUpTo profile S client server n rest)
     → HasPairs (streams client server) explained.answers rest
-by_pairs profile S client server n rest explained =
-    let both = answers_spelled profile S client server n rest explained in
-    spelled-pairs client server explained.answers rest both.0 both.1
+by_pairs profile S client server n rest explained = grind (arith, answers_spelled, spelled-pairs, run-stays-open)
 
 -- and one of both streams by all pairs
 pub by_all_pairs : (profile : Profile) (S : Spool) (client server : List ℕ) (n : ℕ) (pairs : List Paired) (ending : Ending) → IsPairing client server pairs ending

@@ -128,9 +128,7 @@ class_there profile client server k before =
 
 -- and one only
 pub one_class : (profile : Profile) (client server : List ℕ) (k : ℕ) (c d : Class) → HasClass profile client server k c → HasClass profile client server k d → c ≡ d
-one_class profile client server k c d h g =
-    let both = one_before client server k h.before g.before in
-    grind (arith, class_once)
+one_class profile client server k c d h g = grind (arith, one_before, class_once, as_many, not_cut, not_malformed, one_fitting)
 
 -- the answers before a bad one
 pub before_bad : (P : Spool → Type 0) (profile : Profile) (client server : List ℕ) (k : ℕ) → BadAmong P profile client server k → AnswersFirst client server k
@@ -156,8 +154,7 @@ answer_longer : (profile : Profile) (v : Visible) (asked : Asked) (octets more :
 answer_longer profile v asked octets more b a = grind (arith, append_assoc)
 
 malformed_longer : (asked : Asked) (octets more : List ℕ) → IsMalformed asked octets → IsMalformed asked (octets ++ more)
-malformed_longer asked octets more m =
-    record { initial = m.initial; block = m.block; rest = m.rest ++ more; frame = frame-longer asked octets m.initial m.rest more m.block m.frame; nothing = m.nothing }
+malformed_longer asked octets more m = grind (arith, frame-longer, true≢false, cases_Bool, append_assoc)
 
 -- where a frame is whole, or the connection closed
 abbrev pub settled : Class → Bool → Type 0
