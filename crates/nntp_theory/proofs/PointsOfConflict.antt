@@ -267,20 +267,7 @@ module _ (facts : List Fact) where
         let b8 : Below 8 = up 7 b7 (λ id h. true≢false (sym h.1 ∙ a id h.0)) in
         or_next (heads b8) (λ h.
         let b9 : Below 9 = up 8 b8 (λ id c. c (h id)) in
-        or_next (bodies b9) (λ b. inr (together s g k c m i p a h b)))))))))))
-      where
-        possible : (asks : List Ask) → IsFalse (list_any (λ ask. not (is_possible ask)) asks) → AllByRecursion (λ ask. IsTrue (is_possible ask)) asks
-        possible asks none = grind (arith, all_from, cases_Bool, true≢false, any_in)
-
-        together : ((name : Name) → IsFalse (list_any (λ ask. not (is_possible ask)) (asks_of name facts)))
-            → ((name : Name) → IsTrue (is_shown_group facts name) → IsFalse (list_any (denies_group name) facts))
-            → ((name : Name) (n : ℕ) → IsTrue (is_known (asks_of name facts) n) → IsFalse (is_denied (asks_of name facts) n))
-            → ((name : Name) (N : Numbers) → HasGivenNumbers (asks_of name facts) N → AllByRecursion (IsFewFor N) (asks_of name facts))
-            → ((name : Name) → MeetsDemand (demand (asks_of name facts)) (IsGivenNumber (asks_of name facts)))
-            → ((name : Name) (n : ℕ) → GiveOne (id_in name n) facts) → ((name : Name) (id : Id) → GiveOne (number_in name id) facts)
-            → ((id : Id) → IsTrue (list_any (shows_article id) facts) → IsFalse (list_any (denies_article id) facts))
-            → ((id : Id) → GiveOne (head_in id) facts) → ((id : Id) → GiveOne (body_in id) facts) → Together facts
-        together s g k c m i p a h b = record {
+        or_next (bodies b9) (λ b. inr (record {
           well_formed = formed;
           groups = g;
           numbers = λ name. record {
@@ -294,7 +281,10 @@ module _ (facts : List Fact) where
           articles = a;
           heads = h;
           bodies = b;
-        }
+        })))))))))))
+      where
+        possible : (asks : List Ask) → IsFalse (list_any (λ ask. not (is_possible ask)) asks) → AllByRecursion (λ ask. IsTrue (is_possible ask)) asks
+        possible asks none = grind (arith, all_from, cases_Bool, true≢false, any_in)
 
 -- ---- the law
 
