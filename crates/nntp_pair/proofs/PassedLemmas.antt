@@ -1,6 +1,6 @@
 -- A frame that spells nothing is passed over in one way, and only where the pairing would end at it.
-use Rattle.std.proofs.Common.{◌≡◌, ◌≢◌, ◌↔◌, ℕ, ◌+◌, ◌<◌, List, ◌∷◌, length, drop, Option, None, Some, MatchOption, Bool, true, false, not, refl, sym, ◌∙◌, ap}
-use Rattle.std.{proofs.{Common.{subst, arith, length-append}, lemmas.Bool.{true≢false}}, specs.Prelude.{is_some}}
+use Rattle.std.proofs.Common.{◌≡◌, ◌≢◌, ◌↔◌, ℕ, ◌+◌, ◌<◌, List, ◌∷◌, length, drop, Option, None, Some, MatchOption, false, not, refl, sym, ◌∙◌, ap, subst}
+use Rattle.std.{proofs.Common.{arith, length-append}, specs.Prelude.{is_some}}
 use Rattle.nntp_wire.specs.{Answer.{Asked, Spells, code_of, is_block_due}, Inner.Frame.{FrameParts, IsFrame}, Frame.{HasFrame, is_due_by, frame_octets}}
 use Rattle.nntp_wire.specs.{Misspelling.{misspelling}, declared.misspelling.Misspelling.{Misspelling, TheVariants.{WrongBlock}}}
 use Rattle.nntp_wire.proofs.{MisspelledFrames.{misspelled-alone}, MisspellingsAreSo.{so}, SpellLemmas.{one-frame}}
@@ -46,10 +46,7 @@ passed-exactly a = (
 -- a frame has a block exactly where one is due
 as-due : (asked : Asked) (sent : Option (List ℕ)) (o : Option ℕ) → is_some sent ≡ is_due_by asked o → MatchOption o ⊥ (λ code. is_some sent ≡ not (is_block_due asked code)) → ⊥
 as-due asked sent None due other = other
-as-due asked sent (Some code) due other = by (is_block_due asked code) (sym due ∙ other) where
-  by : (b : Bool) → b ≡ not b → ⊥
-  by true e = true≢false e
-  by false e = true≢false (sym e)
+as-due asked sent (Some code) due other = grind arith
 
 -- so there is a reason, and it isn't that
 pub passed-reason : (a b : Unpaired) (line : Option (List ℕ)) (initial : List ℕ) (block : Option (List ℕ)) → IsPassedOver a line initial block b

@@ -1,5 +1,5 @@
 -- Pairs are spelled one after the other, and what is so spelled is paired.
-use Rattle.std.proofs.Common.{◌≡◌, ℕ, ◌+◌, List, [], ◌∷◌, ◌++◌, map, Option, Some, Bool, false, refl, sym, ◌∙◌, ap, subst, append_assoc}
+use Rattle.std.proofs.Common.{◌≡◌, ℕ, ◌+◌, List, [], ◌∷◌, ◌++◌, map, Option, Some, Bool, false, refl, sym, ◌∙◌, ap, subst, append_assoc, arith}
 use Rattle.std.{proofs.lemmas.List.{append-nil, map-append}, specs.Prelude.{⊤, is_some, count_by}}
 use Rattle.nntp_wire.specs.{Answer.{Asked, Response, Spells, greeting, to}, Command.{request_of}, Frame.{HasFrame, frame_octets}, Lines.{lines_of_stream}}
 use Rattle.nntp_wire.{specs.{Session.{closes, prompts_of}, Inner.Session.{AreSpelled, StaysOpen}}, proofs.SpellLemmas.{spelling-frame}}
@@ -88,13 +88,7 @@ pairs-spelled client server pairs left run = (
 -- and what is so spelled is their pairs
 pub spelled-pairs : (client server : List ℕ) (responses : List Response) (rest : List ℕ) → AreSpelled (prompts_of client) responses server rest → StaysOpen (prompts_of client) responses
     → HasPairs (streams client server) responses rest
-spelled-pairs client server responses rest spelled stays =
-    spelled-run responses 0 (places_of client) server rest false (is_open responses)
-    (subst (λ prompts. AreSpelled prompts responses server rest) (sym (places-prompts client)) spelled)
-    (subst (λ prompts. StaysOpen prompts responses) (sym (places-prompts client)) stays) where
-      is_open : (responses : List Response) → IsOpenFor false responses
-      is_open [] = tt
-      is_open (response ∷ responses) = refl
+spelled-pairs client server responses rest spelled stays = grind (arith, spelled-run, places-prompts)
 
 -- responses that are spelled are the first of the pairing's
 pub spelled-first : (client server : List ℕ) (pairs : List Paired) (ending : Ending) (responses : List Response) (rest : List ℕ) → IsPairing client server pairs ending
