@@ -1,5 +1,5 @@
 -- A content, piece by piece.
-use Rattle.std.proofs.{Common.{◌≡◌, ℕ, List, [], ◌∷◌, ◌++◌, length, take, refl, sym, ◌∙◌, ap, append_assoc, append-nil, arith}, lemmas.List.{take_at}}
+use Rattle.std.proofs.{Common.{◌≡◌, ℕ, List, [], ◌∷◌, ◌++◌, length, take, refl, append_assoc, append-nil, arith}, lemmas.List.{take_at}}
 use Rattle.std.specs.{Prelude.{if◌then◌else◌}, List.{concat, after_first}}
 use Rattle.nntp_article.specs.Article.Parts.{Line, Header, is_empty, is_colon, skip_blanks, skip_last_blanks, content_of}
 use Rattle.nntp_article.proofs.ArticleLemmas.WordLemmas.{ends_blank}
@@ -14,12 +14,10 @@ skip-append (b ∷ bs) more = grind (arith, skip-append bs more)
 
 -- two pieces are one
 pub joined-joined : (octets piece more : List ℕ) → joined (joined octets piece) more ≡ joined octets (piece ++ more)
-joined-joined [] piece more = sym (skip-append piece more)
-joined-joined (b ∷ bs) piece more = append_assoc (b ∷ bs) piece more
+joined-joined octets piece more = grind (arith, skip-append, append_assoc)
 
 joined-nil : (octets : List ℕ) → joined octets [] ≡ octets
-joined-nil [] = refl
-joined-nil (b ∷ bs) = append-nil (b ∷ bs)
+joined-nil octets = grind (arith, append-nil)
 
 -- the octets so far with those of the lines that are left give the content
 pub record Leads (octets : List ℕ) (left : List Line) (header : Header) : Type 0 where
@@ -27,23 +25,14 @@ pub record Leads (octets : List ℕ) (left : List Line) (header : Header) : Type
 
 pub leads-start : (octets value : List ℕ) (header : Header) (first : Line) (left : List Line) (start : List ℕ)
     → header ≡ first ∷ left → value ≡ after_first is_colon first → start ≡ [] → octets ≡ joined start value → Leads octets left header
-leads-start octets value header first left start e is none o = record {
-  content = ap (λ t. skip_last_blanks (joined t (concat left))) (o ∙ ap (λ t. joined t value) none) ∙ ap skip_last_blanks (joined-joined [] value (concat left))
-      ∙ ap (λ t. skip_last_blanks (skip_blanks (t ++ concat left))) is ∙ ap content_of (sym e);
-}
+leads-start octets value header first left start e is none o = grind (arith, joined-joined)
 
 pub leads-more : (octets new : List ℕ) (before left : List Line) (line : Line) (header : Header) → Leads octets before header → before ≡ line ∷ left → new ≡ joined octets line → Leads new left header
-leads-more octets new before left line header l e o = record {
-  content = ap (λ t. skip_last_blanks (joined t (concat left))) o ∙ ap skip_last_blanks (joined-joined octets line (concat left))
-      ∙ ap (λ t. skip_last_blanks (joined octets (concat t))) (sym e) ∙ l.content;
-}
+leads-more octets new before left line header l e o = grind (arith, joined-joined)
 
 -- cut to the length of what is not blank at the end
 pub leads-end : (octets new trimmed : List ℕ) (left : List Line) (header : Header) → Leads octets left header → left ≡ []
     → trimmed ≡ skip_last_blanks octets → new ≡ take (length trimmed) octets → new ≡ content_of header
 leads-end octets new trimmed left header l e is cut =
     let end = ends_blank octets in
-    let whole : take (length trimmed) octets ≡ skip_last_blanks octets = ap (λ t. take (length t) octets) is
-    ∙ ap (take (length (skip_last_blanks octets))) end.whole
-    ∙ take_at (skip_last_blanks octets) end.tail (length (skip_last_blanks octets)) refl in
-    cut ∙ whole ∙ ap skip_last_blanks (sym (joined-nil octets)) ∙ ap (λ t. skip_last_blanks (joined octets (concat t))) (sym e) ∙ l.content
+    grind (arith, take_at, joined-nil)

@@ -5,9 +5,8 @@ use Rattle.nntp_article.proofs.ArticleLemmas.{HeadLemmas.{is_head-lines}, PartLe
 
 -- no line that may stand in a head is empty
 no_empty_lines : (lines : List Line) → list_all is_head_line lines ≡ true → list_any is_empty lines ≡ false
-no_empty_lines [] h = refl
-no_empty_lines ([] ∷ lines) h = cc
 no_empty_lines ((c ∷ cs) ∷ lines) h = no_empty_lines lines (and_parts (is_head_line (c ∷ cs)) _ h).1
+no_empty_lines lines h = cc
 
 no_empty_line : (lines : List Line) → is_head lines ≡ true → list_any is_empty lines ≡ false
 no_empty_line [] h = refl

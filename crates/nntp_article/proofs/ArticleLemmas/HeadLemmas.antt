@@ -1,8 +1,7 @@
 -- The headers of lines, from the front.
 use Rattle.std.proofs.{Common.{◌≡◌, ℕ, suc, ◌+◌, Bool, true, false, List, [], ◌∷◌, take, drop, refl, sym, ◌∙◌, ap, arith}, lemmas.Bool.{and_parts}}
 use Rattle.std.{proofs.lemmas.Bool.Decides.{nat_tests}, specs.{Prelude.{◌&&◌}, List.{list_all, prefix_len, take_while, before_first}}}
-use Rattle.nntp_article.specs.Article.Parts.{Line, is_empty, is_colon, name_of, is_continuation, begins_header, is_header, headers, is_head}
-use Rattle.nntp_article.specs.Inner.Parts.{is_head_line}
+use Rattle.nntp_article.specs.{Article.Parts.{Line, is_colon, name_of, is_continuation, begins_header, is_header, headers, is_head}, Inner.Parts.{is_head_line}}
 
 -- the lines that continue the header before them, and those behind
 abbrev pub more : List Line → List Line
@@ -50,9 +49,7 @@ pub headers-lines : (line : Line) (lines : List Line) → list_all is_header (he
 headers-lines line lines = ap (list_all is_header) (headers-cons line lines) ∙ (rw (first_and_more line lines, behind-lines lines) refl)
 
 pub is_head-lines : (line : Line) (lines : List Line) → is_head (line ∷ lines) ≡ (begins_header line && list_all is_head_line lines)
-is_head-lines line lines =
-    let some : is_empty (headers (line ∷ lines)) ≡ false = ap is_empty (headers-cons line lines) in
-    rw some (headers-lines line lines)
+is_head-lines line lines = grind (arith, headers-cons, headers-lines)
 
 -- what is said of the first line and of the others, where these are all lines
 pub is_head-parts : (all whole : List Line) (first : Line) (rest : List Line) (b a : Bool)
@@ -81,5 +78,4 @@ pub split-is_header : (lines rest front back : List Line) (first : Line) (n : �
     → list_all is_header (headers lines) ≡ true → name ≡ before_first is_colon first → (is_header front ≡ true) × (name ≡ name_of front)
 split-is_header lines rest front back first n name e is f b all named =
     let whole = split-headers lines rest front back first n e is f b in
-    let both : (is_header front && list_all is_header (headers back)) ≡ true = sym (ap (list_all is_header) whole) ∙ all in
-    ((and_parts _ _ both).0, named ∙ ap name_of (sym (f ∙ front-is lines rest first n e is)))
+    grind (arith, and_parts, front-is)

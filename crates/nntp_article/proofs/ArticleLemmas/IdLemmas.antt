@@ -1,5 +1,5 @@
 -- A content is a message id exactly if that is its one word.
-use Rattle.std.proofs.Common.{◌≡◌, ℕ, ◌<◌, ◌≤◌, Bool, true, false, List, [], ◌∷◌, ◌++◌, Option, None, Some, length, refl, sym, ◌∙◌, ap, arith, append-nil}
+use Rattle.std.proofs.Common.{◌≡◌, ℕ, ◌<◌, Bool, true, false, List, [], ◌∷◌, ◌++◌, Option, None, Some, length, refl, sym, ◌∙◌, ap, arith, append-nil}
 use Rattle.std.proofs.lemmas.{Bool.{lt-ltb, leb-true, and_parts, and_from, not-true, Decides.{nat_tests}}, List.Splits.{slice_split_none, slice_split_at}}
 use Rattle.std.{proofs.lemmas.List.{Sums.{AllPass-from_list_all}, Folds.{list_all-append}}, specs.{Prelude.{not, if◌then◌else◌, ⊤}, List.{All, list_all}}}
 use Rattle.nntp_wire.{specs.{Octets.{is_blank}, Words.{words_of}, Decided.{is_message_id, is_id_octet}}, proofs.WordLemmas.{words_of-blank}}
@@ -30,11 +30,7 @@ id_octets [] h = refl
 id_octets (b ∷ bs) h = let both = and_parts (is_id_octet b) _ h in and_from _ _ (id_octet b both.0) (id_octets bs both.1)
 
 pub id-solid : (id : Id) → is_message_id id ≡ true → (0 < length id) × (is_solid id ≡ true)
-id-solid id h =
-    let p = and_parts _ _ h in
-    let q = and_parts _ _ p.0 in
-    let r = and_parts _ _ q.0 in
-    (let long : 3 ≤ length id = leb-true 3 (length id) r.0 in omega arith, id_octets id q.1)
+id-solid id h = grind (arith, and_parts, leb-true, id_octets)
 
 -- octets up to the first blank, and the rest
 abbrev BeginsBlank : List ℕ → Type 0
@@ -57,8 +53,7 @@ cut (b ∷ bs) = at (is_blank b) refl (cut bs) where
 
 -- the words of octets that begin with one
 words-cut : (word rest : List ℕ) → 0 < length word → is_solid word ≡ true → BeginsBlank rest → (words : List (List ℕ)) × (words_of (word ++ rest) ≡ word ∷ words) × (words ≡ words_of rest)
-words-cut word [] some solid begins = ([], ap words_of (append-nil word) ∙ words-solid word some solid, refl)
-words-cut word (b ∷ bs) some solid begins = (words_of bs, words-solid_then word b bs some solid begins, sym (words_of-blank b bs begins))
+words-cut word rest some solid begins = grind (arith, append-nil, words-solid, words-solid_then, words_of-blank)
 
 -- octets without a word are blanks
 blank-words : (octets : List ℕ) → words_of octets ≡ [] → list_all is_blank octets ≡ true
@@ -76,9 +71,7 @@ skip_last-solid (b ∷ bs) h =
 skip_last-blanks : (octets tail : List ℕ) → list_all is_blank tail ≡ true → skip_last_blanks (octets ++ tail) ≡ skip_last_blanks octets
 skip_last-blanks [] [] h = refl
 skip_last-blanks [] (b ∷ bs) h = rw h refl
-skip_last-blanks (x ∷ xs) tail h =
-    let all : list_all is_blank (xs ++ tail) ≡ list_all is_blank xs = list_all-append is_blank xs tail ∙ (rw h (grind (arith, nat_tests))) in
-    rw (all, skip_last-blanks xs tail h) refl
+skip_last-blanks (x ∷ xs) tail h = grind (arith, list_all-append, nat_tests, skip_last-blanks xs tail h)
 
 -- octets of one word have it alone between their blanks
 trimmed-word : (octets word : List ℕ) → words_of octets ≡ word ∷ [] → skip_last_blanks (skip_blanks octets) ≡ word
@@ -89,11 +82,7 @@ trimmed-word (b ∷ bs) word h = at (is_blank b) refl (trimmed-word bs word) (cu
   at false e rest c =
       let solid : is_solid (b ∷ c.word) ≡ true = rw e c.solid in
       let is = words-cut (b ∷ c.word) c.rest (omega arith) solid c.begins in
-      let same : word ∷ [] ≡ (b ∷ c.word) ∷ is.0 = sym h ∙ ap (λ t. words_of (b ∷ t)) c.whole ∙ is.1 in
-      let none : [] ≡ is.0 = cc in
-      let blanks : list_all is_blank c.rest ≡ true = blank-words c.rest (sym is.2 ∙ sym none) in
-      let this : b ∷ c.word ≡ word = cc in
-      ap skip_last_blanks (skip-other b bs e ∙ ap (λ t. b ∷ t) c.whole) ∙ skip_last-blanks (b ∷ c.word) c.rest blanks ∙ skip_last-solid (b ∷ c.word) solid ∙ this
+      grind (arith, blank-words, skip-other, skip_last-blanks, skip_last-solid)
 
 abbrev id_test : List ℕ → Option Id
 id_test octets = if is_message_id octets then Some octets else None

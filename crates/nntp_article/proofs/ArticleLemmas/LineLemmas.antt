@@ -49,14 +49,9 @@ begins_by_name c cs e = grind (arith, name-plain, names-then_colon, nat_tests)
 -- a blank at the end is passed over
 pub skip_last-blank : (octets : List ℕ) (c : ℕ) → is_blank c ≡ true → skip_last_blanks (octets ++ c ∷ []) ≡ skip_last_blanks octets
 skip_last-blank [] c h = rw h refl
-skip_last-blank (x ∷ xs) c h =
-    let all : list_all is_blank (xs ++ c ∷ []) ≡ list_all is_blank xs = list_all-append is_blank xs (c ∷ []) ∙ (rw h (grind (arith, nat_tests))) in
-    rw (all, skip_last-blank xs c h) refl
+skip_last-blank (x ∷ xs) c h = grind (arith, list_all-append, nat_tests, skip_last-blank xs c h)
 
 -- every other octet stays
 pub skip_last-plain : (octets : List ℕ) (c : ℕ) → is_blank c ≡ false → skip_last_blanks (octets ++ c ∷ []) ≡ octets ++ c ∷ []
 skip_last-plain [] c h = rw h refl
-skip_last-plain (x ∷ xs) c h =
-    let all : list_all is_blank (xs ++ c ∷ []) ≡ false = list_all-append is_blank xs (c ∷ []) ∙ (rw h (grind (arith, nat_tests))) in
-    let no : list_all is_blank (x ∷ xs ++ c ∷ []) ≡ false = rw all (grind (arith, nat_tests)) in
-    rw (no, skip_last-plain xs c h) refl
+skip_last-plain (x ∷ xs) c h = grind (arith, list_all-append, nat_tests, skip_last-plain xs c h)

@@ -1,18 +1,16 @@
 -- The headers and the parts of lines are determined.
-use Rattle.std.proofs.{Common.{◌≡◌, ◌↔◌, ℕ, Bool, true, false, List, [], ◌∷◌, ◌++◌, refl, sym, ◌∙◌, ap, subst, arith, IsTrue}, lemmas.Bool.{false≢true}}
-use Rattle.std.{proofs.lemmas.Bool.{and_parts, and_from, not-true, Decides.{nat_tests}}, specs.{Prelude.{not}, List.{list_any, list_all, flat_map, prefix_len}}}
-use Rattle.std.specs.List.{before_first}
+use Rattle.std.proofs.{Common.{◌≡◌, ◌↔◌, Bool, true, false, List, [], ◌∷◌, ◌++◌, refl, sym, ◌∙◌, ap, arith, IsTrue}, lemmas.Bool.{false≢true, and_parts}}
+use Rattle.std.{proofs.lemmas.Bool.{and_from, not-true}, specs.List.{list_any, list_all, flat_map}}
 use Rattle.nntp_wire.specs.Octets.{is_blank}
-use Rattle.nntp_article.specs.Article.Parts.{Line, Header, is_empty, is_colon, is_continuation, is_name_octet, begins_header, is_header, with_line, headers}
-use Rattle.nntp_article.{specs.{Article.Parts.{is_head, head_part, body_part}, Inner.Parts.{AreHeaders, AreParts}}, proofs.ArticleLemmas.HeadLemmas.{one-more}}
-use Rattle.nntp_article.proofs.ArticleLemmas.{HeadLemmas.{more, after, more-yes, more-no, after-yes, after-no, headers-cons}, PartLemmas.{parts-split}}
+use Rattle.nntp_article.specs.Article.Parts.{Line, Header, is_empty, is_colon, is_continuation, begins_header, is_header, with_line, headers, is_head}
+use Rattle.nntp_article.{specs.{Article.Parts.{head_part, body_part}, Inner.Parts.{AreHeaders, AreParts}}, proofs.ArticleLemmas.HeadLemmas.{more, after}}
+use Rattle.nntp_article.proofs.ArticleLemmas.{HeadLemmas.{more-yes, more-no, after-yes, after-no, headers-cons}, PartLemmas.{parts-split}}
 
 abbrev flat : List Header → List Line
 flat hs = flat_map (λ header. header) hs
 
 flat-with : (line : Line) (hs : List Header) → flat (with_line line hs) ≡ line ∷ flat hs
-flat-with line [] = refl
-flat-with line (h ∷ hs) = grind arith
+flat-with line hs = grind arith
 
 -- the headers are all the lines
 flat-headers : (lines : List Line) → flat (headers lines) ≡ lines
@@ -26,18 +24,8 @@ head-iff lines = grind (arith, and_parts, not-true, flat-headers, and_from)
 begins-no : (line : Line) → begins_header line ≡ true → is_continuation line ≡ false
 begins-no [] h = refl
 begins-no (b ∷ bs) h = at (is_colon b) refl where
-  visible : (b : ℕ) → is_name_octet b ≡ true → is_blank b ≡ false
-  visible b h = grind (arith, nat_tests)
-
-  colon : (b : ℕ) → is_colon b ≡ true → is_blank b ≡ false
-  colon b h = grind (arith, nat_tests)
-
   at : (v : Bool) → is_colon b ≡ v → is_blank b ≡ false
-  at true e = colon b e
-  at false e =
-      let name : before_first is_colon (b ∷ bs) ≡ b ∷ before_first is_colon bs = rw (e, one-more (prefix_len (λ c. not (is_colon c)) bs)) refl in
-      let octets : list_all is_name_octet (b ∷ before_first is_colon bs) ≡ true = subst (λ t. list_all is_name_octet t ≡ true) name (and_parts _ _ h).1 in
-      visible b (and_parts _ _ octets).0
+  at v e = grind arith
 
 -- lines that continue, in front of lines that begin with a header
 more-append : (lines rest : List Line) → list_all is_continuation lines ≡ true → more rest ≡ [] → more (lines ++ rest) ≡ lines
@@ -56,10 +44,7 @@ after-append (line ∷ lines) rest all same =
 begin : (hs : List Header) → list_all is_header hs ≡ true → (more (flat hs) ≡ []) × (after (flat hs) ≡ flat hs)
 begin [] all = (refl, refl)
 begin ([] ∷ hs) all = absurd (false≢true all)
-begin ((first ∷ others) ∷ hs) all =
-    let is = (and_parts _ _ (and_parts (is_header (first ∷ others)) _ all).0).0 in
-    let plain = begins-no first is in
-    (more-no first (others ++ flat hs) plain, after-no first (others ++ flat hs) plain)
+begin ((first ∷ others) ∷ hs) all = grind (arith, and_parts, begins-no, more-no, after-no)
 
 -- headers one after the other are those of their lines
 pub headers-flat : (hs : List Header) → list_all is_header hs ≡ true → headers (flat hs) ≡ hs
@@ -67,12 +52,7 @@ headers-flat [] all = refl
 headers-flat ([] ∷ hs) all = absurd (false≢true all)
 headers-flat ((first ∷ others) ∷ hs) all =
     let both = and_parts (is_header (first ∷ others)) _ all in
-    let continued = (and_parts (begins_header first) _ both.0).1 in
-    let rest = begin hs both.1 in
-    headers-cons first (others ++ flat hs)
-    ∙ ap (λ t. (first ∷ t) ∷ headers (after (others ++ flat hs))) (more-append others (flat hs) continued rest.0)
-    ∙ ap (λ t. (first ∷ others) ∷ headers t) (after-append others (flat hs) continued rest.1)
-    ∙ ap (λ t. (first ∷ others) ∷ t) (headers-flat hs both.1)
+    grind (arith, and_parts, begin, headers-cons, after, more-append, after-append, headers-flat hs both.1)
 
 pub one-way : (lines : List Line) (hs : List Header) → AreHeaders lines hs → hs ≡ headers lines
 one-way lines hs are = sym (ap headers are.whole ∙ headers-flat hs are.each)
@@ -80,9 +60,8 @@ one-way lines hs are = sym (ap headers are.whole ∙ headers-flat hs are.each)
 -- ---- parts
 
 round_empty : (lines : List Line) → list_any is_empty lines ≡ true → AreParts lines (head_part lines) (body_part lines)
-round_empty [] h = absurd (false≢true h)
-round_empty ([] ∷ lines) h = record { whole = refl; none = refl }
 round_empty ((c ∷ cs) ∷ lines) h = let rest = round_empty lines h in record { whole = ap (λ t. (c ∷ cs) ∷ t) rest.whole; none = rest.none }
+round_empty lines h = grind arith
 
 pub parts-iff : (lines head body : List Line) → AreParts lines head body ↔ (IsTrue (list_any is_empty lines) × (head ≡ head_part lines) × (body ≡ body_part lines))
 parts-iff lines head body = (to, from) where

@@ -1,12 +1,11 @@
 -- What the lines so far leave to say of the id, line by line.
 use Rattle.std.proofs.Common.{Bor, ◌≡◌, ◌≢◌, ℕ, Bool, true, false, List, [], ◌∷◌, ◌++◌, Option, None, Some, refl, sym, ◌∙◌, ap, arith}
-use Rattle.std.{proofs.lemmas.Bool.{false≢true, true≢false}, specs.{Prelude.{if◌then◌else◌, codes}, Option.{SomeIff}, List.{filter, flat_map, concat}}}
-use Rattle.std.specs.List.{after_first}
-use Rattle.nntp_wire.{specs.{Octets.{is_blank}, Words.{words_of}, Name.{IsMessageId}, Decided.{is_message_id}}, proofs.DecidedLemmas.{message_id-iff}}
+use Rattle.std.{proofs.lemmas.Bool.{false≢true, true≢false}, specs.{Prelude.{if◌then◌else◌, codes}, Option.{SomeIff}, List.{filter, flat_map, after_first}}}
+use Rattle.nntp_wire.{specs.{Words.{words_of}, Name.{IsMessageId}, Decided.{is_message_id}}, proofs.DecidedLemmas.{message_id-iff}}
 use Rattle.nntp_article.specs.{Article.Parts.{Line, Id, Header, is_continuation, is_colon, headers, is_named, only_id, said_id}, Inner.SaidId.{names_id}}
-use Rattle.nntp_article.specs.{Inner.SaidId.{id_of_words, id_alone, id_with, ids_behind}, declared.article.said_id.Found.{Found, TheVariants.{NoHeader}}}
-use Rattle.nntp_article.{specs.declared.article.said_id.Found.TheVariants.{NoWord, Word}, proofs.ArticleLemmas.HeadLemmas.{more, after, more-yes, more-no}}
-use Rattle.nntp_article.proofs.ArticleLemmas.{HeadLemmas.{more-all, after-yes, after-no, headers-cons}, WordLemmas.{words-lines}, IdLemmas.{content-id}}
+use Rattle.nntp_article.specs.{Inner.SaidId.{id_alone, id_with, ids_behind}, declared.article.said_id.Found.{Found, TheVariants.{NoHeader, NoWord, Word}}}
+use Rattle.nntp_article.proofs.ArticleLemmas.{HeadLemmas.{more, after, more-yes, more-all, after-yes, after-no, headers-cons}, WordLemmas.{words-lines}}
+use Rattle.nntp_article.proofs.ArticleLemmas.IdLemmas.{content-id}
 
 abbrev is_id_header : Header → Bool
 is_id_header header = is_named (codes "Message-ID") header
@@ -15,13 +14,8 @@ is_id_header header = is_named (codes "Message-ID") header
 abbrev pub words_behind : Bool → List Line → List (List ℕ)
 words_behind is_open lines = if is_open then flat_map words_of (more lines) else []
 
--- no name begins with a blank
-blank_name : (b : ℕ) (bs : List ℕ) → is_blank b ≡ true → names_id (b ∷ bs) ≡ false
-blank_name b bs h = grind arith
-
 continuation_name : (line : Line) (lines : List Line) → is_continuation line ≡ true → is_id_header (line ∷ lines) ≡ false
-continuation_name [] lines h = absurd (false≢true h)
-continuation_name (b ∷ bs) lines h = blank_name b bs h
+continuation_name line lines h = grind arith
 
 -- ---- the Message-ID headers behind a line
 
@@ -52,46 +46,32 @@ said-none (line ∷ lines) = at (is_continuation line) refl where
 
 pub continued-closed : (found : Found) (is_open : Bool) (line : Line) (lines : List Line) → is_continuation line ≡ true → is_open ≡ false
     → id_with found (words_behind is_open lines) (ids_behind lines) ≡ id_with found (words_behind is_open (line ∷ lines)) (ids_behind (line ∷ lines))
-continued-closed found true line lines h closed = absurd (true≢false closed)
-continued-closed found false line lines h closed = ap (id_with found []) (sym (behind-yes line lines h))
+continued-closed found is_open line lines h closed = grind (arith, true≢false, behind-yes)
 
 pub continued-open : (found new : Found) (is_open : Bool) (line : Line) (lines : List Line) → is_continuation line ≡ true → is_open ≡ true
     → ((words : List (List ℕ)) (ids : List Header) → id_with new words ids ≡ id_with found (words_of line ++ words) ids)
     → id_with new (flat_map words_of (more lines)) (ids_behind lines) ≡ id_with found (words_behind is_open (line ∷ lines)) (ids_behind (line ∷ lines))
-continued-open found new false line lines h opened by = absurd (false≢true opened)
-continued-open found new true line lines h opened by =
-    by (flat_map words_of (more lines)) (ids_behind lines)
-    ∙ ap (id_with found (words_of line ++ flat_map words_of (more lines))) (sym (behind-yes line lines h))
-    ∙ ap (λ t. id_with found (flat_map words_of t) (ids_behind (line ∷ lines))) (sym (more-yes line lines h))
+continued-open found new is_open line lines h opened by = grind (arith, false≢true, more, behind-yes, more-yes)
 
 -- ---- a first line
 
 -- no word of an open header follows
 closed_words : (is_open : Bool) (line : Line) (lines : List Line) → is_continuation line ≡ false → words_behind is_open (line ∷ lines) ≡ []
-closed_words false line lines h = refl
-closed_words true line lines h = ap (flat_map words_of) (more-no line lines h)
+closed_words is_open line lines h = grind arith
 
 pub begun-other : (found : Found) (is_open : Bool) (line : Line) (lines : List Line) → is_continuation line ≡ false → names_id line ≡ false
     → id_with found [] (ids_behind lines) ≡ id_with found (words_behind is_open (line ∷ lines)) (ids_behind (line ∷ lines))
-begun-other found is_open line lines h other =
-    ap (id_with found []) (sym (behind-other line lines h other)) ∙ ap (λ t. id_with found t (ids_behind (line ∷ lines))) (sym (closed_words is_open line lines h))
+begun-other found is_open line lines h other = grind (arith, behind-other, closed_words)
 
 -- the id of the only header, by its words
 only-words : (line : Line) (lines : List Line) (ids : List Header) → only_id ((line ∷ more lines) ∷ ids) ≡ id_alone (words_of (after_first is_colon line) ++ flat_map words_of (more lines)) ids
-only-words line lines [] =
-    content-id (after_first is_colon line ++ concat (more lines)) ∙ ap id_of_words (words-lines (after_first is_colon line) (more lines) (more-all lines))
-only-words line lines (id ∷ ids) = refl
+only-words line lines ids = grind (arith, content-id, more, words-lines, more-all)
 
 pub begun-first : (found new : Found) (is_open : Bool) (line value : Line) (lines : List Line) → is_continuation line ≡ false → names_id line ≡ true
     → found ≡ NoHeader → value ≡ after_first is_colon line
     → ((words : List (List ℕ)) (ids : List Header) → id_with new words ids ≡ id_with NoWord (words_of value ++ words) ids)
     → id_with new (flat_map words_of (more lines)) (ids_behind lines) ≡ id_with found (words_behind is_open (line ∷ lines)) (ids_behind (line ∷ lines))
-begun-first found new is_open line value lines h named none is by =
-    by (flat_map words_of (more lines)) (ids_behind lines)
-    ∙ ap (λ t. id_alone (words_of t ++ flat_map words_of (more lines)) (ids_behind lines)) is
-    ∙ sym (only-words line lines (ids_behind lines))
-    ∙ ap only_id (sym (behind-named line lines h named))
-    ∙ ap (λ f. id_with f (words_behind is_open (line ∷ lines)) (ids_behind (line ∷ lines))) (sym none)
+begun-first found new is_open line value lines h named none is by = grind (arith, more, only-words, behind-named)
 
 pub begun-again : (found : Found) (is_open : Bool) (line : Line) (lines : List Line) → is_continuation line ≡ false → names_id line ≡ true
     → found ≢ NoHeader
@@ -106,5 +86,4 @@ tested-id word r is = grind (arith, message_id-iff, false≢true)
 
 pub ended-word : (found : Found) (is_open : Bool) (word : Bor Line) → found ≡ Word word
     → (if is_message_id word.now then Some word.now else None) ≡ id_with found (words_behind is_open []) (ids_behind [])
-ended-word found true word is = ap (λ f. id_with f [] []) (sym is)
-ended-word found false word is = ap (λ f. id_with f [] []) (sym is)
+ended-word found is_open word is = grind arith

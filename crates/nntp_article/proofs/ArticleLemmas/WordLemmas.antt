@@ -2,7 +2,7 @@
 use Rattle.std.proofs.{Common.{◌≡◌, ℕ, ◌<◌, Bool, true, false, List, [], ◌∷◌, ◌++◌, length, refl, sym, ◌∙◌, ap, arith, append-nil}, lemmas.Bool.{false≢true}}
 use Rattle.std.{proofs.lemmas.{Bool.Decides.{nat_tests}, List.Splits.{slice_split-cons_yes, length-slice_split}}, specs.{Prelude.{◌&&◌}, List.{list_all}}}
 use Rattle.std.specs.List.{flat_map, filter, concat, slice_split, onto_first}
-use Rattle.nntp_wire.{specs.{Octets.{is_blank}, Words.{words_of, is_some_octets}}, proofs.WordLemmas.{words_of-blank}}
+use Rattle.nntp_wire.{specs.{Octets.{is_blank}, Words.{words_of}}, proofs.WordLemmas.{words_of-blank}}
 use Rattle.nntp_article.specs.Article.Parts.{Line, is_continuation, skip_blanks, skip_last_blanks}
 
 -- parts before a place that is split at, and behind it
@@ -10,15 +10,11 @@ split-append : (octets : List ℕ) (b : ℕ) (rest : List ℕ) → is_blank b �
 split-append [] b rest h = slice_split-cons_yes is_blank b rest h
 split-append (x ∷ xs) b rest h = at (is_blank x) refl (split-append xs b rest h) where
   onto : (parts more : List (List ℕ)) → 0 < length parts → onto_first x (parts ++ more) ≡ onto_first x parts ++ more
-  onto [] more some = absurd (omega arith)
-  onto (part ∷ parts) more some = refl
+  onto parts more some = grind arith
 
   at : (v : Bool) → is_blank x ≡ v → slice_split is_blank (xs ++ b ∷ rest) ≡ slice_split is_blank xs ++ slice_split is_blank rest
       → slice_split is_blank ((x ∷ xs) ++ b ∷ rest) ≡ slice_split is_blank (x ∷ xs) ++ slice_split is_blank rest
-  at true e others = rw e (ap (λ t. [] ∷ t) others)
-  at false e others =
-      let some : 0 < length (slice_split is_blank xs) = omega (arith, length-slice_split is_blank xs) in
-      rw e (ap (onto_first x) others ∙ onto (slice_split is_blank xs) (slice_split is_blank rest) some)
+  at v e others = grind (arith, length-slice_split, onto)
 
 filter-append : (test : List ℕ → Bool) (xs ys : List (List ℕ)) → filter test (xs ++ ys) ≡ filter test xs ++ filter test ys
 filter-append test [] ys = refl
@@ -26,10 +22,7 @@ filter-append test (x ∷ xs) ys = grind (arith, filter-append test xs ys)
 
 -- no word goes over a blank
 pub words-append : (octets : List ℕ) (b : ℕ) (rest : List ℕ) → is_blank b ≡ true → words_of (octets ++ b ∷ rest) ≡ words_of octets ++ words_of (b ∷ rest)
-words-append octets b rest h =
-    ap (filter is_some_octets) (split-append octets b rest h)
-    ∙ filter-append is_some_octets (slice_split is_blank octets) (slice_split is_blank rest)
-    ∙ ap (λ t. words_of octets ++ t) (sym (words_of-blank b rest h))
+words-append octets b rest h = grind (arith, split-append, filter-append, words_of-blank)
 
 -- no word goes over the end of a line that is continued
 pub words-lines : (octets : List ℕ) (lines : List Line) → list_all is_continuation lines ≡ true → words_of (octets ++ concat lines) ≡ words_of octets ++ flat_map words_of lines

@@ -3,19 +3,19 @@ use Rattle.std.proofs.Common.{◌≡◌, ℕ, suc, ◌↔◌, ◌≤◌, Bool, t
 use Rattle.std.proofs.{Common.{[], ◌∷◌, map, inl, inr, refl, sym, ap, subst, ◌∙◌, arith}, lemmas.Bool.{and_parts, and_from, leb-true, le-leb, or_cases}}
 use Rattle.std.proofs.lemmas.{Bool.{or_left, or_right, cases_lt, cases_eq, true≢false}, Map.Views.{Contains-from_any, list_any-from_Contains, tells_apart}}
 use Rattle.std.proofs.lemmas.{Map.Lookups.{exact_unsigned, exact_bytes, CmpEqualImpliesEq}, List.Elements.{recursion_from_All, All-from_recursion}}
-use Rattle.std.specs.{Prelude.{nat_le, IfSome, Contains, option_map}, List.{list_any, list_all}, Ordering.{eq_by_cmp}, Cmp.{IsTotalOrder, nat_cmp_total}}
-use Rattle.std.specs.{Cmp.{eq_by_cmp_equiv, Lexicographic.{nat_list_cmp_total}}, FinMap.{FinMap, get, len, IsAntisymmetric, nat_cmp-IsAntisymmetric}}
-use Rattle.std.specs.{FinMap.{slice_cmp-IsAntisymmetric}, declared.cmp.Ordering.{Ordering}}
-use Rattle.nntp_article.specs.Session.Spool.{Spool, Numbers, IsNumber, numbers, IsNextAbove, IsNextBelow, NoneAbove, NoneBelow, Lists, IsInRange, text_of}
+use Rattle.std.specs.{Prelude.{nat_le, IfSome, Contains}, List.{list_any, list_all}, Ordering.{eq_by_cmp}, Cmp.{IsTotalOrder, nat_cmp_total, eq_by_cmp_equiv}}
+use Rattle.std.specs.{Cmp.Lexicographic.{nat_list_cmp_total}, FinMap.{FinMap, get, len, IsAntisymmetric, nat_cmp-IsAntisymmetric, slice_cmp-IsAntisymmetric}}
+use Rattle.std.specs.declared.cmp.Ordering.{Ordering}
+use Rattle.nntp_article.specs.Session.Spool.{Spool, Numbers, IsNumber, numbers, IsNextAbove, IsNextBelow, NoneAbove, NoneBelow, Lists, IsInRange}
 use Rattle.nntp_article.specs.Session.Machine.{State, selected_numbers, AreEnds, Bound, is_generic, CodeAgrees, NumberAgrees, Agrees, ActivesAgree, MayAnswer}
 use Rattle.nntp_article.{specs.{Session.Machine.{Run, after}, declared.session.profile.Profile.{Profile}}, proofs.SessionLemmas.FiniteMapsDecided.{Dec}}
 use Rattle.nntp_article.proofs.SessionLemmas.FiniteMapsDecided.{dec_true, dec_le, dec_both, dec_three, dec_by, dec_none, dec_some_text, each_key, dec_some}
 use Rattle.nntp_article.proofs.SessionLemmas.FiniteMapsDecided.{dec_option, dec_lists, dec_unless, dec_to, passes, fails, dec_all}
 use Rattle.nntp_wire.specs.Answer.{Success, Asked, Response, greeting, to, group_is, numbers_are, sends, active_are, plain}
 use Rattle.nntp_wire.specs.declared.{water_marks.WaterMarks.{WaterMarks}, marks.Marks.{Marks, TheVariants.{Lenient, Strict}}, range.Range.{Range}}
-use Rattle.nntp_wire.specs.{Listing.{ActiveValue, listed_numbers, active_groups}, Wildmat.{MatchesName}, Decided.{matches_name}, Command.{Target, Request}}
-use Rattle.nntp_wire.specs.Command.{by_id, by_number, current, capabilities, mode_reader, quit, opaque, ill_formed, group, list_group, next, last, retrieve}
-use Rattle.nntp_wire.{specs.Command.{list_active}, proofs.{DecidedLemmas.{matches_name-iff}, OptionLemmas.{none_of}}}
+use Rattle.nntp_wire.specs.{Listing.{ActiveValue, active_groups}, Wildmat.{MatchesName}, Decided.{matches_name}, Command.{Target, Request, by_id, by_number}}
+use Rattle.nntp_wire.specs.Command.{current, capabilities, mode_reader, quit, opaque, group, list_group, next, last, retrieve, list_active}
+use Rattle.nntp_wire.proofs.{DecidedLemmas.{matches_name-iff}, OptionLemmas.{none_of}}
 
 each_number : (N : Numbers) (p : ℕ → Bool) → Dec ((n : ℕ) → IsNumber N n → IsTrue (p n))
 each_number N p = each_key nat_cmp_total nat_cmp-IsAntisymmetric p N
@@ -58,8 +58,7 @@ dec_next_above N c n =
     (each_number N (λ m. nat_le m c || nat_le n m)))
 
 dec_match : (o : Option ℕ) (Q : ℕ → Type 0) → ((c : ℕ) → Dec (Q c)) → Dec (MatchOption o ⊥ Q)
-dec_match None Q d = inr (λ h. h)
-dec_match (Some c) Q d = d c
+dec_match o Q d = grind arith
 
 dec_current : (o : Option ℕ) (n : ℕ) → Dec (o ≡ Some n)
 dec_current o n = dec_some cases_eq o n
@@ -72,8 +71,7 @@ dec_next_below N c n =
     (each_number N (λ m. nat_le c m || nat_le m n)))
 
 dec_if_some : {A : Type 0} (o : Option A) {Q : A → Type 0} → ((x : A) → Dec (Q x)) → Dec (IfSome o Q)
-dec_if_some None d = inl tt
-dec_if_some (Some x) d = d x
+dec_if_some o d = grind arith
 
 dec_in_range : (r : Range) (n : ℕ) → Dec (IsInRange r n)
 dec_in_range r n = dec_both (dec_le r.first n) (dec_if_some r.last (dec_le n))
@@ -83,12 +81,10 @@ test_of (inl p) = true
 test_of (inr p) = false
 
 from_test : {P : Type 0} (d : Dec P) → IsTrue (test_of d) → P
-from_test (inl p) h = p
-from_test (inr p) h = cc
+from_test d h = grind arith
 
 to_test : {P : Type 0} (d : Dec P) → P → IsTrue (test_of d)
-to_test (inl p) h = refl
-to_test (inr p) h = absurd (p h)
+to_test d h = grind arith
 
 module _ {K : Type 0} {R : K → K → Ordering} (o : IsTotalOrder R) (exact : CmpEqualImpliesEq R) where
   among : (ns : List K) (n : K) → Dec (Contains ns n)
@@ -140,8 +136,7 @@ dec_number S s (by_number n) sent = dec_some_text (get (selected_numbers S s.vis
 dec_number S s current sent = dec_both (dec_current s.current sent.number) (dec_some_text (get (selected_numbers S s.visible) sent.number) sent.id)
 
 dec_cond : (b : Bool) {P Q : Type 0} → Dec P → Dec Q → Dec (cond b P Q)
-dec_cond true p q = p
-dec_cond false p q = q
+dec_cond b p q = grind arith
 
 dec_code : (S : Spool) (s : State) (command : Request) (code : ℕ) → Dec (CodeAgrees S s command code)
 dec_code S s capabilities code = inl tt
@@ -155,22 +150,17 @@ dec_code S s (retrieve what (by_id word)) code = dec_none (get S.articles word)
 dec_code S s (retrieve what (by_number n)) code = dec_cond (code == 412) (inl tt) (dec_if_some n (λ n. dec_none (get (selected_numbers S s.visible) n)))
 dec_code S s (retrieve what current) code = dec_cond (code == 412) (inl tt) (dec_none s.current)
 dec_code S s opaque code = inl tt
-dec_code S s (list_active p) code = inr (λ h. h)
-dec_code S s ill_formed code = inr (λ h. h)
+dec_code S s command code = grind arith
 
 -- whether an answer agrees with a spool
 dec_agrees : (marks : Marks) (S : Spool) (s : State) (p : Asked) (a : Response) → Dec (Agrees marks S s p a)
 dec_agrees marks S s greeting (plain code) = inl tt
 dec_agrees marks S s (to command) (plain code) = dec_cond (is_generic code) (inl tt) (dec_code S s command code)
 dec_agrees marks S s (to (group word)) (group_is m name) = dec_both (dec_true (is_some (get S.groups name))) (dec_bound marks (numbers S name) m)
-dec_agrees marks S s (to (list_group word range)) (numbers_are m name lines) = dec_three (dec_true (is_some (get S.groups name)))
-    (dec_bound marks (numbers S name) m) (dec_listing (numbers S name) range (listed_numbers lines))
-dec_agrees marks S s (to next) (sends sent) =
-    dec_both (dec_match s.current _ (λ c. dec_next_above (selected_numbers S s.visible) c sent.number)) (dec_some_text (get (selected_numbers S s.visible) sent.number) sent.id)
-dec_agrees marks S s (to last) (sends sent) =
-    dec_both (dec_match s.current _ (λ c. dec_next_below (selected_numbers S s.visible) c sent.number)) (dec_some_text (get (selected_numbers S s.visible) sent.number) sent.id)
-dec_agrees marks S s (to (retrieve what which)) (sends sent) =
-    dec_both (dec_some (dec_option dec_lists) (option_map (text_of what) (get S.articles sent.id)) sent.block) (dec_number S s which sent)
+dec_agrees marks S s (to (list_group word range)) (numbers_are m name lines) = search (arith, dec_three, dec_true, dec_bound, dec_listing)
+dec_agrees marks S s (to next) (sends sent) = search (arith, dec_both, dec_match, dec_next_above, dec_some_text)
+dec_agrees marks S s (to last) (sends sent) = search (arith, dec_both, dec_match, dec_next_below, dec_some_text)
+dec_agrees marks S s (to (retrieve what which)) (sends sent) = search (arith, dec_both, dec_some, dec_option, dec_lists, dec_number)
 dec_agrees marks S s (to (list_active p)) (active_are lines) = dec_actives S p (active_groups lines)
 dec_agrees marks S s p (group_is m name) = inr (λ h. h)
 dec_agrees marks S s p (numbers_are m name lines) = inr (λ h. h)

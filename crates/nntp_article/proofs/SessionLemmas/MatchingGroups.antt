@@ -2,10 +2,10 @@
 use Rattle.std.proofs.Common.{◌≡◌, ℕ, Bool, true, false, cond, not, T, None, is_some, List, [], ◌∷◌, map, length, refl, sym, ap, subst, ◌∙◌, arith}
 use Rattle.std.proofs.lemmas.{Bool.{true≢false, and_parts, not-true}, List.{length-map, Sums.{length-filter}}, Map.Entries.{length-keys_of}}
 use Rattle.std.proofs.lemmas.Map.{Keys.{IsDistinct-from_sorted, IsDistinct-cons}, Made.{IsDistinct-keys_filter, length-le_from_is_member}}
-use Rattle.std.{proofs.lemmas.Map.Text.{is_eq-slice_cmp}, specs.{Prelude.{◌||◌}, declared.cmp.Ordering.{Ordering, TheVariants.{Less, Equal, Greater}}}}
-use Rattle.std.specs.{Ordering.{nat_cmp, is_lt, eq_by_cmp}, Cmp.{eq_by_cmp_equiv, Lexicographic.{slice_cmp, nat_list_cmp_total}}, List.{list_all, list_any}}
-use Rattle.std.specs.{List.{count_by, filter, AllByRecursion, IsDistinct, Sorted.{IsStrictlySortedBy}}, Map.{keys_of}, Set.{is_member}, FinMap.{FinMap, get}}
-use Rattle.std.specs.FinMap.{entries, find, is_sorted, entries_sorted, get-entries, IsAntisymmetric, nat_cmp-IsAntisymmetric, slice_cmp-IsAntisymmetric}
+use Rattle.std.{proofs.lemmas.Map.Text.{is_eq-slice_cmp}, specs.{Prelude.{◌||◌}, declared.cmp.Ordering.{Ordering, TheVariants.{Less}}, Ordering.{nat_cmp}}}
+use Rattle.std.specs.{Ordering.{is_lt, eq_by_cmp}, Cmp.{eq_by_cmp_equiv, Lexicographic.{slice_cmp, nat_list_cmp_total}}, List.{list_all, list_any, count_by}}
+use Rattle.std.specs.{List.{filter, AllByRecursion, IsDistinct, Sorted.{IsStrictlySortedBy}}, Map.{keys_of}, Set.{is_member}, FinMap.{FinMap, get, entries}}
+use Rattle.std.specs.FinMap.{find, is_sorted, entries_sorted, get-entries, IsAntisymmetric, nat_cmp-IsAntisymmetric, slice_cmp-IsAntisymmetric}
 use Rattle.std.specs.FinMap.Entries.{below_all, is_some-find, find-where_key}
 use Rattle.nntp_wire.{specs.Listing.{ActiveValue}, proofs.ShownMaps.{equal_is}}
 use Rattle.nntp_article.specs.Session.{Spool.{Name}, Machine.{is_same, names_differ}}
@@ -43,13 +43,10 @@ distinct_names (l ∷ lines) e =
 -- ---- keys that match
 
 less_is : (r : Ordering) → is_lt r ≡ true → r ≡ Less
-less_is Less e = refl
-less_is Equal e = cc
-less_is Greater e = cc
+less_is r e = grind arith
 
 is_passed : (b : Bool) → T b → b ≡ true
-is_passed true h = refl
-is_passed false h = absurd h
+is_passed b h = grind arith
 
 -- equal keys of octets are one
 octet_keys : IsAntisymmetric (slice_cmp nat_cmp)
@@ -85,8 +82,7 @@ module _ {X : Type 0} where
         ∙ by (t q) ∙ ap (λ o. cond (t q) (is_some o) false) (sym (get-entries m q))
       where
         by : (b : Bool) → is_some (cond b (find (slice_cmp nat_cmp) q (entries m)) None) ≡ cond b (is_some (find (slice_cmp nat_cmp) q (entries m))) false
-        by true = refl
-        by false = refl
+        by b = grind arith
 
     member_if : (q : Name) → is_some (get m q) ≡ true → t q ≡ true → is_member same_name kept q ≡ true
     member_if q here passes = member_kept q ∙ rw passes here

@@ -1,24 +1,23 @@
 -- What a reason names is at fault.
 use Rattle.std.proofs.Common.{◌≡◌, ℕ, ◌≤◌, Bool, true, false, not, ◌&&◌, ◌||◌, ◌==◌, Option, None, Some, is_some, MatchOption, List, [], ◌∷◌, ◌++◌, map, ◌⊎◌}
-use Rattle.std.proofs.{Common.{inl, inr, refl, sym, ap, subst, arith, ◌∙◌}, lemmas.Bool.{true≢false, or_cases, leb-false, ltb-false, and_right, and_from}}
-use Rattle.std.{proofs.lemmas.{Bool.{or_left, or_right}, Option.{IfSome_then}}, specs.Prelude.{◌+◌, ◌-◌, nat_le, nat_lt, unwrap_or, option_map, if◌then◌else◌}}
-use Rattle.std.specs.{Prelude.{IfSome}, List.{list_any}, Option.{option_map_or, option_or}, FinMap.{get}, Cmp.Lexicographic.{bytes_decides}}
+use Rattle.std.proofs.{Common.{inl, inr, refl, sym, ap, subst, arith, ◌∙◌}, lemmas.Bool.{or_cases, leb-false, ltb-false, and_right, and_from, or_left}}
+use Rattle.std.{proofs.lemmas.{Bool.{or_right}, Option.{IfSome_then}}, specs.Prelude.{◌+◌, ◌-◌, nat_le, nat_lt, unwrap_or, if◌then◌else◌, IfSome}}
+use Rattle.std.specs.{List.{list_any}, Option.{option_map_or, option_or}, FinMap.{get}, Cmp.Lexicographic.{bytes_decides}}
 use Rattle.nntp_wire.specs.Answer.{Success, Asked, Response, greeting, to, group_is, numbers_are, sends, active_are, plain, success_code}
 use Rattle.nntp_wire.specs.{declared.{water_marks.WaterMarks.{WaterMarks}, command.What.{What, TheVariants.{Article, Head, Body, Stat}}}, Listing.{ActiveValue}}
 use Rattle.nntp_wire.specs.{Listing.{listed_numbers, active_groups}, Decided.{matches_name}, Command.{Target, group, list_group, next, last, retrieve}}
 use Rattle.nntp_wire.{specs.{Command.{list_active}, Reason.{unless, first}}, proofs.Reasons.{so_unless, so_first, so_each}}
-use Rattle.nntp_article.specs.{Article.Parts.{Line, is_empty, is_head, said_id, head_part}, Session.{Spool.{Name}, Machine.{Visible, is_same, is_generic}}}
-use Rattle.nntp_article.specs.Session.{Machine.{is_greeting, is_article_number, are_zeros, is_in_range, code_fits}, Misfit.{Misfit, wrong_code, wrong_name}}
-use Rattle.nntp_article.specs.Session.Misfit.{wrong_number, wrong_id, below_low, wrong_marks, beyond_limit, not_above, beyond_range, unmatched, listed_twice}
-use Rattle.nntp_article.specs.Session.Misfit.{no_head, other_id, name_misfit, marks_misfit, step_misfit, order_misfit, listed_misfit, selected_misfit}
-use Rattle.nntp_article.specs.Session.Misfit.{target_misfit, said_misfit, head_misfit, active_misfit, twice_misfit, step_sent_misfit, code_misfit, misfit}
-use Rattle.nntp_article.specs.{Session.Misfit.{allowed_codes, answered_code}, Inner.Misfit.{marked_by, numbers_of, is_outside, is_unmatched, AreNeighbours}}
-use Rattle.nntp_article.specs.Inner.Misfit.{IsAbove, asked_group, asked_number, asked_id, sent_by, sent_head, names_of, IsTwice, are_out_of_order, have_no_room}
+use Rattle.nntp_article.specs.{Article.Parts.{Line, is_head, said_id}, Session.{Spool.{Name}, Machine.{Visible, is_same, is_generic, is_greeting}}}
+use Rattle.nntp_article.specs.Session.{Machine.{is_article_number, are_zeros, is_in_range, code_fits}, Misfit.{Misfit, wrong_code, wrong_name, wrong_number}}
+use Rattle.nntp_article.specs.Session.Misfit.{wrong_id, below_low, wrong_marks, beyond_limit, not_above, beyond_range, unmatched, listed_twice, no_head}
+use Rattle.nntp_article.specs.Session.Misfit.{other_id, name_misfit, marks_misfit, step_misfit, order_misfit, listed_misfit, selected_misfit, target_misfit}
+use Rattle.nntp_article.specs.Session.Misfit.{said_misfit, head_misfit, active_misfit, twice_misfit, step_sent_misfit, code_misfit, misfit, allowed_codes}
+use Rattle.nntp_article.specs.{Session.Misfit.{answered_code}, Inner.Misfit.{marked_by, numbers_of, is_outside, is_unmatched, AreNeighbours, IsAbove}}
+use Rattle.nntp_article.specs.Inner.Misfit.{asked_group, asked_number, asked_id, sent_by, sent_head, names_of, IsTwice, are_out_of_order, have_no_room}
 use Rattle.nntp_article.specs.{Inner.Misfit.{is_out_of_order, has_wrong_marks, has_parts, lacks_parts}, declared.session.profile.Profile.{Profile}}
 
 so_if : (Q : Misfit → Type 0) (b : Bool) (o : Option Misfit) → (b ≡ false → IfSome o Q) → IfSome (if b then None else o) Q
-so_if Q true o p = tt
-so_if Q false o p = p refl
+so_if Q b o p = grind arith
 
 -- ---- numbers that don't ascend
 
@@ -73,18 +72,13 @@ Tells profile v asked response (wrong_marks name) = has_wrong_marks response nam
 Tells profile v asked response no_head = lacks_parts asked response ≡ true
 
 or_false : (a b : Bool) → (a || b) ≡ false → b ≡ false
-or_false true b e = absurd (true≢false e)
-or_false false b e = e
+or_false a b e = grind arith
 
 -- ---- marks
 
 -- the marks are out of order, or there is no room between them
 disordered : (p a b : Bool) → (a && b) ≡ false → (not (p && a) || not b) ≡ true
-disordered p true true e = absurd (true≢false e)
-disordered true true false e = refl
-disordered false true false e = refl
-disordered true false b e = refl
-disordered false false b e = refl
+disordered p a b e = grind arith
 
 so_marks : (profile : Profile) (v : Visible) (asked : Asked) (response : Response) (name : Name) (m : WaterMarks) → marked_by response ≡ Some (name, m)
     → has_wrong_marks response name ≡ (is_same name name && have_no_room m)
@@ -105,16 +99,14 @@ so_marks profile v asked response name m is given =
     wrong z x = given ∙ and_from (is_same name name) (have_no_room m) ((bytes_decides name name).1 refl) (and_from (not (are_zeros m)) _ (ap not z) x)
 
     above : (o : Option ℕ) → get v.lows name ≡ o → nat_le (unwrap_or o 0) m.low ≡ false → IsAbove v (unwrap_or o 0) (name, m)
-    above None got e = let below = leb-false 0 m.low e in absurd (omega arith)
-    above (Some low) got e = (got, leb-false low m.low e)
+    above o got e = grind (arith, leb-false)
 
 so_selected : (profile : Profile) (v : Visible) (asked : Asked) (response : Response) (why : Misfit) (n : ℕ) → Tells profile v asked response why
     → IfSome (selected_misfit profile v why n) (Tells profile v asked response)
 so_selected profile v asked response why n t = grind arith
 
 none_some : (o : Option Name) → is_some o ≡ false → o ≡ None
-none_some None e = refl
-none_some (Some name) e = absurd (true≢false e)
+none_some o e = grind arith
 
 -- the reason is that of an article that is answered
 abbrev OfSent : Profile → Visible → What → Target → Success → Misfit → Type 0
@@ -130,8 +122,7 @@ so_parsed profile v what which sent b head parts is = grind arith
 
 so_head : (profile : Profile) (v : Visible) (what : What) (which : Target) (sent : Success) (lines : Option (List Line)) → sent.block ≡ lines
     → IfSome (head_misfit what sent.id lines) (OfSent profile v what which sent)
-so_head profile v Article which sent (Some lines) e =
-    so_parsed profile v Article which sent (list_any is_empty lines && is_head (head_part lines)) (head_part lines) (ap (has_parts Article) e) (ap (option_map head_part) e)
+so_head profile v Article which sent (Some lines) e = grind arith
 so_head profile v Article which sent None e = ap (λ b. not (has_parts Article b)) e
 so_head profile v Head which sent (Some lines) e = so_parsed profile v Head which sent (is_head lines) lines (ap (has_parts Head) e) e
 so_head profile v Head which sent None e = ap (λ b. not (has_parts Head b)) e
@@ -155,8 +146,7 @@ so_active profile v response p line listed =
     Q = Tells profile v (to (list_active p)) response
 
     by : (p : Option (List ℕ)) → option_map_or (λ w. matches_name w line.name) p true ≡ false → is_unmatched (to (list_active p)) line.name ≡ true
-    by None e = absurd (true≢false e)
-    by (Some w) e = ap not e
+    by p e = grind arith
 
 -- the lines are among those that the answer lists
 so_actives : (profile : Profile) (v : Visible) (response : Response) (p : Option (List ℕ)) (lines : List ActiveValue)
@@ -212,12 +202,7 @@ all_twice profile v asked lines why t = grind arith
 so_name : (profile : Profile) (v : Visible) (asked : Asked) (response : Response) (why : Misfit) (o : Option Name) (name : Name) (m : WaterMarks)
     → marked_by response ≡ Some (name, m) → asked_group v asked ≡ o → Tells profile v asked response why
     → IfSome (name_misfit why o name) (Tells profile v asked response)
-so_name profile v asked response why None name m marked is t = t
-so_name profile v asked response why (Some word) name m marked is t =
-    so_unless (Tells profile v asked response) (is_same name word) (wrong_name name) (λ e. (
-      subst (λ o. MatchOption o ⊥ (λ marked. marked.0 ≡ name)) (sym marked) refl,
-      subst (λ o. MatchOption o ⊥ (λ word. is_same name word ≡ false)) (sym is) e,
-    ))
+so_name profile v asked response why o name m marked is t = grind arith
 
 so_step_sent : (profile : Profile) (v : Visible) (asked : Asked) (sent : Success)
     → IfSome (step_sent_misfit profile v (code_misfit v asked sent.code) sent) (Tells profile v asked (sends sent))
