@@ -1,4 +1,4 @@
-use Rattle.std.{proofs.Common.{ap, sym, ◌∙◌, ◌&&◌, subst, cond, arith, None, Some}, specs.Prelude.{MatchOption}}
+use Rattle.std.{proofs.Common.{ap, sym, ◌∙◌, ◌&&◌, subst, cond, arith, None, Some, rules}, specs.Prelude.{MatchOption}}
 use Rattle.nntp_intervals.specs.Inner.Intervals.{IsLeastFree, IsFullFrom}
 use Rattle.nntp_theory.specs.Given.{wants}
 use Rattle.nntp_numbers.{specs.Inner.Summary.{has, PassSoMany}, proofs.UnseenNumbers.{met, none_free, one_free}}
@@ -11,11 +11,7 @@ returns-in_default g c =
     c.how_many_wanted.ensures) c.in_default.not-Absent
 
 pub returns-in_err-n : goal.returns-in_err-n
-returns-in_err-n g c =
-    c.from_residual.ensures ∙ none_free c.args.self.now c.how_many_wanted.result
-    (subst (λ s. PassSoMany (λ n. has s.shown n && wants s.demand n) c.how_many_wanted.result) c.self.view_is
-    c.how_many_wanted.ensures) c.in-Absent.is
-    (subst (λ s. IsFullFrom s.denied 1) c.self.view_is (subst (λ o. MatchOption o (IsFullFrom c.self.inside.denied 1) (IsLeastFree c.self.inside.denied 1)) c.in_err-n.was c.least_free_from.ensures))
+returns-in_err-n g c = search (rules, none_free)
 
 pub returns-then-wants : goal.returns-then-wants
 returns-then-wants g c =
