@@ -1,16 +1,12 @@
-use Rattle.std.proofs.Common.{sym, ◌∙◌, ap}
+use Rattle.std.proofs.Common.{◌∙◌, ap, rules}
 use Rattle.nntp_article.{specs.Article.Parts.{skip_last_blanks}, proofs.ArticleLemmas.ContentLemmas.{leads-start, leads-more, leads-end}}
 use Rattle.nntp_article.proofs.article.header.content.Goals as goal
 
 pub loop-line-init : goal.loop-line-init
-loop-line-init g c =
-    leads-start c.append.new.octets.items c.split_at_colon.result.1.now c.args.header.now c.in-Some.first.now c.next.new.self c.new-octets.result.items
-    (sym c.header.view_is ∙ sym c.lines-lines.ensures.lines ∙ c.in-Some.ensures.steps) c.split_at_colon.ensures.value c.new-octets.ensures.items c.in_ok-append.ensures
+loop-line-init g c = search (rules, leads-start)
 
 pub loop-line-preserved : goal.loop-line-preserved
-loop-line-preserved g c =
-    leads-more c.loop-line.octets.items c.append-in-Some-next.new.octets.items c.loop-line.lines c.next-in-loop-line.new.self c.in-Some-next.line.now c.args.header.now
-    c.loop-line.invariant c.in-Some-next.ensures.steps c.in_ok-append-2.ensures
+loop-line-preserved g c = search (rules, leads-more)
 
 pub returns : goal.returns
 returns g c =

@@ -1,18 +1,9 @@
-use Rattle.std.proofs.{Common.{arith, ap, length, sym, ◌∙◌}, lemmas.List.Sums.{prefix_len-le-length}}
-use Rattle.nntp_article.{specs.Article.Parts.{is_continuation}, proofs.ArticleLemmas.HeadLemmas.{split-headers, split-is_header}}
+use Rattle.std.proofs.{Common.{sym, ◌∙◌, rules}, lemmas.List.Sums.{prefix_len-le-length}}
+use Rattle.nntp_article.proofs.ArticleLemmas.HeadLemmas.{split-headers, split-is_header}
 use Rattle.nntp_article.proofs.article.header.split_header.Goals as goal
 
 pub overflow_add-continuation_len : goal.overflow_add-continuation_len
-overflow_add-continuation_len c =
-    omega (
-      arith,
-      prefix_len-le-length is_continuation c.next.new.self,
-      c.continuation_len.ensures,
-      ap length
-          c.in_ok-first.ensures.steps,
-      c.lines-rest.ensures.short,
-      ap length c.lines-rest.ensures.lines,
-    )
+overflow_add-continuation_len c = search (rules, prefix_len-le-length)
 
 pub invariant_of-result : goal.invariant_of-result
 invariant_of-result c =

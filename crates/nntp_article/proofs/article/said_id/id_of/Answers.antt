@@ -1,4 +1,4 @@
-use Rattle.std.proofs.Common.{◌≡◌, List, [], ◌∷◌, length, Option, refl, sym, ap, ◌∙◌, arith}
+use Rattle.std.proofs.{Common.{◌≡◌, List, [], ◌∷◌, length, Option, sym, ap, ◌∙◌, arith, rules}, lemmas.Grind.{common_steps}}
 use Rattle.nntp_wire.specs.Inner.Held.{held}
 use Rattle.nntp_article.specs.{Article.Parts.{Line, Id}, Inner.SaidId.{id_by}, declared.article.said_id.SaidId.{SaidId}}
 use Rattle.nntp_article.proofs.article.said_id.id_of.Goals as goal
@@ -14,12 +14,10 @@ loop-line-preserved g c =
     c.deref.ensures.value (ap held c.in-Some.ensures.cases.0) c.loop-line.invariant
 
 none : {X : Type 0} (xs : List X) → length xs ≡ 0 → xs ≡ []
-none [] e = refl
-none (x ∷ xs) e = absurd (omega arith)
+none xs e = grind (arith, common_steps)
 
 pub returns : goal.returns
-returns g c =
-    c.id.ensures ∙ ap (λ left. id_by c.loop-line.said (held left)) (sym (none c.loop-line.rest.now c.in_default.ensures.cases)) ∙ c.loop-line.invariant
+returns g c = search (rules, none)
 
 pub loop-line-init : goal.loop-line-init
 loop-line-init g c = c.new-said.ensures (held c.args.lines.now)

@@ -1,12 +1,11 @@
-use Rattle.std.{proofs.{Common.{◌∙◌, ap}, lemmas.Bool.{false_from_ne_true}}, specs.List.{flat_map}}
+use Rattle.std.{proofs.{Common.{◌∙◌, ap, rules}, lemmas.Bool.{false_from_ne_true}}, specs.List.{flat_map}}
 use Rattle.nntp_wire.specs.Words.{words_of}
-use Rattle.nntp_article.{specs.Inner.SaidId.{names_id, id_with, ids_behind}, proofs.ArticleLemmas.{HeadLemmas.{more}, SaidLemmas.{begun-other, begun-first}}}
-use Rattle.nntp_article.proofs.{ArticleLemmas.SaidLemmas.{begun-again}, article.said_id.SaidId.begin.Goals.{in-NoHeader, in_default-found}}
+use Rattle.nntp_article.{specs.Inner.SaidId.{id_with, ids_behind}, proofs.ArticleLemmas.{HeadLemmas.{more}, SaidLemmas.{begun-other, begun-first, begun-again}}}
+use Rattle.nntp_article.proofs.article.said_id.SaidId.begin.Goals.{in-NoHeader, in_default-found}
 use Rattle.nntp_article.proofs.article.said_id.SaidId.begin.Goals as goal
 
 pub returns-in_default : goal.returns-in_default
-returns-in_default c = λ lines.
-    begun-other c.args.self.found c.args.self.is_open c.args.line.now lines c.requires (false_from_ne_true (names_id c.args.line.now) c.in_default.ensures)
+returns-in_default c = search (rules, begun-other, false_from_ne_true)
 
 pub returns : goal.returns
 returns c = λ lines. elim c.match-self.branch [

@@ -1,6 +1,5 @@
-use Rattle.std.proofs.{Common.{◌≡◌, ◌∙◌, ℕ, Option, None, Some, IsTrue, false, arith, ap, sym, subst, cond}, lemmas.Bool.{false≢true, Decides.{nat_tests}}}
-use Rattle.std.{proofs.lemmas.Slice.Eq.{bytes_eq-Decides}, specs.{Prelude.{nat_eq}, Option.{option_eq}, Ordering.{nat_cmp}, Cmp.Lexicographic.{slice_cmp}}}
-use Rattle.std.specs.Cmp.Lexicographic.{nat_list_cmp_total}
+use Rattle.std.proofs.{Common.{◌≡◌, ◌∙◌, ℕ, Option, Some, IsTrue, false, ap, sym, subst, cond, rules}, lemmas.Slice.Eq.{bytes_eq-Decides}}
+use Rattle.std.specs.{Prelude.{nat_eq}, Option.{option_eq}, Ordering.{nat_cmp}, Cmp.Lexicographic.{slice_cmp, nat_list_cmp_total}}
 use Rattle.nntp_wire.proofs.ShownMaps.{insert-same}
 use Rattle.nntp_article.specs.Session.Machine.{are_zeros}
 use Rattle.std.specs.FinMap as map
@@ -8,8 +7,7 @@ use Rattle.nntp_article.proofs.session.visible.Visible.is_noted.Goals as goal
 
 -- a number that is there
 same-number : (found : Option ℕ) (n : ℕ) → IsTrue (option_eq nat_eq found (Some n)) → found ≡ Some n
-same-number None n is = absurd (false≢true is)
-same-number (Some m) n is = ap Some (let e : m ≡ n = grind (arith, nat_tests) in e)
+same-number found n is = search rules
 
 pub returns-else-are_zeros : goal.returns-else-are_zeros
 returns-else-are_zeros g c = λ is.

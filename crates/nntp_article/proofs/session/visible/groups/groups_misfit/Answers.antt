@@ -1,4 +1,4 @@
-use Rattle.std.{proofs.Common.{◌≡◌, ℕ, ◌+◌, List, [], ◌∷◌, map, drop, Option, None, Some, refl, sym, ap, ◌∙◌}, specs.Option.{option_or}}
+use Rattle.std.{proofs.Common.{◌≡◌, ℕ, ◌+◌, List, [], ◌∷◌, map, drop, Option, None, Some, sym, ap, ◌∙◌, rules}, specs.Option.{option_or}}
 use Rattle.nntp_wire.specs.{Inner.View.{active_value}, Listing.{ActiveValue}, Reason.{first}}
 use Rattle.nntp_article.specs.{Session.{Spool.{Name}, Misfit.{Misfit, active_misfit, twice_misfit}}, declared.session.profile.Profile.{Profile}}
 use Rattle.nntp_article.{specs.Inner.MisfitView.{why_if}, proofs.SessionLemmas.{LinesLeft.{next_left}, Misfits.{why_or}, NamesInASet.{names_in, taken, free}}}
@@ -11,14 +11,10 @@ left_behind : (profile : Profile) (p : Option (List ℕ)) (line : ActiveValue) (
     → lines ≡ line ∷ rest → None ≡ active_misfit profile p line → option_or new (twice_misfit more rest) ≡ option_or twice (twice_misfit old (line ∷ rest))
     → first (first (map (active_misfit profile p) lines) ∷ option_or twice (twice_misfit old lines) ∷ []) ≡ all
     → first (first (map (active_misfit profile p) rest) ∷ option_or new (twice_misfit more rest) ∷ []) ≡ all
-left_behind profile p line rest lines old more twice new all steps fits same known =
-    ap (λ o. first (first (map (active_misfit profile p) rest) ∷ o ∷ [])) same
-    ∙ ap (λ o. first (first (o ∷ map (active_misfit profile p) rest) ∷ option_or twice (twice_misfit old (line ∷ rest)) ∷ [])) fits
-    ∙ ap (λ lines. first (first (map (active_misfit profile p) lines) ∷ option_or twice (twice_misfit old lines) ∷ [])) (sym steps) ∙ known
+left_behind profile p line rest lines old more twice new all steps fits same known = search rules
 
 first_kept : (a : Option Misfit) (why : Misfit) (b : Option Misfit) → option_or (option_or a (Some why)) b ≡ option_or a (Some why)
-first_kept None why b = refl
-first_kept (Some a) why b = refl
+first_kept a why b = search rules
 
 pub loop-group-preserved : goal.loop-group-preserved
 loop-group-preserved g c =
