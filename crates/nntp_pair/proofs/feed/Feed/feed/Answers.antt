@@ -1,7 +1,6 @@
-use Rattle.std.proofs.Common.{◌≡◌, ◌∙◌, ◌++◌, ◌+◌, ◌*◌, ◌^◌, ◌<◌, ◌≤◌, ℕ, List, length, arith, ap, sym, subst, length-append}
-use Rattle.nntp_pair.specs.Inner.{Feeding.{Fed, IsFed, with_octets}, Sides.{given, count_of}, Searching.{IsInStep}}
-use Rattle.nntp_pair.{specs.declared.{octet_counts.OctetCounts.{OctetCounts}, side.Side.TheVariants.{Client, Server}}, proofs.FeedLemmas.{searched-more}}
-use Rattle.nntp_pair.proofs.FeedLemmas.{in-step, fed-more, counted-small}
+use Rattle.std.proofs.{Common.{◌≡◌, ◌∙◌, ◌++◌, ◌+◌, ◌*◌, ◌^◌, ◌<◌, ◌≤◌, ℕ, List, length, arith, ap, sym, subst, length-append}, lemmas.Grind.{common_steps}}
+use Rattle.nntp_pair.specs.{Inner.{Feeding.{with_octets}, Sides.{given}, Searching.{IsInStep}}, declared.octet_counts.OctetCounts.{OctetCounts}}
+use Rattle.nntp_pair.{specs.declared.side.Side.TheVariants.{Client, Server}, proofs.FeedLemmas.{searched-more, in-step, fed-more, counted-small}}
 use Rattle.nntp_pair.proofs.feed.Feed.feed.Goals as goal
 
 pub invariant_of-self : goal.invariant_of-self
@@ -41,10 +40,4 @@ returns g c =
       counts = c.in-Some.ensures.1 k;
       has_failed = i.has_failed;
     }) ∙ ap (with_octets client server) c.self.view_is in
-    record {
-      worked = sym (ap (λ (f : Fed). f.has_failed) c.self.view_is) ∙ c.if-self.false;
-      room = subst (λ (f : Fed). count_of c.args.side f.counts + length c.args.piece.now < 2 ^ 64) c.self.view_is c.in-Some.ensures.0;
-      value = value;
-      fed = λ of_client of_server pairs came. subst (λ f. IsFed f (of_client ++ client) (of_server ++ server) pairs) (sym value)
-          (fed-more c.args.self.now client server of_client of_server pairs came);
-    }
+    grind (arith, common_steps, fed-more)
