@@ -106,8 +106,7 @@ pub nothing : (left : Unpaired) → left.is_closed ≡ false → ((place : Optio
     → (¬ (HasNext left)) × ((class : PairClass) → ¬ (EndsForGood class left))
 nothing left is_open cut = (λ next. no_next next.0 next.1 next.2, for_good) where
   no_next : (pair : Paired) (behind : Unpaired) → IsNext left pair behind → ⊥
-  no_next pair behind next =
-      cut pair.line (record { is_open = next.is_open; places = behind.places; first = next.place }) pair.initial next.answered.block behind.server next.answered.frame
+  no_next pair behind next = search arith
 
   for_good : (class : PairClass) → ¬ (EndsForGood class left)
   for_good Surplus (ends, closed) = false≢true (sym is_open ∙ closed)

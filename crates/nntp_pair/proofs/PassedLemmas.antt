@@ -19,7 +19,6 @@ pub one-passed : (a b c : Unpaired) (line also : Option (List ℕ)) (initial oth
     → IsPassedOver a line initial block b → IsPassedOver a also other next c → (line ≡ also) × (initial ≡ other) × (block ≡ next) × (b ≡ c)
 one-passed a b c line also initial other block next p q =
     let same : line ≡ also = cc in
-    let behind : b.places ≡ c.places = cc in
     let here : HasFrame (asked_at also) a.server initial block b.server = subst (λ l. HasFrame (asked_at l) a.server initial block b.server) same p.frame in
     let one = one-frame (asked_at also) a.server initial other block next b.server c.server here q.frame in
     grind (arith, same_unpaired)
@@ -45,8 +44,7 @@ passed-exactly a = (
 
 -- a frame has a block exactly where one is due
 as-due : (asked : Asked) (sent : Option (List ℕ)) (o : Option ℕ) → is_some sent ≡ is_due_by asked o → MatchOption o ⊥ (λ code. is_some sent ≡ not (is_block_due asked code)) → ⊥
-as-due asked sent None due other = other
-as-due asked sent (Some code) due other = grind arith
+as-due asked sent o due other = grind arith
 
 -- so there is a reason, and it isn't that
 pub passed-reason : (a b : Unpaired) (line : Option (List ℕ)) (initial : List ℕ) (block : Option (List ℕ)) → IsPassedOver a line initial block b

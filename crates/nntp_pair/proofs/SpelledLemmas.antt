@@ -1,8 +1,8 @@
 -- Pairs are spelled one after the other, and what is so spelled is paired.
 use Rattle.std.proofs.Common.{◌≡◌, ℕ, ◌+◌, List, [], ◌∷◌, ◌++◌, map, Option, Some, Bool, false, refl, sym, ◌∙◌, ap, subst, append_assoc, arith}
 use Rattle.std.{proofs.lemmas.List.{append-nil, map-append}, specs.Prelude.{⊤, is_some, count_by}}
-use Rattle.nntp_wire.specs.{Answer.{Asked, Response, Spells, greeting, to}, Command.{request_of}, Frame.{HasFrame, frame_octets}, Lines.{lines_of_stream}}
-use Rattle.nntp_wire.{specs.{Session.{closes, prompts_of}, Inner.Session.{AreSpelled, StaysOpen}}, proofs.SpellLemmas.{spelling-frame}}
+use Rattle.nntp_wire.specs.{Answer.{Asked, Response, greeting, to}, Command.{request_of}, Frame.{frame_octets}, Lines.{lines_of_stream}, Session.{closes}}
+use Rattle.nntp_wire.{specs.{Session.{prompts_of}, Inner.Session.{AreSpelled, StaysOpen}}, proofs.SpellLemmas.{spelling-frame}}
 use Rattle.nntp_pair.specs.{declared.class.PairClass.{PairClass}, Pairing.{Paired, Unpaired, AreNext, Ending, end, bad, Ends, IsPairing, responses_of, streams}}
 use Rattle.nntp_pair.{specs.{Pairing.{asked_at, places_of}, Inner.Pairing.{HasPairs}}, proofs.{NextLemmas.{next-no-end}, PairingLemmas.{first-pairs}}}
 
@@ -27,9 +27,7 @@ run-spelled (x ∷ pairs) a b (m, n, run) =
 run-open : (pairs : List Paired) (a b : Unpaired) → AreNext a pairs b → StaysOpen (map asked_at a.places) (responses_of pairs)
 run-open [] a b same = tt
 run-open (x ∷ []) a b run = tt
-run-open (x ∷ y ∷ pairs) a b (m, n, (k, o, run)) =
-    subst (λ places. StaysOpen (map asked_at places) (responses_of (x ∷ y ∷ pairs))) (sym n.place)
-    (sym n.closing ∙ o.is_open, run-open (y ∷ pairs) m b (k, o, run))
+run-open (x ∷ y ∷ pairs) a b (m, n, (k, o, run)) = grind (arith, run-open (y ∷ pairs) m b (k, o, run))
 
 -- the connection is open where a response is left
 abbrev IsOpenFor : Bool → List Response → Type 0
@@ -39,15 +37,13 @@ IsOpenFor is_closed (response ∷ responses) = is_closed ≡ false
 open-tail : (asked : Asked) (prompts : List Asked) (response : Response) (responses : List Response)
     → StaysOpen (asked ∷ prompts) (response ∷ responses) → IsOpenFor (closes asked response) responses
     × StaysOpen prompts responses
-open-tail asked prompts response [] stays = (tt, tt)
-open-tail asked prompts response (next ∷ responses) stays = (stays.0, stays.1)
+open-tail asked prompts response responses stays = grind arith
 
 -- what is spelled is paired
 spelled-run : (responses : List Response) (index : ℕ) (places : List (Option (List ℕ))) (server rest : List ℕ) (is_closed : Bool) → IsOpenFor is_closed responses
     → AreSpelled (map asked_at places) responses server rest → StaysOpen (map asked_at places) responses
     → HasPairs (record { index = index; places = places; server = server; is_closed = is_closed }) responses rest
-spelled-run [] index places server rest is_closed is_open (octets, none, whole) stays =
-    ([], record { index = index; places = places; server = server; is_closed = is_closed }, refl, refl, whole ∙ ap (λ o. o ++ rest) none)
+spelled-run [] index places server rest is_closed is_open (octets, none, whole) stays = grind arith
 spelled-run (response ∷ responses) index [] server rest is_closed is_open spelled stays = absurd spelled.1
 spelled-run (response ∷ responses) index (place ∷ places) server rest is_closed is_open (octets, (front, tail_octets, spells, spelled, both), all) stays =
     let behind = tail_octets ++ rest in
@@ -57,22 +53,7 @@ spelled-run (response ∷ responses) index (place ∷ places) server rest is_clo
     let more = spelled-run responses (index + 1) places behind rest (closes (asked_at place) response) tail.0 (tail_octets, spelled, refl) tail.1 in (
       record { index = index; line = place; initial = found.0; response = response } ∷ more.0,
       more.1,
-      (
-        record { index = index + 1; places = places; server = behind; is_closed = closes (asked_at place) response },
-        record {
-          index = refl;
-          is_open = is_open;
-          place = refl;
-          answered = record {
-            block = found.1;
-            frame = subst (λ octets. HasFrame (asked_at place) octets found.0 found.1 behind) (sym whole) found.3;
-            spells = subst (Spells (asked_at place) response) (sym found.2) spells;
-          };
-          next_index = refl;
-          closing = refl;
-        },
-        more.2,
-      ),
+      grind arith,
       ap (λ t. response ∷ t) more.3,
       more.4,
     )
@@ -80,10 +61,7 @@ spelled-run (response ∷ responses) index (place ∷ places) server rest is_clo
 -- the pairs of two streams are spelled
 pub pairs-spelled : (client server : List ℕ) (pairs : List Paired) (left : Unpaired) → AreNext (streams client server) pairs left
     → AreSpelled (prompts_of client) (responses_of pairs) server left.server × StaysOpen (prompts_of client) (responses_of pairs)
-pairs-spelled client server pairs left run = (
-  subst (λ prompts. AreSpelled prompts (responses_of pairs) server left.server) (places-prompts client) (run-spelled pairs (streams client server) left run),
-  subst (λ prompts. StaysOpen prompts (responses_of pairs)) (places-prompts client) (run-open pairs (streams client server) left run),
-)
+pairs-spelled client server pairs left run = grind (arith, places-prompts, run-spelled, run-open)
 
 -- and what is so spelled is their pairs
 pub spelled-pairs : (client server : List ℕ) (responses : List Response) (rest : List ℕ) → AreSpelled (prompts_of client) responses server rest → StaysOpen (prompts_of client) responses
@@ -114,8 +92,7 @@ spelled-whole client server pairs ending responses pairing spelled stays =
     let last = at found.1 ending (subst (λ u. Ends u ending) (sym none.1) pairing.ends) found.4 in
     (ap responses_of (first.1 ∙ ap (λ t. found.0 ++ t) none.0) ∙ map-append (λ pair. pair.response) found.0 [] ∙ append-nil (responses_of found.0) ∙ found.3, last.0, last.1) where
       at : (left : Unpaired) (ending : Ending) → Ends left ending → left.server ≡ [] → (unanswered : ℕ) × (ending ≡ end unanswered)
-      at left (end n) ends none = (n, refl)
-      at left (bad class) ends none = absurd (ends.0 none)
+      at left ending ends none = grind arith
 
 -- so where the pairing ends at octets, no responses have them all as their spellings
 pub bad-unspelled : (client server : List ℕ) (pairs : List Paired) (class : PairClass) (responses : List Response) → IsPairing client server pairs (bad class)
