@@ -1,11 +1,10 @@
 -- What a feed tells is determined, stays, and is the pairing of what came.
 use Rattle.std.proofs.{Common.{◌≡◌, ◌≢◌, ℕ, List, [], ◌++◌, length, true, false, refl, sym, ◌∙◌, ap, subst, arith}, lemmas.List.{append-nil}}
 use Rattle.std.{proofs.lemmas.Bool.{false≢true}, specs.Prelude.{nat_lt}}
-use Rattle.nntp_pair.specs.{declared.{class.PairClass.{PairClass}, peek.Peek.{Peek}}, Pairing.{Paired, IsNext, IsBad, AreNext, IsPairing, end, bad, streams}}
-use Rattle.nntp_pair.specs.Inner.{Pairing.{IsLasting, with_more}, Feeding.{Fed, IsFed, IsPeek, IsEnding, left_of, with_octets}, Searching.{left_from}}
+use Rattle.nntp_pair.specs.{declared.{class.PairClass.{PairClass}, peek.Peek.{Peek}}, Pairing.{Paired, IsNext, IsBad, AreNext, bad, streams}}
+use Rattle.nntp_pair.specs.Inner.{Pairing.{IsLasting, with_more}, Feeding.{Fed, IsFed, IsPeek, left_of, with_octets}, Searching.{left_from}}
 use Rattle.nntp_pair.proofs.{NextLemmas.{one-next, next-no-end}, PairingLemmas.{index-counts, next-more, bad-stays, some-stay}, FeedLemmas.{places-more}}
 use Rattle.nntp_pair.specs.declared.peek.Peek.TheVariants as peek
-use Rattle.nntp_pair.specs.declared.ending.Ending.TheVariants as ending
 
 -- a feed that has failed tells nothing else
 failed : (fed : Fed) → fed.has_failed ≡ false → fed.has_failed ≡ true → ⊥
@@ -63,13 +62,3 @@ fed-paired fed client server pairs is = (run, index-counts client server pairs (
       (subst (λ t. AreNext (streams (client ++ []) t) pairs (left_of fed)) (append-nil server)
       (subst (λ t. AreNext (streams (client ++ []) (server ++ [])) pairs (left_from fed.index fed.is_closed t fed.server)) (append-nil fed.client)
       (subst (λ t. AreNext (streams (client ++ []) (server ++ [])) pairs (left_from fed.index fed.is_closed (fed.client ++ []) t)) (append-nil fed.server) (is.paired [] []))))
-
-pub end-pairing : (fed : Fed) (client server : List ℕ) (pairs : List Paired) (unanswered : ℕ) → IsFed fed client server pairs
-    → IsEnding fed (ending.End unanswered) → IsPairing client server pairs (end unanswered)
-end-pairing fed client server pairs unanswered is (sound, ends) = record { left = left_of fed; paired = (fed-paired fed client server pairs is).0; ends = ends }
-
-pub bad-pairing : (fed : Fed) (client server : List ℕ) (pairs : List Paired) (index : ℕ) (class : PairClass) → IsFed fed client server pairs → IsEnding fed (ending.Bad index class)
-    → IsPairing client server pairs (bad class) × (index ≡ length pairs)
-bad-pairing fed client server pairs index class is (sound, same, ends) =
-    let paired = fed-paired fed client server pairs is in
-    (record { left = left_of fed; paired = paired.0; ends = ends }, same ∙ paired.1)

@@ -3,8 +3,7 @@ use Rattle.std.proofs.Common.{◌≡◌, ◌≢◌, ℕ, ◌+◌, List, [], ◌�
 use Rattle.std.proofs.lemmas.List.{map-append}
 use Rattle.nntp_wire.{specs.Frame.{HasFrame}, proofs.StreamLemmas.{lines-joined}}
 use Rattle.nntp_pair.specs.{declared.class.PairClass.{PairClass, TheVariants.{Malformed}}, Pairing.{Paired, Unpaired, IsNext, AreNext, Awaits, IsBad, Ending}}
-use Rattle.nntp_pair.{specs.{Pairing.{bad, Ends, IsPairing, streams, asked_at, places_of}, Inner.Pairing.{IsLasting, with_more}}, proofs.NextLemmas.{one-next}}
-use Rattle.nntp_pair.proofs.NextLemmas.{next-no-end, one-end}
+use Rattle.nntp_pair.{specs.{Pairing.{Ends, streams, asked_at}, Inner.Pairing.{IsLasting, with_more}}, proofs.NextLemmas.{one-next, next-no-end}}
 
 -- one more pair
 pub AreNext-push : (pairs : List Paired) (a b c : Unpaired) (x : Paired) → AreNext a pairs b → IsNext b x c → AreNext a (pairs ++ (x ∷ [])) c
@@ -19,13 +18,9 @@ index-count (x ∷ pairs) a b (m, n, run) = grind (arith, index-count pairs m b 
 pub index-counts : (client server : List ℕ) (pairs : List Paired) (left : Unpaired) → AreNext (streams client server) pairs left → left.index ≡ length pairs
 index-counts client server pairs left run = let all : left.index ≡ 0 + length pairs = index-count pairs (streams client server) left run in omega arith
 
-run-places : (pairs : List Paired) (a b : Unpaired) → AreNext a pairs b → drop (length pairs) a.places ≡ b.places
+pub run-places : (pairs : List Paired) (a b : Unpaired) → AreNext a pairs b → drop (length pairs) a.places ≡ b.places
 run-places [] a b same = ap (λ u. u.places) same
 run-places (x ∷ pairs) a b (m, n, run) = ap (drop (length (x ∷ pairs))) n.place ∙ run-places pairs m b run
-
--- the places that are left are those behind the pairs
-pub places-left : (client server : List ℕ) (pairs : List Paired) (left : Unpaired) → AreNext (streams client server) pairs left → drop (length pairs) (places_of client) ≡ left.places
-places-left client server pairs left run = run-places pairs (streams client server) left run
 
 -- pairs that come next are the first of all pairs up to the end
 pub first-pairs : (pairs others : List Paired) (a b c : Unpaired) (e : Ending) → AreNext a pairs b → Ends b e → AreNext a others c
@@ -45,11 +40,6 @@ one-run (x ∷ pairs) [] a b c e f (m, n, p) ends q also = absurd (next-no-end f
 one-run (x ∷ pairs) (y ∷ others) a b c e f (m, n, p) ends (k, o, q) also =
     let one = one-next a m k x y n o in
     grind (arith, one-run pairs others k b c e f (subst (λ u. AreNext u pairs b) one.1 p) ends q also)
-
--- streams have one pairing
-pub one-pairing : (client server : List ℕ) (pairs others : List Paired) (ending other : Ending)
-    → IsPairing client server pairs ending → IsPairing client server others other → (pairs ≡ others) × (ending ≡ other)
-one-pairing client server pairs others ending other p q = grind (arith, one-run, one-end)
 
 -- a frame stays with octets behind it
 pub frame-more : (place : Option (List ℕ)) (server line : List ℕ) (block : Option (List ℕ)) (rest octets : List ℕ)
@@ -93,10 +83,3 @@ bad-stays class places octets left lasting why = grind arith
 pub some-stay : (octets more : List ℕ) → octets ≢ [] → octets ++ more ≢ []
 some-stay [] more some none = some refl
 some-stay (b ∷ octets) more some none = cc
-
--- and so does the pairing
-pub pairing-stays : (client server client_more server_more : List ℕ) (pairs : List Paired) (class : PairClass) (pairing : IsPairing client server pairs (bad class))
-    → IsLasting class pairing.left → IsPairing (client ++ client_more) (server ++ server_more) pairs (bad class)
-pairing-stays client server client_more server_more pairs class pairing lasting =
-    let stays = pairs-stay client server client_more server_more pairs pairing.left pairing.paired in
-    grind (arith, some-stay, bad-stays)

@@ -3,8 +3,8 @@ use Rattle.std.proofs.Common.{◌≡◌, ℕ, ◌+◌, List, [], ◌∷◌, ◌+
 use Rattle.std.{proofs.lemmas.List.{append-nil, map-append}, specs.Prelude.{⊤, is_some, count_by}}
 use Rattle.nntp_wire.specs.{Answer.{Asked, Response, greeting, to}, Command.{request_of}, Frame.{frame_octets}, Lines.{lines_of_stream}, Session.{closes}}
 use Rattle.nntp_wire.{specs.{Session.{prompts_of}, Inner.Session.{AreSpelled, StaysOpen}}, proofs.SpellLemmas.{spelling-frame}}
-use Rattle.nntp_pair.specs.{declared.class.PairClass.{PairClass}, Pairing.{Paired, Unpaired, AreNext, Ending, end, bad, Ends, IsPairing, responses_of, streams}}
-use Rattle.nntp_pair.{specs.{Pairing.{asked_at, places_of}, Inner.Pairing.{HasPairs}}, proofs.{NextLemmas.{next-no-end}, PairingLemmas.{first-pairs}}}
+use Rattle.nntp_pair.specs.Pairing.{Paired, Unpaired, AreNext, Ending, end, Ends, IsPairing, responses_of, streams, asked_at, places_of}
+use Rattle.nntp_pair.{specs.Inner.Pairing.{HasPairs}, proofs.{NextLemmas.{next-no-end}, PairingLemmas.{first-pairs}}}
 
 -- what is asked at the places of a client
 map-asked : (lines : List (List ℕ)) → map asked_at (map Some lines) ≡ map (λ line. to (request_of line)) lines
@@ -68,14 +68,6 @@ pub spelled-pairs : (client server : List ℕ) (responses : List Response) (rest
     → HasPairs (streams client server) responses rest
 spelled-pairs client server responses rest spelled stays = grind (arith, spelled-run, places-prompts)
 
--- responses that are spelled are the first of the pairing's
-pub spelled-first : (client server : List ℕ) (pairs : List Paired) (ending : Ending) (responses : List Response) (rest : List ℕ) → IsPairing client server pairs ending
-    → AreSpelled (prompts_of client) responses server rest → StaysOpen (prompts_of client) responses → (more : List Response) × (responses_of pairs ≡ responses ++ more)
-spelled-first client server pairs ending responses rest pairing spelled stays =
-    let found = spelled-pairs client server responses rest spelled stays in
-    let first = first-pairs pairs found.0 (streams client server) pairing.left found.1 ending pairing.paired pairing.ends found.2 in
-    (responses_of first.0, ap responses_of first.1 ∙ map-append (λ pair. pair.response) found.0 first.0 ∙ ap (λ t. t ++ responses_of first.0) found.3)
-
 -- nothing comes next where no octet is left
 run-none : (pairs : List Paired) (a b : Unpaired) → a.server ≡ [] → AreNext a pairs b → (pairs ≡ []) × (a ≡ b)
 run-none [] a b none same = (refl, same)
@@ -93,10 +85,3 @@ spelled-whole client server pairs ending responses pairing spelled stays =
     (ap responses_of (first.1 ∙ ap (λ t. found.0 ++ t) none.0) ∙ map-append (λ pair. pair.response) found.0 [] ∙ append-nil (responses_of found.0) ∙ found.3, last.0, last.1) where
       at : (left : Unpaired) (ending : Ending) → Ends left ending → left.server ≡ [] → (unanswered : ℕ) × (ending ≡ end unanswered)
       at left ending ends none = grind arith
-
--- so where the pairing ends at octets, no responses have them all as their spellings
-pub bad-unspelled : (client server : List ℕ) (pairs : List Paired) (class : PairClass) (responses : List Response) → IsPairing client server pairs (bad class)
-    → StaysOpen (prompts_of client) responses → ¬ (AreSpelled (prompts_of client) responses server [])
-bad-unspelled client server pairs class responses pairing stays spelled =
-    let whole = spelled-whole client server pairs (bad class) responses pairing spelled stays in
-    cc
