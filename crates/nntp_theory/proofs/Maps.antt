@@ -148,8 +148,7 @@ module _ {K : Type 0} (R : K → K → Ordering) (o : IsTotalOrder R) (same : Is
   of_key_map ks q i = by (get (key_map ks) q) refl (of_key o same (key_map ks) q i)
     where
       by : (r : Option (List ℕ)) → get (key_map ks) q ≡ r → IsSome r → In q ks
-      by None e i = cc
-      by (Some v) e i = (get-made_of o same (λ k. []) ks q v e).0
+      by r e i = grind (arith, get-made_of)
 
 -- ---- the keys alone
 

@@ -6,7 +6,7 @@ use Rattle.std.specs.Cmp.Lexicographic.{same_text}
 use Rattle.nntp_wire.specs.declared.{command.What.{What}, marks.Marks.TheVariants.{Lenient}}
 use Rattle.nntp_article.{proofs.SessionLemmas.FiniteMapsDecided.{Dec, dec_some, dec_texts, dec_lists}, specs.{Article.Parts.{Id, Line}, Session.Spool.{Name}}}
 use Rattle.nntp_article.specs.{Session.{Spool.{Numbers, numbers}, Machine.{is_same}}, declared.session.profile.Profile.{Profile}}
-use Rattle.nntp_said.specs.{Asks.{Ask}, Facts.{Fact, ThereIs, ThereIsNo, Asks, IdAt, TextIs, NoArticle, GroupsAre}}
+use Rattle.nntp_said.specs.{Asks.{Ask}, Facts.{Fact, ThereIs, IdAt, TextIs, GroupsAre}}
 use Rattle.nntp_theory.specs.Given.{asks_of, is_shown_group, shows_group, first_given, id_in, head_in, body_in, is_known, is_denied, demand, IsGivenNumber}
 use Rattle.nntp_theory.specs.{Given.{HasGivenNumbers}, Inner.{Given.{size}, Together.{IsWellFormed, Together}, Conflict.{FitsThere}}, Together.{is_possible}}
 use Rattle.nntp_theory.specs.{Together.{MeetsDemand, IsFewFor, denies_group, number_in, shows_article, denies_article, GiveOne}, Conflict.{Placed, told}}
@@ -223,12 +223,7 @@ module _ (facts : List Fact) where
           | inl t ↦ subst (λ id. IsFirst (part id) (TextIs what other lines)) (same_text other id (sym t)) s
           | inr f ↦ none id (TextIs what other lines) (other_part what lines other id f)
         ]
-        by id (ThereIs g) s = none id _ (no_text id (ThereIs g) tt)
-        by id (ThereIsNo g) s = none id _ (no_text id (ThereIsNo g) tt)
-        by id (Asks g ask) s = none id _ (no_text id (Asks g ask) tt)
-        by id (IdAt g n other) s = none id _ (no_text id (IdAt g n other) tt)
-        by id (NoArticle other) s = none id _ (no_text id (NoArticle other) tt)
-        by id (GroupsAre p lines) s = none id _ (no_text id (GroupsAre p lines) tt)
+        by id fact s = grind arith
 
     heads : Below 8 → FirstPoint ⊎ ((id : Id) → GiveOne (head_in id) facts)
     heads below = each_text head_in other_head silent FirstPoint (λ id c. (HeadOf id, record { conflict = c; first = below }))
@@ -240,8 +235,7 @@ module _ (facts : List Fact) where
     bodies below = each_text body_in other_body silent FirstPoint (λ id c. (BodyOf id, record { conflict = c; first = below }))
       where
         silent : (id : Id) (fact : Fact) → IsNoText fact → body_in id fact ≡ None
-        silent id (TextIs what other lines) n = absurd n
-        silent id fact n = refl
+        silent id fact n = grind arith
 
     -- ---- all of them
 

@@ -8,30 +8,14 @@ use Rattle.nntp_article.specs.Session.{Spool.{Numbers, IsNumber, IsNextAbove, No
 use Rattle.nntp_said.specs.Asks.{Ask, Meets, Estimates, Bounds, ListsIn, Has, Lacks, StandsAt, StandsNowhere, StepsUp, StepsDown, IsTop, IsBottom}
 use Rattle.nntp_said.specs.declared.position.Position.TheVariants.{Nowhere, First, Known}
 use Rattle.nntp_theory.specs.Given.{shows, denies, demand_in, join, demand, IsGivenNumber, HasGivenNumbers, says_some, is_end}
-use Rattle.nntp_theory.specs.{declared.demand.Demand.{Demand, TheVariants.{NoDemand, NotEmpty, OnlyOne, SecondIs, Impossible}}, Together.{is_possible}}
-use Rattle.nntp_theory.{specs.{Together.{MeetsDemand, IsFewFor}, Inner.Together.{AsksStand}}, proofs.Members.{In, all_at, all_from, any_in, in_contains}}
-use Rattle.nntp_theory.proofs.{Members.{each_of, found_in}, GivenNumbers.LeastNumber.{Empty, Begins, firsts, least_is, least_none}}
-use Rattle.nntp_theory.proofs.GivenNumbers.MetNumbersStand.{of_first, listed_in, finds, in_range, in_range_back, shown_known}
+use Rattle.nntp_theory.specs.{declared.demand.Demand.{Demand, TheVariants.{NoDemand}}, Together.{is_possible, MeetsDemand, IsFewFor}}
+use Rattle.nntp_theory.{specs.Inner.Together.{AsksStand}, proofs.Members.{In, all_at, all_from, any_in, in_contains, each_of, found_in}}
+use Rattle.nntp_theory.proofs.GivenNumbers.{LeastNumber.{Empty, Begins, firsts, least_is, least_none}, MetNumbersStand.{of_first, listed_in, finds, in_range}}
+use Rattle.nntp_theory.proofs.GivenNumbers.MetNumbersStand.{in_range_back, shown_known}
 
 -- numbers that meet two demands as one meet each
 parted : (P : ℕ → Type 0) (d e : Demand) → MeetsDemand (join d e) P → MeetsDemand d P × MeetsDemand e P
-parted P NoDemand e h = (tt, h)
-parted P NotEmpty NoDemand h = (h, tt)
-parted P NotEmpty NotEmpty h = (h, h)
-parted P NotEmpty OnlyOne h = ((h.0, h.1), h)
-parted P NotEmpty (SecondIs k) h = ((h.1, h.3), h)
-parted P NotEmpty Impossible h = absurd h
-parted P OnlyOne NoDemand h = (h, tt)
-parted P OnlyOne NotEmpty h = (h, (h.0, h.1))
-parted P OnlyOne OnlyOne h = (h, h)
-parted P OnlyOne (SecondIs k) h = absurd h
-parted P OnlyOne Impossible h = absurd h
-parted P (SecondIs m) NoDemand h = (h, tt)
-parted P (SecondIs m) NotEmpty h = (h, (h.1, h.3))
-parted P (SecondIs m) OnlyOne h = absurd h
-parted P (SecondIs m) (SecondIs k) h = grind arith
-parted P (SecondIs m) Impossible h = absurd h
-parted P Impossible e h = absurd h
+parted P d e h = grind arith
 
 -- and the demand of each ask
 demand_of_one : (P : ℕ → Type 0) (ask : Ask) (asks : List Ask) → In ask asks → MeetsDemand (demand asks) P → MeetsDemand (demand_in ask) P

@@ -10,10 +10,9 @@ use Rattle.std.specs.FinMap.{len-remove, empty_of_len, get-empty, contains_key-k
 use Rattle.nntp_article.specs.Session.{Spool.{Numbers, IsNumber, least, IsInRange}, Machine.{is_in_range}}
 use Rattle.nntp_said.specs.{Asks.{Ask, Meets, ListsIn, Has, StandsAt, StepsUp, StepsDown, IsTop, IsBottom}, declared.position.Position.TheVariants.{First}}
 use Rattle.nntp_theory.specs.Given.{shows, denies, is_shown, is_denied, demand_in, join, demand, wants, IsOneMore, IsGivenNumber, HasGivenNumbers, says_some}
-use Rattle.nntp_theory.specs.{Given.{is_end, is_known}, declared.demand.Demand.{Demand, TheVariants.{NoDemand, NotEmpty, OnlyOne, SecondIs, Impossible}}}
-use Rattle.nntp_theory.specs.{Together.{is_possible, MeetsDemand, IsFewFor}, Inner.Together.{AsksStand}}
-use Rattle.nntp_theory.proofs.{GivenNumbers.{FirstFreeNumber.{first_free_once, first_free}, LeastNumber.{firsts, not_number}}, Members.{In, all_at, all_from}}
-use Rattle.nntp_theory.proofs.{Members.{any_in, found_in, contains_in, in_contains, every}, Maps.{len_le}}
+use Rattle.nntp_theory.specs.{Given.{is_end, is_known}, declared.demand.Demand.{Demand, TheVariants.{SecondIs}}, Together.{is_possible, MeetsDemand, IsFewFor}}
+use Rattle.nntp_theory.{specs.Inner.Together.{AsksStand}, proofs.GivenNumbers.{FirstFreeNumber.{first_free_once, first_free}, LeastNumber.{firsts, not_number}}}
+use Rattle.nntp_theory.proofs.{Members.{In, all_at, all_from, any_in, found_in, contains_in, in_contains, every}, Maps.{len_le}}
 
 -- where the first number is c, what is asked of the first is asked of c
 pub of_first : (N : Numbers) (c : ℕ) (Q : ℕ → Type 0) → least N ≡ Some c → Q c → MatchOption (least N) ⊥ Q
@@ -62,17 +61,7 @@ meets_demand_in N ask h = grind (arith, first_there, cases_order, not_number)
 
 -- numbers that meet two demands meet both as one
 joined : (P : ℕ → Type 0) (d e : Demand) → MeetsDemand d P → MeetsDemand e P → MeetsDemand (join d e) P
-joined P NoDemand e h g = g
-joined P NotEmpty NoDemand h g = h
-joined P NotEmpty e h g = g
-joined P OnlyOne (SecondIs k) h g = let a = h.2 k g.0 in let b = h.2 g.1 g.3 in let l = g.2 in omega arith
-joined P OnlyOne Impossible h g = g
-joined P OnlyOne e h g = h
-joined P (SecondIs m) OnlyOne h g = let a = g.2 m h.0 in let b = g.2 h.1 h.3 in let l = h.2 in omega arith
-joined P (SecondIs m) (SecondIs k) h g = grind arith
-joined P (SecondIs m) Impossible h g = g
-joined P (SecondIs m) e h g = h
-joined P Impossible e h g = h
+joined P d e h g = grind arith
 
 -- numbers that meet what is asked meet the demand
 demand_of : (N : Numbers) (asks : List Ask) → AllByRecursion (Meets N) asks → MeetsDemand (demand asks) (IsNumber N)
@@ -81,17 +70,7 @@ demand_of N (ask ∷ asks) met = joined (IsNumber N) (demand_in ask) (demand ask
 
 -- a second number is of one of two demands
 join_second : (d e : Demand) (k : ℕ) → join d e ≡ SecondIs k → (d ≡ SecondIs k) ⊎ (e ≡ SecondIs k)
-join_second NoDemand e k h = inr h
-join_second NotEmpty NoDemand k h = cc
-join_second NotEmpty e k h = inr h
-join_second OnlyOne (SecondIs m) k h = cc
-join_second OnlyOne Impossible k h = cc
-join_second OnlyOne e k h = cc
-join_second (SecondIs m) OnlyOne k h = cc
-join_second (SecondIs m) (SecondIs j) k h = grind arith
-join_second (SecondIs m) Impossible k h = cc
-join_second (SecondIs m) e k h = inl h
-join_second Impossible e k h = cc
+join_second d e k h = grind arith
 
 -- a second number is shown
 pub second_shown : (asks : List Ask) (k : ℕ) → demand asks ≡ SecondIs k → IsTrue (is_shown asks k)

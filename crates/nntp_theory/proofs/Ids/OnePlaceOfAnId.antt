@@ -10,8 +10,7 @@ use Rattle.nntp_theory.proofs.{Members.{to_flat, first_found}, Given.GivenHolds.
 
 -- a fact that gives the id at the number gives the number of the id
 placed_by : (name : Name) (n : ℕ) (id : Id) (fact : Fact) → id_in name n fact ≡ Some id → number_in name id fact ≡ Some n
-placed_by name n id (IdAt g m other) e = grind (arith, same_itself, eqb-true)
-placed_by name n id fact e = cc
+placed_by name n id fact e = grind (arith, same_itself, eqb-true)
 
 -- where facts give an id, they show the number
 pub shown_with_id : (facts : List Fact) (name : Name) (n : ℕ) → IsSome (first_given (id_in name n) facts) → IsTrue (is_shown (asks_of name facts) n)

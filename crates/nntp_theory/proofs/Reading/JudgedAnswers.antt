@@ -32,9 +32,7 @@ pub accepted_few : (past : List Paired) (answers : List Judged) → length (all_
 accepted_few past [] = omega arith
 accepted_few past (answer ∷ answers) = let rest = accepted_few (accepted_with past answer) answers in let one = by answer in omega (arith, rest, one) where
   by : (answer : Judged) → length (accepted_with past answer) ≤ length past + 1
-  by (Accepted pair) = omega (arith, length-append past (pair ∷ []))
-  by (Refused pair) = omega arith
-  by (Unspelled index line initial block) = omega arith
+  by answer = grind (arith, length-append)
 
 -- the visible state that those that were accepted leave
 abbrev pub visible_behind : List Paired → Visible

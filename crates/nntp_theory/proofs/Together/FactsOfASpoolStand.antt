@@ -96,8 +96,7 @@ module _ (limit : ℕ) (S : Spool) (facts : List Fact) (spool : IsSpool limit S)
   article_of what id lines h = by (get S.articles id) refl h
     where
       by : (o : Option Text) → get S.articles id ≡ o → option_map (text_of what) o ≡ Some lines → (t : Text) × (get S.articles id ≡ Some t) × (text_of what t ≡ lines)
-      by None is h = cc
-      by (Some t) is h = (t, is, cc)
+      by o is h = grind arith
 
   -- an id that is shown to have an article has one in S
   article_by_one : (id : Id) (fact : Fact) → Holds S fact → shows_article id fact ≡ true → IsSome (get S.articles id)

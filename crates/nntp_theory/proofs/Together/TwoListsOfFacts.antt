@@ -1,5 +1,5 @@
 -- What two lists of facts show, deny and give.
-use Rattle.std.proofs.Common.{◌≡◌, Bool, true, false, ◌||◌, ◌&&◌, cond, IsTrue, List, [], ◌∷◌, ◌++◌, Option, None, Some, refl, ap, ◌∙◌, arith}
+use Rattle.std.proofs.Common.{◌≡◌, Bool, false, ◌||◌, ◌&&◌, cond, IsTrue, List, [], ◌∷◌, ◌++◌, Option, None, Some, refl, ap, ◌∙◌, arith}
 use Rattle.std.{proofs.lemmas.{Bool.{true≢false, or_left, or_right, or_cases, false_from_ne_true}, List.Folds.{list_any-append}}, specs.Prelude.{IsFalse}}
 use Rattle.std.specs.{Prelude.{IfSome}, List.{AllByRecursion, list_any}, Option.{option_or}}
 use Rattle.nntp_said.specs.Facts.{Fact}
@@ -19,8 +19,7 @@ pub any_more : (p : Fact → Bool) (facts : List Fact) (fact : Fact) → list_an
 any_more p facts fact = list_any-append p facts (fact ∷ []) ∙ ap (λ b. list_any p facts || b) (or_no (p fact))
   where
     or_no : (b : Bool) → (b || false) ≡ b
-    or_no true = refl
-    or_no false = refl
+    or_no b = grind arith
 
 -- nothing is both shown and denied
 abbrev pub Apart : (shows denies : Fact → Bool) → List Fact → Type 0
@@ -48,8 +47,7 @@ given_append {A} f (x ∷ xs) ys = by (f x) (given_append f xs ys)
   where
     by : (o : Option A) → first_given f (xs ++ ys) ≡ option_or (first_given f xs) (first_given f ys)
         → option_or o (first_given f (xs ++ ys)) ≡ option_or (option_or o (first_given f xs)) (first_given f ys)
-    by None rest = rest
-    by (Some y) rest = refl
+    by o rest = grind arith
 
 -- where nothing more is given, what was is
 pub or_none : {A : Type 0} (o : Option A) → option_or o None ≡ o
