@@ -371,10 +371,6 @@ at_point facts (Article id) h t = true≢false (sym h.1 ∙ t.articles id h.0)
 at_point facts (HeadOf id) h t = h (t.heads id)
 at_point facts (BodyOf id) h t = h (t.bodies id)
 
--- so no spool has it
-pub none_at_point : (profile : Profile) (facts : List Fact) (point : Point) → ConflictAt facts point → SomeHas profile facts → ⊥
-none_at_point profile facts point h s = at_point facts point h (stand profile.limit s.0 facts s.1 s.2)
-
 -- one of the places is below the bound, or none is
 low_or_not : (bound : ℕ) (places : List ℕ) → ((k : ℕ) × (k < bound) × In k places) ⊎ ((k : ℕ) → In k places → bound ≤ k)
 low_or_not bound [] = inr (λ k i. absurd i)

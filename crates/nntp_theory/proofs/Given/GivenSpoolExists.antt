@@ -1,10 +1,10 @@
 -- What stands together is given a spool, and whether some spool permits a session is decided.
-use Rattle.std.proofs.Common.{◌<◌, ◌^◌, ◌⊎◌, ◌↔◌, List, inl, inr, arith}
+use Rattle.std.proofs.Common.{◌<◌, ◌^◌, ◌⊎◌, List, inl, inr, arith}
 use Rattle.nntp_article.{proofs.SessionLemmas.{FiniteMapsDecided.{Dec, dec_both}, AgreementDecided.{dec_run}}, specs.Session.Spool.{Spool, IsSpool}}
 use Rattle.nntp_article.specs.{Session.Machine.{Run, start}, declared.session.profile.Profile.{Profile}}
 use Rattle.nntp_said.specs.Inner.Facts.{FitsAll}
-use Rattle.nntp_theory.specs.{Given.{IsGiven, facts_of_session}, Inner.{Given.{size}, Together.{Together}, Permits.{SomePermits}}}
-use Rattle.nntp_theory.proofs.Given.{GivenPermits.{stands, given_permits}, ConstructedSpool.{made}, GivenHasFacts.{given_of_facts}, SpoolsDecided.{dec_spool}}
+use Rattle.nntp_theory.{specs.{Given.{IsGiven, facts_of_session}, Inner.Given.{size}}, proofs.Given.GivenPermits.{stands, given_permits}}
+use Rattle.nntp_theory.proofs.Given.{ConstructedSpool.{made}, GivenHasFacts.{given_of_facts}, SpoolsDecided.{dec_spool}}
 use Rattle.nntp_theory.proofs.Session.{NumbersOfShownGroups.{session_placed}, FittingFacts.{session_fitting}}
 use Rattle.nntp_wire.specs.Answer.{Asked, Response}
 
@@ -18,15 +18,6 @@ pub given_exists : (profile : Profile) (ps : List Asked) (answers : List Respons
     (made_for profile ps answers)
 unfolding made_for
 given_exists profile ps answers fits small = search (arith, given_of_facts, session_fitting, session_placed)
-
--- some spool permits a session exactly if it fits and stands together
-pub permitted_together : (profile : Profile) (ps : List Asked) (answers : List Response)
-    → size (facts_of_session profile.marks ps answers) < 2 ^ 210 → SomePermits profile ps answers
-    ↔ (FitsAll profile start.visible ps answers × Together (facts_of_session profile.marks ps answers))
-permitted_together profile ps answers small = (
-  λ h. stands profile h.0 ps answers h.1 h.2,
-  λ h. (let p = given_permits profile (made_for profile ps answers) ps answers h.0 h.1 small (given_exists profile ps answers h.0 small) in (made_for profile ps answers, p.0, p.1)),
-)
 
 -- some spool permits a session, or none does
 pub some_or_none : (profile : Profile) (ps : List Asked) (answers : List Response) → size (facts_of_session profile.marks ps answers) < 2 ^ 210

@@ -30,10 +30,6 @@ permits_each profile S (s ∷ more) f h =
       permits_each profile S more f.1 (all_back (Holds S) own rest h),
     )
 
-pub permitted_by_all_facts : (profile : Profile) (S : Spool) (sessions : List Answered)
-    → PermitsEach profile S sessions ↔ (FitEach profile sessions × AllByRecursion (Holds S) (facts_of_all profile.marks sessions))
-permitted_by_all_facts profile S sessions = (said_each profile S sessions, λ h. permits_each profile S sessions h.0 h.1)
-
 -- ---- what sessions that fit say
 
 -- it fits

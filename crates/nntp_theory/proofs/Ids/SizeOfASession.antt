@@ -4,7 +4,7 @@ use Rattle.std.{proofs.Common.{◌+◌, ◌*◌, ◌<◌, ◌≤◌, ◌^◌, Li
 use Rattle.nntp_article.specs.Session.Machine.{Visible, visible_after, start}
 use Rattle.nntp_said.specs.{Asks.{position_after}, declared.position.Position.{Position, TheVariants.{Nowhere}}, Facts.{facts_of, facts_from}}
 use Rattle.nntp_theory.{specs.{Inner.Given.{size, weight}, Given.{facts_of_session}}, proofs.Given.FirstBadAnswer.{size-append}}
-use Rattle.nntp_pair.specs.{Pairing.{Paired, asked_of, responses_of}, Inner.Pairing.{lines_in}}
+use Rattle.nntp_pair.specs.{Pairing.{Paired, responses_of}, Inner.Pairing.{lines_in}}
 
 -- so does an answer
 pub answer_size : (how : Marks) (v : Visible) (at : Position) (p : Asked) (a : Response) → size (facts_of how v at p a) ≤ lines_in a + 3
@@ -23,8 +23,3 @@ session_size how ps answers = from_size how start.visible Nowhere ps answers
 pub pairs_weight : (pairs : List Paired) → AllByRecursion (λ pair. lines_in pair.response < 2 ^ 64) pairs → weight (responses_of pairs) ≤ (2 ^ 64 + 2) * length pairs
 pairs_weight [] few = omega arith
 pairs_weight (pair ∷ pairs) few = let rest = pairs_weight pairs few.1 in let here = few.0 in omega arith
-
--- so what pairs say is small
-pub pairs_size : (how : Marks) (pairs : List Paired) → AllByRecursion (λ pair. lines_in pair.response < 2 ^ 64) pairs
-    → length pairs < 2 ^ 64 → size (facts_of_session how (asked_of pairs) (responses_of pairs)) < 2 ^ 210
-pairs_size how pairs few short = let all = session_size how (asked_of pairs) (responses_of pairs) in let weights = pairs_weight pairs few in omega arith

@@ -1,5 +1,5 @@
 -- The first bad answer of a reading is that of the outcome; a reading without one is explained by some spool.
-use Rattle.std.proofs.Common.{◌≡◌, ◌⊎◌, ◌↔◌, ℕ, List, [], ◌∷◌, ◌++◌, length, map, Some, inl, inr, refl, sym, ap, subst, ◌∙◌}
+use Rattle.std.proofs.Common.{◌≡◌, ◌⊎◌, ℕ, List, [], ◌∷◌, ◌++◌, length, map, Some, inl, inr, refl, sym, ap, subst, ◌∙◌}
 use Rattle.nntp_article.specs.{declared.session.profile.Profile.{Profile}, Session.{Spool.{Spool}, Explains.{Explains}}}
 use Rattle.nntp_pair.specs.{declared.class.{PairClass.{PairClass, TheVariants.{Malformed as PairMalformed}}, Class.{Class}}, Pairing.{Paired, Ending, end, bad}}
 use Rattle.nntp_pair.{specs.{Pairing.{IsPairing, streams}, Classes.{class_of}}, proofs.PassedLemmas.{passed-ends}}
@@ -73,7 +73,7 @@ IsGood answers ending = (answers ≡ map Accepted (accepted_of answers)) × (una
 abbrev HasExplanation : Profile → List ℕ → List ℕ → Type 0
 HasExplanation profile client server = (S : Spool) × (n : ℕ) × Explains profile S client server n
 
-good_explained : (profile : Profile) (client server : List ℕ) (answers : List Judged) (ending : Ending) → IsReading profile client server answers ending
+pub good_explained : (profile : Profile) (client server : List ℕ) (answers : List Judged) (ending : Ending) → IsReading profile client server answers ending
     → IsGood answers ending → HasExplanation profile client server
 good_explained profile client server answers ending reading (all, unanswered, ends) =
     let pairs = accepted_of answers in
@@ -87,7 +87,7 @@ good_explained profile client server answers ending reading (all, unanswered, en
 never_no : (profile : Profile) (client server : List ℕ) (k : ℕ) (class : Class) → HasExplanation profile client server → IsOutcome profile client server (No k class) → ⊥
 never_no profile client server k class (S, n, x) outcome = explained_not_bad profile S client server n k x outcome.0
 
-explained_good : (profile : Profile) (client server : List ℕ) (answers : List Judged) (ending : Ending) → IsReading profile client server answers ending
+pub explained_good : (profile : Profile) (client server : List ℕ) (answers : List Judged) (ending : Ending) → IsReading profile client server answers ending
     → HasExplanation profile client server → IsGood answers ending
 explained_good profile client server answers ending reading explained = elim (accepted_or_bad answers) [
   | inl (pairs, all) ↦
@@ -102,8 +102,3 @@ explained_good profile client server answers ending reading explained = elim (ac
     by : (pairs : List Paired) (ending : Ending) → IsReading profile client server (map Accepted pairs) ending → (unanswered : ℕ) × (ending ≡ end unanswered)
     by pairs (end unanswered) reading = (unanswered, refl)
     by pairs (bad class) reading = absurd (never_no profile client server (length pairs) (class_of class) explained (bad_at_octets profile client server pairs class reading))
-
--- all answers are accepted, and no octet is left, exactly if some spool explains the streams
-pub good_exactly : (profile : Profile) (client server : List ℕ) (answers : List Judged) (ending : Ending) → IsReading profile client server answers ending
-    → IsGood answers ending ↔ HasExplanation profile client server
-good_exactly profile client server answers ending reading = (good_explained profile client server answers ending reading, explained_good profile client server answers ending reading)

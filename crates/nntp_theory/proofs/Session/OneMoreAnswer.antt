@@ -1,13 +1,12 @@
 -- Answers one by one: what one more says, and what pairs say.
 use Rattle.nntp_wire.specs.{declared.marks.Marks.{Marks}, Answer.{Asked, Response}, Session.{prompts_of, Spelled}}
 use Rattle.std.proofs.Common.{◌≡◌, ℕ, ◌≤◌, ◌↔◌, false, IsTrue, List, [], ◌∷◌, ◌++◌, map, length, Some, sym, ap, ◌∙◌, arith, append_assoc, append-nil}
-use Rattle.std.proofs.{Common.{length-append}, lemmas.List.{length-map}}
+use Rattle.std.proofs.lemmas.List.{length-map}
 use Rattle.nntp_article.specs.{Session.{Spool.{Spool}, Machine.{Visible, Run, start, fits, visible_after}}, declared.session.profile.Profile.{Profile}}
 use Rattle.nntp_said.specs.{Asks.{position_after}, declared.position.Position.{Position}, Facts.{facts_of, facts_from}, Inner.Facts.{FitsAll}}
 use Rattle.nntp_theory.specs.{Given.{facts_of_session}, Inner.{Given.{size}, Permits.{SomePermits}}, Classes.{visible_from, position_from, asked_next}}
 use Rattle.nntp_theory.proofs.{Ids.SizeOfASession.{session_size}, Streams.ExplainedOrBad.{light}, Session.LaterPrompts.{run_shorter, run_longer, facts_longer}}
 use Rattle.nntp_pair.{specs.Pairing.{Paired, Unpaired, AreNext, responses_of, asked_of, asked_at, streams}, proofs.SpelledLemmas.{places-prompts}}
-use Rattle.nntp_pair.proofs.SpelledLemmas.{pairs-spelled}
 
 -- ---- one answer more
 
@@ -83,10 +82,3 @@ facts_by_pairs how client server pairs left paired = grind (arith, prompts_of_pa
 -- what answers say is bounded by the octets that spell them
 pub size_by_octets : (how : Marks) (ps : List Asked) (answers : List Response) (octets : List ℕ) → Spelled ps answers octets → size (facts_of_session how ps answers) ≤ length octets
 size_by_octets how ps answers octets spelled = let a = session_size how ps answers in let b = light ps answers octets spelled in omega arith
-
--- and what pairs say by the server's
-pub size_by_pairs : (how : Marks) (client server : List ℕ) (pairs : List Paired) (left : Unpaired)
-    → AreNext (streams client server) pairs left
-    → size (facts_of_session how (asked_of pairs) (responses_of pairs)) ≤ length server
-size_by_pairs how client server pairs left paired =
-    grind (arith, pairs-spelled, size_by_octets, facts_by_pairs, length-append, session_size, light, prompts_of_pairs, facts_longer, as_few)

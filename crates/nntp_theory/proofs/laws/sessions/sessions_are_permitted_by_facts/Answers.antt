@@ -1,5 +1,5 @@
-use Rattle.nntp_theory.proofs.Given.SessionsByFacts.{permitted_by_all_facts}
+use Rattle.nntp_theory.proofs.Given.SessionsByFacts.{said_each, permits_each}
 use Rattle.nntp_theory.proofs.laws.sessions.sessions_are_permitted_by_facts.Goals as goal
 
 pub returns : goal.returns
-returns c = permitted_by_all_facts
+returns c profile S sessions = (said_each profile S sessions, λ h. permits_each profile S sessions h.0 h.1)
