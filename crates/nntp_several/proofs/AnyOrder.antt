@@ -1,14 +1,13 @@
 -- The order of facts, and how often each is said, doesn't matter to the spool that is given for them; so the order of sessions doesn't.
-use Rattle.std.proofs.Common.{◌≡◌, ℕ, ◌+◌, Bool, true, false, cond, ◌==◌, ◌||◌, ◌&&◌, IsTrue, List, [], ◌∷◌, ◌++◌, Option, None, Some, is_some, inl, inr, refl}
-use Rattle.std.{proofs.{Common.{sym, ap, ap₂, subst, ◌∙◌}, lemmas.Bool.{true≢false, eqb-true, eq-eqb}}, specs.Prelude.{IsFalse, unwrap_or, Contains}}
-use Rattle.std.specs.{List.{list_any, flat_map}, FinMap.{entries}}
+use Rattle.std.proofs.Common.{◌≡◌, ℕ, ◌+◌, Bool, cond, ◌==◌, IsTrue, List, [], ◌∷◌, ◌++◌, Option, None, Some, is_some, inl, inr, refl, sym, ap, ap₂, subst, ◌∙◌}
+use Rattle.std.{proofs.{Common.{arith}, lemmas.Bool.{true≢false}}, specs.{Prelude.{IsFalse, unwrap_or, Contains}, List.{list_any, flat_map}, FinMap.{entries}}}
 use Rattle.nntp_article.specs.{Article.Parts.{Id}, Session.Spool.{Spool, Numbers, Name}, declared.session.profile.Profile.{Profile}}
 use Rattle.nntp_wire.specs.Session.{prompts_of}
 use Rattle.nntp_said.specs.{Asks.{Ask}, Facts.{Fact}}
-use Rattle.nntp_theory.specs.Given.{shows, says_some, is_end, denies, demand_in, join, demand, wants, is_known, IsFirstFree, IsOneMore, IsGivenNumber, asks_in}
-use Rattle.nntp_theory.specs.Given.{asks_of, shows_group, gives_article, mentions, first_given, id_in, id_shown, head_in, body_in, plain_head, invented}
-use Rattle.nntp_theory.specs.{Given.{AreInvented, unshown_in, unshown_ids, IsGiven, facts_of_session}, Together.{GiveOne}, Inner.Together.{Together}}
-use Rattle.nntp_theory.specs.{declared.demand.Demand.{Demand, TheVariants.{NoDemand, NotEmpty, OnlyOne, SecondIs, Impossible}}, Answered.{facts_of_all}}
+use Rattle.nntp_theory.specs.Given.{denies, demand_in, join, demand, wants, is_known, IsFirstFree, IsOneMore, IsGivenNumber, asks_in, asks_of, shows_group}
+use Rattle.nntp_theory.specs.Given.{mentions, first_given, id_in, id_shown, head_in, body_in, plain_head, invented, AreInvented, unshown_in, unshown_ids}
+use Rattle.nntp_theory.specs.{Given.{IsGiven, facts_of_session}, Together.{GiveOne}, Inner.Together.{Together}, declared.demand.Demand.{Demand}}
+use Rattle.nntp_theory.specs.{declared.demand.Demand.TheVariants.{NoDemand, NotEmpty, OnlyOne, SecondIs, Impossible}, Answered.{facts_of_all}}
 use Rattle.nntp_theory.proofs.{GivenNumbers.JoinedDemands.{demand_append}, Given.{GivenHolds.{one_given}, OneGivenSpool.{given_once}}}
 use Rattle.nntp_theory.proofs.{Given.SessionsByFacts.{stand_each}, Members.{In, all_at, all_from, any_in, found_in, to_flat, from_flat, in_front, in_back}}
 use Rattle.nntp_theory.proofs.{Members.{in_cases, first_found, first_there, in_contains, contains_in}, Streams.OneOutcome.{same_answers}}
@@ -18,28 +17,19 @@ use Rattle.nntp_several.proofs.ExplainedSessions.{runs_each}
 -- ---- tests
 
 bool_same : (a b : Bool) → (IsTrue a → IsTrue b) → (IsTrue b → IsTrue a) → a ≡ b
-bool_same true true f g = refl
-bool_same true false f g = sym (f refl)
-bool_same false true f g = g refl
-bool_same false false f g = refl
+bool_same a b f g = grind arith
 
 -- all of these are among those
 abbrev AreIn : {A : Type 0} → List A → List A → Type 0
 AreIn {A} xs ys = (x : A) → In x xs → In x ys
 
 any_same : {A : Type 0} (p : A → Bool) (xs ys : List A) → AreIn xs ys → AreIn ys xs → list_any p xs ≡ list_any p ys
-any_same p xs ys to from = bool_same (list_any p xs) (list_any p ys)
-    (λ t. let f = found_in p xs t in any_in p f.0 ys (to f.0 f.1) f.2)
-    (λ t. let f = found_in p ys t in any_in p f.0 xs (from f.0 f.1) f.2)
+any_same p xs ys to from = grind (arith, bool_same, found_in, any_in)
 
 -- ---- demands
 
 join_none : (d : Demand) → join d NoDemand ≡ d
-join_none NoDemand = refl
-join_none Impossible = refl
-join_none NotEmpty = refl
-join_none OnlyOne = refl
-join_none (SecondIs m) = refl
+join_none d = grind arith
 
 join_comm : (d e : Demand) → join d e ≡ join e d
 join_comm NoDemand e = sym (join_none e)
@@ -62,17 +52,7 @@ join_comm (SecondIs m) OnlyOne = refl
 join_comm (SecondIs m) (SecondIs k) = by (m == k) refl (k == m) refl
   where
     by : (a : Bool) → (m == k) ≡ a → (b : Bool) → (k == m) ≡ b → cond a (SecondIs m) Impossible ≡ cond b (SecondIs k) Impossible
-    by true e true f = ap SecondIs (eqb-true m k e)
-    by true e false f = absurd (true≢false (sym (eq-eqb k m (sym (eqb-true m k e))) ∙ f))
-    by false e true f = absurd (true≢false (sym (eq-eqb m k (sym (eqb-true k m f))) ∙ e))
-    by false e false f = refl
-
-join_twice : (d : Demand) → join d d ≡ d
-join_twice NoDemand = refl
-join_twice Impossible = refl
-join_twice NotEmpty = refl
-join_twice OnlyOne = refl
-join_twice (SecondIs m) = ap (λ b. cond b (SecondIs m) Impossible) (eq-eqb m m refl)
+    by a e b f = grind arith
 
 -- demands of asks join in any order
 join_asks : (a b : Ask) (zs : List Ask) → join (demand_in a) (join (demand_in b) (demand zs)) ≡ join (join (demand_in a) (demand_in b)) (demand zs)
@@ -81,17 +61,12 @@ join_asks a b zs = demand_append (a ∷ b ∷ []) zs ∙ ap (λ d. join (join (d
 -- what one of the asks demands is in the demand of all
 has_demand : (a : Ask) (ys : List Ask) → In a ys → join (demand_in a) (demand ys) ≡ demand ys
 has_demand a [] i = absurd i
-has_demand a (y ∷ ys) (inl e) =
-    ap (λ y. join (demand_in a) (join (demand_in y) (demand ys))) e ∙ join_asks a a ys ∙ ap (λ d. join d (demand ys)) (join_twice (demand_in a)) ∙ ap (λ y. join (demand_in y) (demand ys)) (sym e)
-has_demand a (y ∷ ys) (inr i) =
-    join_asks a y ys ∙ ap (λ d. join d (demand ys)) (join_comm (demand_in a) (demand_in y)) ∙ sym (join_asks y a ys) ∙ ap (join (demand_in y)) (has_demand a ys i)
+has_demand a (y ∷ ys) (inl e) = grind arith
+has_demand a (y ∷ ys) (inr i) = grind (arith, join_asks, join_comm, has_demand a ys i)
 
 have_demand : (xs ys : List Ask) → AreIn xs ys → join (demand xs) (demand ys) ≡ demand ys
 have_demand [] ys sub = refl
-have_demand (x ∷ xs) ys sub =
-    sym (demand_append (x ∷ xs) ys)
-    ∙ ap (join (demand_in x)) (demand_append xs ys ∙ have_demand xs ys (λ a i. sub a (inr i)))
-    ∙ has_demand x ys (sub x (inl refl))
+have_demand (x ∷ xs) ys sub = grind (arith, demand_append, has_demand, have_demand xs ys (λ a i. sub a (inr i)))
 
 demand_same : (xs ys : List Ask) → AreIn xs ys → AreIn ys xs → demand xs ≡ demand ys
 demand_same xs ys to from = sym (have_demand ys xs from) ∙ join_comm (demand ys) (demand xs) ∙ have_demand xs ys to
@@ -99,9 +74,7 @@ demand_same xs ys to from = sym (have_demand ys xs from) ∙ join_comm (demand y
 -- ---- the numbers of a group
 
 known_same : (xs ys : List Ask) → AreIn xs ys → AreIn ys xs → (n : ℕ) → is_known xs n ≡ is_known ys n
-known_same xs ys to from n =
-    ap₂ (λ a b. a || b) (any_same (λ ask. shows ask n) xs ys to from)
-    (ap₂ (λ a b. a && b) (any_same says_some xs ys to from) (any_same (λ ask. is_end ask n) xs ys to from))
+known_same xs ys to from n = grind (arith, any_same)
 
 one_more_same : (xs ys : List Ask) → AreIn xs ys → AreIn ys xs → (n : ℕ) → IsOneMore xs n → IsOneMore ys n
 one_more_same xs ys to from n x = record {
@@ -111,8 +84,7 @@ one_more_same xs ys to from n x = record {
 }
 
 given_number_same : (xs ys : List Ask) → AreIn xs ys → AreIn ys xs → (n : ℕ) → IsGivenNumber xs n → IsGivenNumber ys n
-given_number_same xs ys to from n (inl t) = inl (sym (known_same xs ys to from n) ∙ t)
-given_number_same xs ys to from n (inr x) = inr (one_more_same xs ys to from n x)
+given_number_same xs ys to from n h = grind (arith, known_same, one_more_same)
 
 asks_among : (name : Name) (xs ys : List Fact) → AreIn xs ys → AreIn (asks_of name xs) (asks_of name ys)
 asks_among name xs ys to ask i = let f = from_flat (asks_in name) ask xs i in to_flat (asks_in name) f.0 ask ys (to f.0 f.1) f.2
@@ -153,21 +125,19 @@ module _ (xs ys : List Fact) (to : AreIn xs ys) (from : AreIn ys xs) (together :
 
   -- the given spool of some facts is that of others with the same ones
   pub given_same : (G : Spool) → IsGiven xs G → IsGiven ys G
-  given_same G g = record {
-    groups = λ name. (let e = any_same (shows_group name) xs ys to from in (λ i. sym e ∙ (g.groups name).0 i, λ t. (g.groups name).1 (e ∙ t)));
-    numbers_given = λ name i n. (
-      λ h. given_number_same (asks_of name xs) (asks_of name ys) (asks_among name xs ys to) (asks_among name ys xs from) n ((g.numbers_given name i n).0 h),
-      λ h. (g.numbers_given name i n).1 (given_number_same (asks_of name ys) (asks_of name xs) (asks_among name ys xs from) (asks_among name xs ys to) n h),
-    );
-    ids_shown = λ name n id i e. g.ids_shown name n id i (shown_same name n ∙ e);
-    ids_invented = invented_same 0 (unshown_ids ys G) (subst (AreInvented xs 0) (unshown_same G) g.ids_invented);
-    articles = λ id. (let e = any_same (gives_article id) xs ys to from in (
-      λ i. elim ((g.articles id).0 i) [ inl u ↦ inl u | inr t ↦ inr (sym e ∙ t) ],
-      λ h. (g.articles id).1 (elim h [ inl u ↦ inl u | inr t ↦ inr (e ∙ t) ]),
-    ));
-    heads = λ id t e. g.heads id t e ∙ ap (λ o. unwrap_or o (plain_head id)) (first_same (head_in id) xs ys to from (together.heads id));
-    bodies = λ id t e. g.bodies id t e ∙ ap (λ o. unwrap_or o []) (first_same (body_in id) xs ys to from (together.bodies id));
-  }
+  given_same G g =
+      record {
+        groups = λ name. (let e = any_same (shows_group name) xs ys to from in (λ i. sym e ∙ (g.groups name).0 i, λ t. (g.groups name).1 (e ∙ t)));
+        numbers_given = λ name i n. (
+          λ h. given_number_same (asks_of name xs) (asks_of name ys) (asks_among name xs ys to) (asks_among name ys xs from) n ((g.numbers_given name i n).0 h),
+          λ h. (g.numbers_given name i n).1 (given_number_same (asks_of name ys) (asks_of name xs) (asks_among name ys xs from) (asks_among name xs ys to) n h),
+        );
+        ids_shown = λ name n id i e. g.ids_shown name n id i (shown_same name n ∙ e);
+        ids_invented = invented_same 0 (unshown_ids ys G) (subst (AreInvented xs 0) (unshown_same G) g.ids_invented);
+        articles = grind (arith, any_same);
+        heads = λ id t e. g.heads id t e ∙ ap (λ o. unwrap_or o (plain_head id)) (first_same (head_in id) xs ys to from (together.heads id));
+        bodies = λ id t e. g.bodies id t e ∙ ap (λ o. unwrap_or o []) (first_same (body_in id) xs ys to from (together.bodies id));
+      }
 
 -- ---- sessions in any order
 
@@ -197,8 +167,7 @@ to_session profile S T (q ∷ ys) y s fact (inl p) e j =
     subst (λ s. (e : ExplainsIt profile S s) → In fact (said_of profile S s e) → In fact (facts_of_all profile.marks (answered_by profile T (q ∷ ys) y))) p
     (λ e j. in_front fact (said_of profile T q y.0) (facts_of_all profile.marks (answered_by profile T ys y.1))
     (subst (λ answers. In fact (facts_of_session profile.marks (prompts_of q.client) answers)) (same_answers profile S T q.client q.server e.0 y.0.0 e.1 y.0.1) j)) e j
-to_session profile S T (q ∷ ys) y s fact (inr i) e j =
-    in_back fact (said_of profile T q y.0) (facts_of_all profile.marks (answered_by profile T ys y.1)) (to_session profile S T ys y.1 s fact i e j)
+to_session profile S T (q ∷ ys) y s fact (inr i) e j = grind (arith, in_back, to_session profile S T ys y.1 s fact i e j)
 
 facts_among : (profile : Profile) (S T : Spool) (xs ys : List Recorded) → ((s : Recorded) → Contains xs s → Contains ys s) → (x : ExplainsEach profile S xs) (y : ExplainsEach profile T ys)
     → AreIn (facts_of_all profile.marks (answered_by profile S xs x)) (facts_of_all profile.marks (answered_by profile T ys y))
@@ -211,7 +180,6 @@ pub least_whatever_order : (profile : Profile) (xs ys : List Recorded) (S T : Sp
     → ((s : Recorded) → Contains xs s → Contains ys s) → ((s : Recorded) → Contains ys s → Contains xs s)
     → IsLeastOfAll profile xs S ns → IsLeastOfAll profile ys T ms → S ≡ T
 least_whatever_order profile xs ys S T ns ms to from x y =
-    let fs = facts_of_all profile.marks (answered_by profile S xs x.explains.1) in
     let gs = facts_of_all profile.marks (answered_by profile T ys y.explains.1) in
     let together = (stand_each profile T (answered_by profile T ys y.explains.1) y.explains.0 (runs_each profile T ys y.explains.1)).1 in
-    given_once gs S T (given_same fs gs (facts_among profile S T xs ys to x.explains.1 y.explains.1) (facts_among profile T S ys xs from y.explains.1 x.explains.1) together S x.given) y.given
+    search (arith, given_once, given_same, facts_among)

@@ -1,26 +1,22 @@
 -- What is bad of several sessions for good stays so, and one answer is told.
-use Rattle.std.proofs.Common.{◌≡◌, ◌⊎◌, ℕ, zero, suc, ◌<◌, ◌≤◌, List, [], ◌∷◌, ◌++◌, length, take, Option, None, Some, slice_get, inl, inr, refl, sym, ap}
-use Rattle.std.{proofs.{Common.{subst, ◌∙◌, arith}, lemmas.Bool.{cases_lt}}, specs.Prelude.{MatchOption}}
+use Rattle.std.proofs.Common.{◌≡◌, ◌⊎◌, ℕ, suc, ◌<◌, ◌≤◌, List, [], ◌∷◌, ◌++◌, length, take, Option, None, Some, slice_get, inl, inr, refl, sym, ap, subst, ◌∙◌}
+use Rattle.std.{proofs.{Common.{arith}, lemmas.Bool.{cases_lt}}, specs.Prelude.{MatchOption}}
 use Rattle.nntp_article.specs.declared.session.profile.Profile.{Profile}
 use Rattle.nntp_pair.specs.declared.class.Class.{Class}
 use Rattle.nntp_theory.{specs.Classes.{HasClass, IsSettled}, proofs.Streams.OneClass.{bad_stays, class_stays}}
-use Rattle.nntp_several.specs.{Told.{with_more, IsBadForGoodOfAll, IsToldBadOfAll}, Outcome.{NoOfAll, IsOutcomeOfAll}, Sessions.{Recorded, ExplainsEach}}
-use Rattle.nntp_several.{specs.Sessions.{BadBehind}, proofs.{ExplainedSessions.{there}, OneOutcomeOfAll.{one_outcome_of_all}, SessionsRead.{outcome_at}}}
+use Rattle.nntp_several.specs.{Told.{with_more, IsBadForGoodOfAll, IsToldBadOfAll}, Outcome.{NoOfAll, IsOutcomeOfAll}, Sessions.{Recorded, BadBehind}}
+use Rattle.nntp_several.proofs.{ExplainedSessions.{there}, OneOutcomeOfAll.{one_outcome_of_all}, SessionsRead.{outcome_at}}
 
 -- a settled answer that is bad stays so whatever octets of its session and whatever sessions follow
 pub settled_of_all : (profile : Profile) (before : List Recorded) (s : Recorded) (more_client more_server : List ℕ) (more : List Recorded) (k : ℕ) (class : Class)
     → BadBehind profile before s k → HasClass profile s.client s.server k class → IsSettled s.client s.server k class
     → IsOutcomeOfAll profile (before ++ with_more s more_client more_server ∷ more) (NoOfAll (length before) k class)
-settled_of_all profile before s more_client more_server more k class b h settled =
-    outcome_at profile before (with_more s more_client more_server) more k class
-    (bad_stays profile s.client s.server more_client more_server k class h settled (λ S. ExplainsEach profile S before) b)
-    (class_stays profile s.client s.server more_client more_server k class h settled)
+settled_of_all profile before s more_client more_server more k class b h settled = search (arith, outcome_at, bad_stays, class_stays)
 
 -- what stands before the end of sessions stands there whatever follows them
 front_place : (before xs : List Recorded) (j : ℕ) → j < length before → (slice_get (before ++ xs) j ≡ slice_get before j) × (take j (before ++ xs) ≡ take j before)
-front_place [] xs j l = absurd (omega arith)
-front_place (b ∷ before) xs zero l = (refl, refl)
 front_place (b ∷ before) xs (suc j) l = let r = front_place before xs j (omega arith) in (r.0, ap (λ zs. b ∷ zs) r.1)
+front_place before xs j l = grind arith
 
 -- the outcome at an earlier session stays, whatever follows
 front_stays : (profile : Profile) (before xs ys : List Recorded) (j k : ℕ) (class : Class) → j < length before → IsOutcomeOfAll profile (before ++ xs) (NoOfAll j k class)
@@ -37,10 +33,8 @@ front_stays profile before xs ys j k class less (is_bad, has) =
 
 -- there is no session behind the last
 no_place : (before : List Recorded) (s : Recorded) (j : ℕ) → length before < j → slice_get (before ++ s ∷ []) j ≡ None
-no_place [] s zero l = absurd (omega arith)
-no_place [] s (suc j) l = refl
-no_place (b ∷ before) s zero l = absurd (omega arith)
 no_place (b ∷ before) s (suc j) l = no_place before s j (omega arith)
+no_place before s j l = grind arith
 
 -- an answer that is bad for good is so whatever octets and sessions follow
 pub bad_for_good_stays_of_all : (profile : Profile) (before : List Recorded) (s : Recorded) (more_client more_server : List ℕ) (more : List Recorded) (j k : ℕ) (class : Class)
@@ -51,10 +45,7 @@ bad_for_good_stays_of_all profile before s more_client more_server more j k clas
 ]
   where
     at_last : length before ≤ j → j ≡ length before
-    at_last le = elim (cases_lt (length before) j) [
-      | inl behind ↦ absurd (subst (λ o. MatchOption o ⊥ (λ session. BadBehind profile (take j (before ++ s ∷ [])) session k)) (no_place before s j behind) outcome.0)
-      | inr ge ↦ omega (arith, le, ge)
-    ]
+    at_last le = grind (arith, cases_lt, no_place)
 
     last : length before ≤ j → (j < length before) ⊎ IsSettled s.client s.server k class → IsOutcomeOfAll profile (before ++ with_more s more_client more_server ∷ more) (NoOfAll j k class)
     last le (inl less) = absurd (omega (arith, le, less))
@@ -76,7 +67,4 @@ one_told_of_all profile before s None (Some bad) h g = absurd (h bad.0 bad.1 bad
 one_told_of_all profile before s (Some bad) None h g = absurd (g bad.0 bad.1 bad.2 h)
 one_told_of_all profile before s (Some bad) (Some also) h g =
     let e = one_outcome_of_all profile (before ++ s ∷ []) (NoOfAll bad.0 bad.1 bad.2) (NoOfAll also.0 also.1 also.2) h.0 g.0 in
-    let session : bad.0 ≡ also.0 = cc in
-    let answer : bad.1 ≡ also.1 = cc in
-    let class : bad.2 ≡ also.2 = cc in
-    λ i. Some (session i, answer i, class i)
+    grind arith

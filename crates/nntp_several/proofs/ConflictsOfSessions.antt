@@ -1,40 +1,32 @@
 -- A contradiction conflicts with the accepted answers of all sessions.
-use Rattle.std.proofs.{Common.{◌≡◌, IsTrue, List, [], ◌∷◌, ◌++◌, length, map, refl, sym, ap, subst, ◌∙◌, append_assoc}, lemmas.Grind.{flat_map-append}}
+use Rattle.std.proofs.{Common.{◌≡◌, List, [], ◌∷◌, ◌++◌, length, map, refl, sym, ap, subst, append_assoc, arith}, lemmas.Grind.{flat_map-append}}
 use Rattle.std.specs.List.{AllByRecursion, flat_map}
-use Rattle.nntp_wire.specs.Answer.{Asked, Response}
-use Rattle.nntp_article.specs.{declared.session.profile.Profile.{Profile}, Session.{Machine.{Visible, start, fits}, Spool.{Spool}}}
+use Rattle.nntp_wire.specs.Answer.{Asked}
+use Rattle.nntp_article.specs.{declared.session.profile.Profile.{Profile}, Session.{Machine.{Visible, start}, Spool.{Spool}}}
 use Rattle.nntp_pair.specs.Pairing.{Paired, asked_at, asked_of, responses_of}
 use Rattle.nntp_said.specs.{declared.position.Position.TheVariants.{Nowhere}, Facts.{Fact, Holds, facts_of}, Inner.Facts.{FitsAll}}
 use Rattle.nntp_theory.specs.{declared.noted.Noted.TheVariants.{Contradiction}, Answered.{Answered, facts_of_all}, Inner.Answered.{FitEach}}
 use Rattle.nntp_theory.specs.{Inner.{Conflict.{FitsThere}, Exchanged.{said_by}}, Classes.{visible_from}, Conflict.{Placed, placed_of, placed_behind}}
-use Rattle.nntp_theory.specs.{Conflict.{said as said_there, told, told_at, told_with, below, SomeHas}, Given.{facts_of_session}, Permitted.{exchanged}}
-use Rattle.nntp_theory.{specs.Permitted.{ArePermittedBehind}, proofs.Conflicts.{session_fits, session_told, there_said, told_own, all_places}}
-use Rattle.nntp_theory.proofs.{Members.{all_both, all_front, all_back}, Given.{GivenPermits.{said}, SessionsByFacts.{stand_each, permits_each}}}
-use Rattle.nntp_theory.proofs.{Given.SessionsGoOn.{facts_behind}, Session.{LaterPrompts.{next_behind, run_longer, visible_longer}, OneMoreAnswer.{as_few}}}
-use Rattle.nntp_theory.proofs.Session.{OneMoreAnswer.{fitting_grows}, PairsGoOn.{Runs, as_many, ends, facts_next}}
+use Rattle.nntp_theory.specs.{Conflict.{said as said_there, told, told_at, told_with, below, SomeHas}, Permitted.{exchanged, ArePermittedBehind}}
+use Rattle.nntp_theory.proofs.{Conflicts.{session_fits, session_told, there_said, told_own, all_places}, Members.{all_both, all_front, all_back}}
+use Rattle.nntp_theory.proofs.Given.{GivenPermits.{said}, SessionsByFacts.{stand_each, permits_each}, SessionsGoOn.{facts_behind}}
+use Rattle.nntp_theory.proofs.Session.{LaterPrompts.{next_behind, run_longer, visible_longer}, OneMoreAnswer.{as_few, fitting_grows}, PairsGoOn.{Runs, as_many}}
+use Rattle.nntp_theory.proofs.Session.PairsGoOn.{ends, facts_next}
 use Rattle.nntp_facts.{specs.Inner.Noted.{FactsKept, HasNotedBehind, IsDue, IsNotedBehind}, proofs.Reading.NotedContradictions.{placed_next}}
 use Rattle.nntp_several.specs.Conflict.{placed_of_all}
 
 -- the answers of sessions that fit fit where they stand
 all_fit : (profile : Profile) (earlier : List (List Paired)) → FitEach profile (map exchanged earlier) → AllByRecursion (FitsThere profile) (flat_map placed_of earlier)
 all_fit profile [] f = tt
-all_fit profile (pairs ∷ earlier) f =
-    all_both (FitsThere profile) (placed_of pairs) (flat_map placed_of earlier) (session_fits profile start.visible Nowhere (asked_of pairs) (responses_of pairs) f.0) (all_fit profile earlier f.1)
+all_fit profile (pairs ∷ earlier) f = grind (arith, all_both, session_fits, all_fit profile earlier f.1)
 
 pub accepted_fit_behind : (profile : Profile) (facts : FactsKept) (earlier : List (List Paired)) (past : List Paired) → HasNotedBehind profile facts earlier past
     → AllByRecursion (FitsThere profile) (placed_of_all earlier past)
-accepted_fit_behind profile facts earlier past s =
-    let h = s.permitted in
-    let fit = (stand_each profile h.0 (map exchanged earlier ++ exchanged past ∷ []) h.1 h.2).0 in
-    let Fits : Answered → Type 0 = λ s. FitsAll profile start.visible s.prompts s.answers in
-    all_both (FitsThere profile) (flat_map placed_of earlier) (placed_of past)
-    (all_fit profile earlier (all_front Fits (map exchanged earlier) (exchanged past ∷ []) fit))
-    (session_fits profile start.visible Nowhere (asked_of past) (responses_of past) (all_back Fits (map exchanged earlier) (exchanged past ∷ []) fit).0)
+accepted_fit_behind profile facts earlier past s = grind (arith, stand_each, all_both, all_fit, all_front, session_fits, all_back)
 
 -- one exchange more
 pub placed_next_behind : (earlier : List (List Paired)) (past : List Paired) (pair : Paired) → placed_of_all earlier (past ++ pair ∷ []) ≡ placed_of_all earlier past ++ placed_behind past pair ∷ []
-placed_next_behind earlier past pair =
-    ap (λ own. flat_map placed_of earlier ++ own) (placed_next past pair) ∙ sym (append_assoc (flat_map placed_of earlier) (placed_of past) (placed_behind past pair ∷ []))
+placed_next_behind earlier past pair = grind (arith, placed_next, append_assoc)
 
 -- a spool that has what is told of sessions has what they say
 told_of_all : (profile : Profile) (S : Spool) (earlier : List (List Paired)) → AllByRecursion (Holds S) (flat_map (told profile) (flat_map placed_of earlier))
@@ -44,8 +36,7 @@ told_of_all profile S (pairs ∷ earlier) h =
     let own = flat_map (told profile) (placed_of pairs) in
     let rest = flat_map (told profile) (flat_map placed_of earlier) in
     let both = subst (AllByRecursion (Holds S)) (flat_map-append (told profile) (placed_of pairs) (flat_map placed_of earlier)) h in
-    all_both (Holds S) (said_by profile.marks pairs) (facts_of_all profile.marks (map exchanged earlier))
-    (session_told profile S start.visible Nowhere (asked_of pairs) (responses_of pairs) (all_front (Holds S) own rest both)) (told_of_all profile S earlier (all_back (Holds S) own rest both))
+    search (arith, all_both, session_told, all_front, all_back, told_of_all profile S earlier (all_back (Holds S) own rest both))
 
 -- a contradiction fits where it stands, and conflicts with them all
 pub noted_conflicts_behind : (profile : Profile) (facts : FactsKept) (earlier : List (List Paired)) (past : List Paired) (pair : Paired) → HasNotedBehind profile facts earlier past
@@ -88,20 +79,11 @@ noted_conflicts_behind profile facts earlier past pair s due noted = (
         let seen = visible_longer start.visible ps (asked ∷ []) own (as_few past) in
         let run = (all_back (Runs profile s.permitted.0) before (exchanged past ∷ []) s.permitted.2).0 in
         let fit = (said profile s.permitted.0 (ps ++ asked ∷ []) own (run_longer profile s.permitted.0 start ps (asked ∷ []) own run)).0 in
-        subst (λ (q : List Asked × List Response). FitsAll profile start.visible q.0 q.1) (sym (ends past pair))
-        ((fitting_grows profile start.visible (ps ++ asked ∷ []) own asked pair.response (next_behind ps [] asked own (as_many past))).1 (
-          fit,
-          ap (λ (v : Visible). v.closed) (seen ∙ sym s.visible) ∙ due.is_open,
-          subst (λ v. IsTrue (fits profile v asked pair.response)) (s.visible ∙ sym seen) noted.0,
-        ))
+        grind (arith, ends, fitting_grows, asked, next_behind, as_many)
 
     -- what all sessions say with it
     said_with : facts_of_all profile.marks (before ++ exchanged (past ++ pair ∷ []) ∷ []) ≡ facts_of_all profile.marks before ++ (said_by profile.marks past ++ new)
-    said_with =
-        facts_behind profile.marks before (exchanged (past ++ pair ∷ []))
-        ∙ ap (λ own. facts_of_all profile.marks before ++ own)
-        (ap (λ (q : List Asked × List Response). facts_of_session profile.marks q.0 q.1) (ends past pair)
-        ∙ facts_next profile.marks (asked_of past) (responses_of past) asked pair.response (as_many past))
+    said_with = grind (arith, facts_behind, before, ends, facts_next, asked, as_many)
 
     permitted : SomeHas profile (told_with profile bad answers (below (length answers))) → ArePermittedBehind profile earlier (past ++ pair ∷ [])
     permitted (S, spool, holds) =
@@ -114,11 +96,5 @@ noted_conflicts_behind profile facts earlier past pair s due noted = (
         let own = session_told profile S start.visible Nowhere (asked_of past) (responses_of past) (all_back (Holds S) first second both) in
         let last = subst (AllByRecursion (Holds S)) (sym (there_said profile.marks bad here refl))
         (told_own profile S (said_there profile.marks bad) (all_front (Holds S) (told profile bad) others holds)) in
-        let whole = all_both (Holds S) (facts_of_all profile.marks before) (said_by profile.marks past ++ new) all (all_both (Holds S) (said_by profile.marks past) new own last) in
-        let fit = (stand_each profile s.permitted.0 (before ++ exchanged past ∷ []) s.permitted.1 s.permitted.2).0 in (
-          S,
-          spool,
-          permits_each profile S (before ++ exchanged (past ++ pair ∷ []) ∷ [])
-              (all_both Fits before (exchanged (past ++ pair ∷ []) ∷ []) (all_front Fits before (exchanged past ∷ []) fit) (fits_with, tt))
-              (subst (AllByRecursion (Holds S)) (sym said_with) whole),
-        )
+        let fit = (stand_each profile s.permitted.0 (before ++ exchanged past ∷ []) s.permitted.1 s.permitted.2).0 in
+        search (arith, all_both, before, new, permits_each, Fits, all_front, fits_with, said_with)

@@ -1,9 +1,9 @@
 -- Some spool explains several sessions, or exactly one answer is bad.
-use Rattle.std.proofs.Common.{◌≡◌, ℕ, zero, suc, ◌+◌, ◌<◌, ◌≤◌, ◌^◌, ◌⊎◌, List, [], ◌∷◌, ◌++◌, length, take, Option, None, Some, slice_get, inl, inr, refl, sym}
-use Rattle.std.{proofs.{Common.{ap, subst, ◌∙◌, arith, length-append, append_assoc, append-nil}, lemmas.Bool.{cases_order}}, specs.Prelude.{MatchOption}}
+use Rattle.std.proofs.Common.{◌≡◌, ℕ, zero, suc, ◌+◌, ◌<◌, ◌≤◌, ◌^◌, ◌⊎◌, List, [], ◌∷◌, ◌++◌, length, take, Option, Some, slice_get, inl, inr, refl, sym, ap}
+use Rattle.std.{proofs.{Common.{subst, ◌∙◌, arith, length-append, append_assoc, append-nil}, lemmas.Bool.{cases_order}}, specs.Prelude.{MatchOption}}
 use Rattle.std.specs.List.{AllByRecursion}
 use Rattle.nntp_wire.specs.{Answer.{Response}, Session.{prompts_of}, declared.marks.Marks.{Marks}}
-use Rattle.nntp_article.specs.{Session.{Spool.{Spool, IsSpool}, Machine.{Run, start}, Explains.{Explains}}, declared.session.profile.Profile.{Profile}}
+use Rattle.nntp_article.specs.{Session.{Spool.{Spool, IsSpool}, Machine.{Run, start}}, declared.session.profile.Profile.{Profile}}
 use Rattle.nntp_theory.{specs.{Inner.Given.{size}, Answered.{Answered, PermitsEach, facts_in, facts_of_all}}, proofs.Members.{all_both, all_front, all_back}}
 use Rattle.nntp_theory.proofs.Given.{FirstBadAnswer.{size-append, none_permitted}, SessionsByFacts.{some_or_none_of_all}}
 use Rattle.nntp_theory.proofs.{Session.OneMoreAnswer.{size_by_octets}, Streams.ExplainedOrBad.{bad_once, explained_not_bad_among, explained_or_bad_among}}
@@ -18,8 +18,7 @@ pub same_each : (profile : Profile) (S T : Spool) (sessions : List Recorded) (x 
 same_each profile S T [] x y = refl
 same_each profile S T (s ∷ more) x y =
     let one = same_answers profile S T s.client s.server x.0.0 y.0.0 x.0.1 y.0.1 in
-    let rest = same_each profile S T more x.1 y.1 in
-    λ i. record { prompts = prompts_of s.client; answers = one i } ∷ rest i
+    grind (arith, same_each profile S T more x.1 y.1)
 
 -- who explains sessions permits their answers
 pub runs_each : (profile : Profile) (S : Spool) (sessions : List Recorded) (x : ExplainsEach profile S sessions) → PermitsEach profile S (answered_by profile S sessions x)
@@ -30,21 +29,13 @@ runs_each profile S (s ∷ more) x = (x.0.1.run, runs_each profile S more x.1)
 pub explains_each : (profile : Profile) (S : Spool) (sessions : List Recorded) (x : ExplainsEach profile S sessions) (T : Spool) → IsSpool profile.limit T
     → PermitsEach profile T (answered_by profile S sessions x) → ExplainsEach profile T sessions
 explains_each profile S [] x T spool h = tt
-explains_each profile S (s ∷ more) x T spool h =
-    let e = x.0.1 in
-    let one : Explains profile T s.client s.server x.0.0 =
-    record { is_spool = spool; answers = e.answers; octets = e.octets; count = e.count; run = h.0; spelled = e.spelled; whole = e.whole } in
-    ((x.0.0, one), explains_each profile S more x.1 T spool h.1)
+explains_each profile S (s ∷ more) x T spool h = grind (arith, explains_each profile S more x.1 T spool h.1)
 
 -- ---- sizes
 
 pub size_of_both : (how : Marks) (xs ys : List Answered) → size (facts_of_all how (xs ++ ys)) ≡ size (facts_of_all how xs) + size (facts_of_all how ys)
 size_of_both how [] ys = omega arith
-size_of_both how (s ∷ xs) ys =
-    let all = size-append (facts_in how s) (facts_of_all how (xs ++ ys)) in
-    let front = size-append (facts_in how s) (facts_of_all how xs) in
-    let rest = size_of_both how xs ys in
-    omega arith
+size_of_both how (s ∷ xs) ys = grind (arith, size-append, size_of_both how xs ys)
 
 -- what explained sessions say is bounded by their octets
 pub size_by_all_octets : (profile : Profile) (S : Spool) (sessions : List Recorded) (x : ExplainsEach profile S sessions)
@@ -55,9 +46,7 @@ size_by_all_octets profile S (s ∷ more) x =
     let own : Answered = record { prompts = prompts_of s.client; answers = e.answers } in
     let both = size-append (facts_in profile.marks own) (facts_of_all profile.marks (answered_by profile S more x.1)) in
     let here = size_by_octets profile.marks (prompts_of s.client) e.answers e.octets e.spelled in
-    let whole = ap length e.whole ∙ length-append e.octets [] in
-    let rest = size_by_all_octets profile S more x.1 in
-    omega arith
+    grind (arith, length-append, size_by_all_octets profile S more x.1)
 
 pub octets_of_both : (xs ys : List Recorded) → octets_of (xs ++ ys) ≡ octets_of xs + octets_of ys
 octets_of_both [] ys = omega arith
@@ -99,10 +88,9 @@ module _ (profile : Profile) (before : List Recorded) (base : (S : Spool) × Exp
       few =
           let both = size_of_both profile.marks past (own ∷ []) in
           let one = size-append (facts_in profile.marks own) [] in
-          let bound = size_by_all_octets profile base.0 before base.1.1 in
           let here = size_by_octets profile.marks (prompts_of s.client) answers octets spelled in
           let long = ap length whole ∙ length-append octets rest in
-          omega arith
+          grind (arith, size_by_all_octets)
 
   -- so some spool explains this one too, or an answer of it is bad
   pub next_or_bad : ((S : Spool) × ExplainsAll profile S (before ++ s ∷ [])) ⊎ ((k : ℕ) × BadBehind profile before s k)
@@ -115,16 +103,13 @@ module _ (profile : Profile) (before : List Recorded) (base : (S : Spool) × Exp
 
 -- the element behind some is at their number, and those are taken
 pub there : {A : Type 0} (xs : List A) (x : A) (ys : List A) (n : ℕ) → n ≡ length xs → (slice_get (xs ++ x ∷ ys) n ≡ Some x) × (take n (xs ++ x ∷ ys) ≡ xs)
-there [] x ys zero e = (refl, refl)
-there [] x ys (suc n) e = absurd (omega arith)
-there (y ∷ xs) x ys zero e = absurd (omega arith)
 there (y ∷ xs) x ys (suc n) e = let r = there xs x ys n (omega arith) in (r.0, ap (λ zs. y ∷ zs) r.1)
+there xs x ys n e = grind arith
 
 -- what holds of each of a list holds of the one at a place, and of those before it
 pub each_to : {A : Type 0} (P : A → Type 0) (xs : List A) (n : ℕ) (x : A) → AllByRecursion P xs → slice_get xs n ≡ Some x → P x × AllByRecursion P (take n xs)
-each_to P [] n x h e = cc
-each_to P (y ∷ xs) zero x h e = (subst P (let same : y ≡ x = cc in same) h.0, tt)
 each_to P (y ∷ xs) (suc n) x h e = let r = each_to P xs n x h.1 e in (r.0, (h.0, r.1))
+each_to P xs n x h e = grind arith
 
 -- and so of those before a later place
 pub taken_to : {A : Type 0} (xs : List A) (n m : ℕ) (x : A) → n < m → slice_get xs n ≡ Some x → (slice_get (take m xs) n ≡ Some x) × (take n (take m xs) ≡ take n xs)
@@ -143,8 +128,7 @@ pub bad_there : (profile : Profile) (sessions : List Recorded) (j k : ℕ) → B
 bad_there profile sessions j k h = by (slice_get sessions j) refl h
   where
     by : (o : Option Recorded) → slice_get sessions j ≡ o → MatchOption o ⊥ (λ session. BadBehind profile (take j sessions) session k) → BadThere profile sessions j k
-    by None e h = absurd h
-    by (Some s) e h = record { session = s; place = e; bad = h }
+    by o e h = grind arith
 
 pub bad_at : (profile : Profile) (before : List Recorded) (s : Recorded) (more : List Recorded) (k : ℕ) → BadBehind profile before s k → BadOfAll profile (before ++ s ∷ more) (length before) k
 bad_at profile before s more k h =

@@ -1,6 +1,6 @@
 -- Several sessions have one outcome, and it is a yes exactly if some spool explains them all.
-use Rattle.std.proofs.Common.{◌≡◌, ◌↔◌, ℕ, zero, suc, ◌<◌, ◌^◌, IsTrue, List, [], ◌∷◌, Option, None, Some, slice_get, take, inl, inr, refl, sym, ap, subst, ◌∙◌}
-use Rattle.std.{proofs.{Common.{append-nil, arith}, lemmas.Bool.{true≢false}}, specs.Prelude.{MatchOption}}
+use Rattle.std.proofs.Common.{◌≡◌, ◌↔◌, ℕ, zero, suc, ◌<◌, ◌^◌, IsTrue, List, [], ◌∷◌, Option, slice_get, take, inl, inr, refl, sym, ap, subst, append-nil}
+use Rattle.std.{proofs.{Common.{arith}, lemmas.Bool.{true≢false}}, specs.Prelude.{MatchOption}}
 use Rattle.nntp_article.specs.{Session.{Spool.{Spool}, Explains.{Explains, Bad}}, declared.session.profile.Profile.{Profile}}
 use Rattle.nntp_wire.specs.Session.{prompts_of}
 use Rattle.nntp_said.specs.Facts.{Fact}
@@ -50,26 +50,15 @@ one_class_there profile sessions j k c d = by (slice_get sessions j)
   where
     by : (o : Option Recorded) → MatchOption o ⊥ (λ session. HasClass profile session.client session.server k c)
         → MatchOption o ⊥ (λ session. HasClass profile session.client session.server k d) → c ≡ d
-    by None h g = absurd h
-    by (Some s) h g = one_class profile s.client s.server k c d h g
+    by o h g = grind (arith, one_class)
 
 -- ---- one outcome
 
 pub one_outcome_of_all : (profile : Profile) (sessions : List Recorded) (h k : OutcomeOfAll) → IsOutcomeOfAll profile sessions h → IsOutcomeOfAll profile sessions k → h ≡ k
-one_outcome_of_all profile sessions (YesOfAll S ns) (YesOfAll T ms) x y =
-    let answered = same_each profile S T sessions x.explains.1 y.explains.1 in
-    let count : ns ≡ ms = x.count ∙ ap counts_of answered ∙ sym y.count in
-    let spool : S ≡ T =
-    given_once (facts_of_all profile.marks (answered_by profile T sessions y.explains.1)) S T
-    (subst (λ answered. IsGiven (facts_of_all profile.marks answered) S) answered x.given) y.given in
-    λ i. YesOfAll (spool i) (count i)
+one_outcome_of_all profile sessions (YesOfAll S ns) (YesOfAll T ms) x y = grind (arith, same_each, given_once)
 one_outcome_of_all profile sessions (YesOfAll S ns) (NoOfAll j k class) x y = absurd (explained_not_bad_of_all profile S sessions j k x.explains.1 y.0)
 one_outcome_of_all profile sessions (NoOfAll j k class) (YesOfAll S ns) x y = absurd (explained_not_bad_of_all profile S sessions j k y.explains.1 x.0)
-one_outcome_of_all profile sessions (NoOfAll j k c) (NoOfAll i l d) x y =
-    let place = bad_once_of_all profile sessions j i k l x.0 y.0 in
-    let class : c ≡ d = one_class_there profile sessions i l c d
-    (subst (λ (p : ℕ × ℕ). HasClassThere profile sessions p.0 p.1 c) (λ t. (place.0 t, place.1 t)) x.1) y.1 in
-    λ t. NoOfAll (place.0 t) (place.1 t) (class t)
+one_outcome_of_all profile sessions (NoOfAll j k c) (NoOfAll i l d) x y = grind (arith, bad_once_of_all, one_class_there)
 
 pub some_outcome_of_all : (profile : Profile) (sessions : List Recorded) → octets_of sessions < 2 ^ 210 → (h : OutcomeOfAll) × IsOutcomeOfAll profile sessions h
 some_outcome_of_all profile sessions small = elim (explained_or_bad_of_all profile sessions small) [

@@ -1,11 +1,11 @@
 -- Judging sessions one exchange after the other: how it begins, passes an exchange, goes on to the next session, and ends.
 use Rattle.std.proofs.{Common.{◌≡◌, ℕ, ◌+◌, ◌<◌, ◌^◌, List, [], ◌∷◌, ◌++◌, length, map, refl, sym, ap, subst, ◌∙◌, arith}, lemmas.List.{map-append}}
-use Rattle.nntp_article.specs.{Session.{Spool.{Spool}, Machine.{Run, start}}, declared.session.profile.Profile.{Profile}}
+use Rattle.nntp_article.specs.{Session.Spool.{Spool}, declared.session.profile.Profile.{Profile}}
 use Rattle.nntp_pair.specs.declared.class.{PairClass.{PairClass}, Class.TheVariants.{OutOfPlace as IsOutOfPlace, Contradiction as Contradicts}}
 use Rattle.nntp_pair.{specs.{Pairing.{Paired, Unpaired, IsNext, Ends, end, bad, streams}, Classes.{class_of}}, proofs.PairingLemmas.{AreNext-push}}
 use Rattle.nntp_theory.specs.{declared.noted.Noted.TheVariants.{Consistent, OutOfPlace, Contradiction}, Given.{IsGiven}, Inner.Given.{size}}
-use Rattle.nntp_theory.specs.{Inner.Exchanged.{said_behind}, Answered.{Answered, SomePermitsEach, facts_of_all}, Permitted.{exchanged}}
-use Rattle.nntp_theory.proofs.{Members.{all_front}, Given.SessionsGoOn.{facts_behind, small_behind}}
+use Rattle.nntp_theory.{specs.{Inner.Exchanged.{said_behind}, Answered.{SomePermitsEach, facts_of_all}, Permitted.{exchanged}}, proofs.Members.{all_front}}
+use Rattle.nntp_theory.proofs.Given.SessionsGoOn.{facts_behind, small_behind}
 use Rattle.nntp_facts.{specs.Inner.Noted.{FactsKept, HasNotedBehind, IsNotedBehind, begun}, proofs.Reading.NotedAsJudged.{unfit_refused, contradiction_refused}}
 use Rattle.nntp_facts.proofs.Keeping.NotedSessions.{session_begins}
 use Rattle.nntp_several.specs.{Outcome.{YesOfAll, NoOfAll, IsOutcomeOfAll}, Inner.{Paired.{IsPairedWhole, ArePaired}, Passing.{PassedOfAll}}}
@@ -15,24 +15,18 @@ use Rattle.nntp_several.proofs.WaysToOutcome.{outcome_at_response_of_all}
 -- one session more is paired whole
 pub paired_push : (before : List Recorded) (earlier : List (List Paired)) (s : Recorded) (pairs : List Paired) → ArePaired before earlier → IsPairedWhole s pairs
     → ArePaired (before ++ s ∷ []) (earlier ++ pairs ∷ [])
-paired_push [] [] s pairs p w = (w, tt)
-paired_push [] (x ∷ earlier) s pairs p w = absurd p
-paired_push (r ∷ before) [] s pairs p w = absurd p
 paired_push (r ∷ before) (x ∷ earlier) s pairs p w = (p.0, paired_push before earlier s pairs p.1 w)
+paired_push before earlier s pairs p w = grind arith
 
 -- there are as many
 pub as_many_sessions : (before : List Recorded) (earlier : List (List Paired)) → ArePaired before earlier → length before ≡ length earlier
-as_many_sessions [] [] p = refl
-as_many_sessions [] (x ∷ earlier) p = absurd p
-as_many_sessions (r ∷ before) [] p = absurd p
 as_many_sessions (r ∷ before) (x ∷ earlier) p = let rest = as_many_sessions before earlier p.1 in omega (arith, rest)
+as_many_sessions before earlier p = grind arith
 
 -- some spool permits the exchanges of earlier sessions
 pub earlier_permitted : (profile : Profile) (facts : FactsKept) (earlier : List (List Paired)) (past : List Paired) → HasNotedBehind profile facts earlier past
     → SomePermitsEach profile (map exchanged earlier)
-earlier_permitted profile facts earlier past h =
-    let p = h.permitted in
-    (p.0, p.1, all_front (λ (s : Answered). Run profile p.0 start s.prompts s.answers) (map exchanged earlier) (exchanged past ∷ []) p.2)
+earlier_permitted profile facts earlier past h = search (arith, all_front)
 
 -- the first session
 pub passing_begins : (profile : Profile) (facts : FactsKept) (s : Recorded) → HasNotedBehind profile facts [] [] → PassedOfAll profile [] s facts (streams s.client s.server)
@@ -75,9 +69,7 @@ passing_ends profile before s facts left unanswered G p ends given =
 pub passing_stops : (profile : Profile) (before : List Recorded) (s : Recorded) (more : List Recorded) (facts : FactsKept) (left : Unpaired) (class : PairClass)
     (p : PassedOfAll profile before s facts left)
     → Ends left (bad class) → IsOutcomeOfAll profile (before ++ s ∷ more) (NoOfAll (length before) (length p.pairs) (class_of class))
-passing_stops profile before s more facts left class p ends =
-    outcome_at_octets_of_all profile before p.earlier p.ended s more (earlier_permitted profile facts p.earlier p.pairs p.stands) p.pairs class
-    (record { left = left; paired = p.next; ends = ends }) p.stands.permitted
+passing_stops profile before s more facts left class p ends = search (arith, outcome_at_octets_of_all, earlier_permitted)
 
 -- at a contradiction
 pub passing_contradicted : (profile : Profile) (before : List Recorded) (s : Recorded) (more : List Recorded) (old now : FactsKept) (left after : Unpaired) (pair : Paired)

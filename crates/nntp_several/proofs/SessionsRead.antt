@@ -1,15 +1,15 @@
 -- Several sessions have one reading; its first bad answer is that of the outcome; and all is accepted exactly if some spool explains them.
 use Rattle.std.proofs.Common.{◌≡◌, ◌⊎◌, ◌↔◌, ℕ, ◌+◌, ◌<◌, ◌≤◌, ◌^◌, List, [], ◌∷◌, ◌++◌, length, map, Some, inl, inr, refl, sym, ap, subst, ◌∙◌, arith}
-use Rattle.std.{proofs.{Common.{append_assoc, append-nil, length-append}, lemmas.List.{map-append}}, specs.{Prelude.{MatchOption}, List.{AllByRecursion}}}
+use Rattle.std.{proofs.{Common.{append_assoc, append-nil, length-append}, lemmas.List.{map-append}}, specs.List.{AllByRecursion}}
 use Rattle.nntp_wire.specs.{Session.{prompts_of}, declared.marks.Marks.{Marks}}
 use Rattle.nntp_article.specs.{Session.{Spool.{Spool, IsSpool}, Machine.{Run, start, fits}}, declared.session.profile.Profile.{Profile}}
 use Rattle.nntp_pair.specs.{declared.class.{PairClass.{PairClass, TheVariants.{Malformed as PairMalformed}}, Class.{Class}}, Pairing.{Paired, Unpaired, IsNext}}
 use Rattle.nntp_pair.specs.{Pairing.{AreNext, Ending, end, bad, IsPairing, asked_at, asked_of, responses_of, streams}, Classes.{class_of}}
 use Rattle.nntp_pair.proofs.PassedLemmas.{passed-ends}
-use Rattle.nntp_theory.specs.{Classes.{visible_from, HasClass, class_by}, Inner.{Given.{size, weight}, Exchanged.{said_behind}}, Reading.{Judged, Accepted}}
-use Rattle.nntp_theory.specs.{Reading.{Refused, Unspelled, accepted_of, IsReadingBy, IsReading, class_behind}, Answered.{PermitsEach, SomePermitsEach}}
-use Rattle.nntp_theory.{specs.{Answered.{facts_of_all}, Permitted.{exchanged, ArePermittedBehind}}, proofs.Members.{all_both, all_front, all_back}}
-use Rattle.nntp_theory.proofs.Given.{FirstBadAnswer.{size-append, none_permitted}, SessionsByFacts.{some_or_none_of_all}, SessionsGoOn.{facts_behind}}
+use Rattle.nntp_theory.specs.{Classes.{visible_from, HasClass, class_by}, Inner.Given.{size, weight}, Reading.{Judged, Accepted, Refused, Unspelled}}
+use Rattle.nntp_theory.specs.{Reading.{accepted_of, IsReadingBy, IsReading, class_behind}, Answered.{PermitsEach, SomePermitsEach, facts_of_all}}
+use Rattle.nntp_theory.{specs.Permitted.{exchanged, ArePermittedBehind}, proofs.{Members.{all_both, all_front, all_back}, Given.FirstBadAnswer.{size-append}}}
+use Rattle.nntp_theory.proofs.Given.{FirstBadAnswer.{none_permitted}, SessionsByFacts.{some_or_none_of_all}, SessionsGoOn.{facts_behind}}
 use Rattle.nntp_theory.proofs.{Ids.SizeOfASession.{session_size}, Session.{OneMoreAnswer.{pairs_run}, PairsGoOn.{Runs}}, Streams.ExplainedPairs.{by_all_pairs}}
 use Rattle.nntp_theory.proofs.{Streams.{OneOutcome.{bad_response}, PairedStreams.{explained_end, bad_end}}, Reading.FirstBadOfAReading.{accepted_all}}
 use Rattle.nntp_theory.proofs.Reading.{FirstBadOfAReading.{accepted_or_bad}, JudgedAnswers.{accepted_light, accepted_first, all_paired}}
@@ -23,16 +23,12 @@ use Rattle.nntp_several.proofs.ExplainedSessions.{there, bad_at, explained_not_b
 -- sessions have one reading
 pub one_reading_from : (profile : Profile) (earlier : List (List Paired)) (sessions : List Recorded) (rs qs : List ReadSession)
     → AreReadings profile earlier sessions rs → AreReadings profile earlier sessions qs → rs ≡ qs
-one_reading_from profile earlier [] [] [] x y = refl
-one_reading_from profile earlier [] [] (q ∷ qs) x y = absurd y
-one_reading_from profile earlier [] (r ∷ rs) qs x y = absurd x
-one_reading_from profile earlier (s ∷ more) [] qs x y = absurd x
-one_reading_from profile earlier (s ∷ more) (r ∷ rs) [] x y = absurd y
 one_reading_from profile earlier (s ∷ more) (r ∷ rs) (q ∷ qs) x y =
     let one = one_reading (ArePermittedBehind profile earlier) s.client s.server r.answers q.answers r.ending q.ending x.0 y.0 in
     let here = subst (λ answers. AreReadings profile (earlier ++ accepted_of answers ∷ []) more rs) one.0 x.1 in
     let rest = one_reading_from profile (earlier ++ accepted_of q.answers ∷ []) more rs qs here y.1 in
     λ i. record { answers = one.0 i; ending = one.1 i } ∷ rest i
+one_reading_from profile earlier sessions rs qs x y = grind arith
 
 -- ---- and one at least
 
@@ -48,21 +44,14 @@ weight_of_both (pairs ∷ xs) ys = let rest = weight_of_both xs ys in omega (ari
 -- what they say is bounded by it
 size_by_weight : (how : Marks) (earlier : List (List Paired)) → size (facts_of_all how (map exchanged earlier)) ≤ weight_of_all earlier
 size_by_weight how [] = omega arith
-size_by_weight how (pairs ∷ earlier) =
-    let both = size-append (said_behind how [] pairs) (facts_of_all how (map exchanged earlier)) in
-    let here = session_size how (asked_of pairs) (responses_of pairs) in
-    let rest = size_by_weight how earlier in
-    omega (arith, both, here, rest)
+size_by_weight how (pairs ∷ earlier) = grind (arith, size-append, session_size, size_by_weight how earlier)
 
 -- so it is decided whether some spool permits exchanges behind them
 decided_behind : (profile : Profile) (earlier : List (List Paired)) (most : ℕ) → weight_of_all earlier + most < 2 ^ 210 → (past : List Paired) → weight (responses_of past) ≤ most
     → ArePermittedBehind profile earlier past ⊎ (ArePermittedBehind profile earlier past → ⊥)
 decided_behind profile earlier most small past light =
     let whole = ap size (facts_behind profile.marks (map exchanged earlier) (exchanged past)) in
-    let both = size-append (facts_of_all profile.marks (map exchanged earlier)) (said_behind profile.marks [] past) in
-    let here = session_size profile.marks (asked_of past) (responses_of past) in
-    let rest = size_by_weight profile.marks earlier in
-    some_or_none_of_all profile (map exchanged earlier ++ exchanged past ∷ []) (omega (arith, whole, both, here, rest, small, light))
+    grind (arith, size-append, session_size, size_by_weight, some_or_none_of_all)
 
 -- sessions have a reading
 pub some_reading_from : (profile : Profile) (earlier : List (List Paired)) (sessions : List Recorded) → weight_of_all earlier + octets_of sessions < 2 ^ 210
@@ -107,9 +96,7 @@ follows_more profile earlier before s pairs unanswered f pairing S spool = (to, 
     back x =
         let e = (all_back (ExplainsIt profile S) before (s ∷ []) x).0 in
         let answers = (by_all_pairs profile S s.client s.server e.0 pairs (end unanswered) pairing e.1).0 in
-        let run = runs.0 (subst (λ answers. Run profile S start (prompts_of s.client) answers) (sym answers) e.1.run) in
-        subst (PermitsEach profile S) (sym same)
-        (all_both (Runs profile S) (map exchanged earlier) (exchanged pairs ∷ []) ((f S spool).1 (all_front (ExplainsIt profile S) before (s ∷ []) x)) (run, tt))
+        grind (arith, runs, same, all_both, all_front)
 
 -- no exchanges of the next session
 none_behind : (profile : Profile) (earlier : List (List Paired)) → SomePermitsEach profile (map exchanged earlier) → ArePermittedBehind profile earlier []
@@ -188,10 +175,7 @@ module _ (profile : Profile) (earlier : List (List Paired)) (before : List Recor
 -- what is bad of one is the outcome of all
 pub outcome_at : (profile : Profile) (before : List Recorded) (s : Recorded) (more : List Recorded) (k : ℕ) (class : Class) → BadBehind profile before s k
     → HasClass profile s.client s.server k class → IsOutcomeOfAll profile (before ++ s ∷ more) (NoOfAll (length before) k class)
-outcome_at profile before s more k class bad_one has = (
-  bad_at profile before s more k bad_one,
-  subst (λ o. MatchOption o ⊥ (λ session. HasClass profile session.client session.server k class)) (sym (there before s more (length before) refl).0) has,
-)
+outcome_at profile before s more k class bad_one has = grind (arith, bad_at, there)
 
 -- the first session that isn't good
 first_bad_from : (profile : Profile) (earlier : List (List Paired)) (before sessions : List Recorded) (front : List ReadSession) (r : ReadSession) (rest : List ReadSession) (k : ℕ) (class : Class)
@@ -208,9 +192,7 @@ first_bad_from profile earlier before (s ∷ more) (q ∷ front) r rest k class 
     let pairs = accepted_of q.answers in
     let next = first_bad_from profile (earlier ++ pairs ∷ []) (before ++ s ∷ []) more front r rest k class
     (follows_more profile earlier before s pairs g.0 f g.1) (earlier_then profile earlier pairs g.2) x.1 good.1 b in
-    let sessions : (before ++ s ∷ []) ++ more ≡ before ++ s ∷ more = append_assoc before (s ∷ []) more in
-    let count : length (before ++ s ∷ []) + length front ≡ length before + length (q ∷ front) = omega (arith, length-append before (s ∷ [])) in
-    subst (λ (t : List Recorded × ℕ). IsOutcomeOfAll profile t.0 (NoOfAll t.1 k class)) (λ i. (sessions i, count i)) next
+    grind (arith, append_assoc, length-append)
 
 -- where all are good, some spool explains them
 good_from : (profile : Profile) (earlier : List (List Paired)) (before sessions : List Recorded) (rs : List ReadSession)

@@ -1,6 +1,6 @@
 -- What `verify` answers of several sessions is one; and of a spool that explains them all it is that it permits them.
-use Rattle.std.proofs.Common.{◌≡◌, ℕ, ◌+◌, ◌<◌, ◌≤◌, List, [], ◌∷◌, ◌++◌, length, take, get_or, Option, None, Some, slice_get, inl, inr, refl, sym, ap, ap₂}
-use Rattle.std.proofs.{Common.{subst, ◌∙◌, arith}, lemmas.{Bool.{cases_order}, List.{take_more, take_all, length-take-le}, Option.{slice_get-get_or}}}
+use Rattle.std.proofs.Common.{◌≡◌, ℕ, ◌+◌, ◌<◌, ◌≤◌, List, [], ◌∷◌, ◌++◌, length, take, get_or, Option, Some, slice_get, inl, inr, refl, sym, ap, ap₂, subst}
+use Rattle.std.proofs.{Common.{◌∙◌, arith}, lemmas.{Bool.{cases_order}, List.{take_more, take_all, length-take-le}, Option.{slice_get-get_or}}}
 use Rattle.std.specs.Prelude.{MatchOption}
 use Rattle.nntp_article.specs.{Session.{Spool.{Spool}, Explains.{Explains}}, declared.session.profile.Profile.{Profile}}
 use Rattle.nntp_theory.proofs.Streams.{ExplainedOrBad.{first_explained}, OneOutcome.{same_answers}}
@@ -24,8 +24,7 @@ refused_there profile S sessions j k h = by (slice_get sessions j) refl h
   where
     by : (o : Option Recorded) → slice_get sessions j ≡ o → MatchOption o ⊥ (λ s. ExplainsEach profile S (take j sessions) × RefusesAt profile S s.client s.server k)
         → RefusedThere profile S sessions j k
-    by None e h = absurd h
-    by (Some s) e h = record { session = s; place = e; before = h.0; refused = h.1 }
+    by o e h = grind arith
 
 -- what explains all refuses nothing
 unrefused : (profile : Profile) (S : Spool) (sessions : List Recorded) (j k : ℕ) → ExplainsEach profile S sessions → Refused profile S sessions j k → ⊥
@@ -36,25 +35,20 @@ unrefused profile S sessions j k x h =
 
 -- permitted sessions are explained
 explained_by : (profile : Profile) (S : Spool) (sessions : List Recorded) (ns : List ℕ) → IsVerifiedOfAll profile S sessions (PermitsAll ns) → ExplainsEach profile S sessions
-explained_by profile S [] [] h = tt
-explained_by profile S [] (n ∷ ns) h = absurd h
-explained_by profile S (s ∷ more) [] h = absurd h
 explained_by profile S (s ∷ more) (n ∷ ns) h = ((n, h.0), explained_by profile S more ns h.1)
+explained_by profile S sessions ns h = grind arith
 
 -- with as many answers
 counted : (profile : Profile) (S : Spool) (sessions : List Recorded) (ns : List ℕ) (x : ExplainsEach profile S sessions) → IsVerifiedOfAll profile S sessions (PermitsAll ns)
     → ns ≡ counts_of (answered_by profile S sessions x)
-counted profile S [] [] x h = refl
-counted profile S [] (n ∷ ns) x h = absurd h
-counted profile S (s ∷ more) [] x h = absurd h
 counted profile S (s ∷ more) (n ∷ ns) x h =
     ap₂ (λ n ns. n ∷ ns) (sym h.0.count ∙ ap length (same_answers profile S S s.client s.server n x.0.0 h.0 x.0.1)) (counted profile S more ns x.1 h.1)
+counted profile S sessions ns x h = grind arith
 
 -- `verify` answers of a spool that explains all that it permits them
 pub permits_alone : (profile : Profile) (S : Spool) (sessions : List Recorded) (x : ExplainsEach profile S sessions) (verified : VerifiedOfAll)
     → IsVerifiedOfAll profile S sessions verified → verified ≡ PermitsAll (counts_of (answered_by profile S sessions x))
-permits_alone profile S sessions x (PermitsAll ns) h = ap PermitsAll (counted profile S sessions ns x h)
-permits_alone profile S sessions x (RefusesOne j k) h = absurd (unrefused profile S sessions j k x h)
+permits_alone profile S sessions x verified h = grind (arith, counted, unrefused)
 
 -- a later session isn't refused where an earlier one is
 not_later : (profile : Profile) (S : Spool) (sessions : List Recorded) (j i k l : ℕ) → j < i → Refused profile S sessions j k → Refused profile S sessions i l → ⊥
@@ -93,17 +87,13 @@ one_verified profile S sessions (RefusesOne j k) (RefusesOne i l) h g = elim (ca
 
 -- there are as many numbers as sessions
 pub as_many_counts : (P : Recorded → ℕ → Type 0) (sessions : List Recorded) (ns : List ℕ) → OfEach P sessions ns → length ns ≡ length sessions
-as_many_counts P [] [] h = refl
-as_many_counts P [] (n ∷ ns) h = absurd h
-as_many_counts P (s ∷ more) [] h = absurd h
 as_many_counts P (s ∷ more) (n ∷ ns) h = let rest = as_many_counts P more ns h.1 in omega (arith, rest)
+as_many_counts P sessions ns h = grind arith
 
 -- one session more
 of_each_push : (P : Recorded → ℕ → Type 0) (sessions : List Recorded) (ns : List ℕ) (s : Recorded) (n : ℕ) → OfEach P sessions ns → P s n → OfEach P (sessions ++ s ∷ []) (ns ++ n ∷ [])
-of_each_push P [] [] s n h x = (x, tt)
-of_each_push P [] (m ∷ ns) s n h x = absurd h
-of_each_push P (r ∷ more) [] s n h x = absurd h
 of_each_push P (r ∷ more) (m ∷ ns) s n h x = (h.0, of_each_push P more ns s n h.1 x)
+of_each_push P sessions ns s n h x = grind arith
 
 module _ (profile : Profile) (S : Spool) (sessions : List Recorded) (i : ℕ) (ns : List ℕ) (before : IsVerifiedOfAll profile S (take i sessions) (PermitsAll ns)) where
   -- the next session is permitted, too
@@ -111,20 +101,12 @@ module _ (profile : Profile) (S : Spool) (sessions : List Recorded) (i : ℕ) (n
       → IsVerifiedOfAll profile S (take (i + 1) sessions) (PermitsAll new)
   permits_next s new n within is x pushed =
       let here = take_more sessions i s within ∙ ap (λ s. take i sessions ++ s ∷ []) (sym is) in
-      subst (λ (p : List Recorded × List ℕ). OfEach (λ s n. Explains profile S s.client s.server n) p.0 p.1) (λ t. (sym here t, sym pushed t))
-      (of_each_push (λ s n. Explains profile S s.client s.server n) (take i sessions) ns s n before x)
+      grind (arith, of_each_push)
 
   -- or an answer of it is refused
   pub refuses_next : (s : Recorded) (j k : ℕ) → i < length sessions → s ≡ get_or sessions i s → j ≡ length ns → RefusesAt profile S s.client s.server k
       → IsVerifiedOfAll profile S sessions (RefusesOne j k)
-  refuses_next s j k within is at refused =
-      let count = as_many_counts (λ s n. Explains profile S s.client s.server n) (take i sessions) ns before in
-      let whole = length-take-le i sessions (omega (arith, within)) in
-      let place : i ≡ j = omega (arith, at, count, whole) in
-      let there = slice_get-get_or sessions i s within ∙ ap (λ s. Some s) (sym is) in
-      subst (λ j. IsVerifiedOfAll profile S sessions (RefusesOne j k)) place
-      (subst (λ o. MatchOption o ⊥ (λ s. ExplainsEach profile S (take i sessions) × RefusesAt profile S s.client s.server k)) (sym there)
-      (explained_by profile S (take i sessions) ns before, refused))
+  refuses_next s j k within is at refused = grind (arith, as_many_counts, length-take-le, slice_get-get_or, explained_by)
 
   -- behind the last one all are
   pub permits_last : length sessions ≤ i → IsVerifiedOfAll profile S sessions (PermitsAll ns)

@@ -1,5 +1,5 @@
 -- How the pairings of sessions, and whether some spool permits their exchanges, lead to the outcome.
-use Rattle.std.proofs.{Common.{◌≡◌, ◌<◌, ◌^◌, List, [], ◌∷◌, ◌++◌, length, map, refl, sym, ap, ap₂, subst, ◌∙◌}, lemmas.List.{length-map}}
+use Rattle.std.proofs.{Common.{◌≡◌, ◌<◌, ◌^◌, List, [], ◌∷◌, ◌++◌, length, map, sym, ap, ap₂, subst, ◌∙◌, arith}, lemmas.List.{length-map}}
 use Rattle.nntp_wire.specs.Session.{prompts_of}
 use Rattle.nntp_article.specs.{Session.{Spool.{Spool}, Machine.{Run, start, fits}}, declared.session.profile.Profile.{Profile}}
 use Rattle.nntp_pair.specs.{declared.class.PairClass.{PairClass}, Pairing.{Paired, Unpaired, IsNext, AreNext, end, bad, IsPairing, asked_at, asked_of}}
@@ -13,9 +13,6 @@ use Rattle.nntp_several.proofs.SessionsRead.{outcome_at}
 
 -- to permit the exchanges of sessions is to explain these
 pub follows : (profile : Profile) (sessions : List Recorded) (exchanges : List (List Paired)) → ArePaired sessions exchanges → Follows profile exchanges sessions
-follows profile [] [] p S spool = (λ h. tt, λ h. tt)
-follows profile [] (pairs ∷ exchanges) p S spool = absurd p
-follows profile (s ∷ more) [] p S spool = absurd p
 follows profile (s ∷ more) (pairs ∷ exchanges) ((unanswered, pairing), p) S spool =
     let rest = follows profile more exchanges p S spool in
     let runs = pairs_run profile S s.client s.server pairs pairing.left pairing.paired in (
@@ -24,29 +21,26 @@ follows profile (s ∷ more) (pairs ∷ exchanges) ((unanswered, pairing), p) S 
           let answers = (by_all_pairs profile S s.client s.server x.0.0 pairs (end unanswered) pairing x.0.1).0 in
           (runs.0 (subst (λ answers. Run profile S start (prompts_of s.client) answers) (sym answers) x.0.1.run), rest.1 x.1),
     )
+follows profile sessions exchanges p h spool = grind arith
 
 -- they say what the explained answers say
 facts_alike : (profile : Profile) (S : Spool) (sessions : List Recorded) (exchanges : List (List Paired)) → ArePaired sessions exchanges → (x : ExplainsEach profile S sessions)
     → facts_of_all profile.marks (map exchanged exchanges) ≡ facts_of_all profile.marks (answered_by profile S sessions x)
-facts_alike profile S [] [] p x = refl
-facts_alike profile S [] (pairs ∷ exchanges) p x = absurd p
-facts_alike profile S (s ∷ more) [] p x = absurd p
 facts_alike profile S (s ∷ more) (pairs ∷ exchanges) ((unanswered, pairing), p) x =
     let rest = facts_alike profile S more exchanges p x.1 in
     let answers = (by_all_pairs profile S s.client s.server x.0.0 pairs (end unanswered) pairing x.0.1).0 in
     let here = sym (facts_by_pairs profile.marks s.client s.server pairs pairing.left pairing.paired) ∙ ap (facts_of_session profile.marks (prompts_of s.client)) answers in
     ap₂ (λ own others. own ++ others) here rest
+facts_alike profile S sessions exchanges p x = grind arith
 
 -- and are as many
 counts_alike : (profile : Profile) (S : Spool) (sessions : List Recorded) (exchanges : List (List Paired)) → ArePaired sessions exchanges → (x : ExplainsEach profile S sessions)
     → counts_of (answered_by profile S sessions x) ≡ map length exchanges
-counts_alike profile S [] [] p x = refl
-counts_alike profile S [] (pairs ∷ exchanges) p x = absurd p
-counts_alike profile S (s ∷ more) [] p x = absurd p
 counts_alike profile S (s ∷ more) (pairs ∷ exchanges) ((unanswered, pairing), p) x =
     let answers = (by_all_pairs profile S s.client s.server x.0.0 pairs (end unanswered) pairing x.0.1).0 in
     let here : length x.0.1.answers ≡ length pairs = sym (ap length answers) ∙ length-map pairs (λ pair. pair.response) in
     ap₂ (λ n ns. n ∷ ns) here (counts_alike profile S more exchanges p x.1)
+counts_alike profile S sessions exchanges p x = grind arith
 
 -- at the end of all sessions
 pub outcome_at_all_ends : (profile : Profile) (sessions : List Recorded) (exchanges : List (List Paired)) (G : Spool)
