@@ -1,5 +1,5 @@
 -- The order of facts, and how often each is said, doesn't matter to the spool that is given for them; so the order of sessions doesn't.
-use Rattle.std.proofs.Common.{◌≡◌, ℕ, ◌+◌, Bool, cond, ◌==◌, IsTrue, List, [], ◌∷◌, ◌++◌, Option, None, Some, is_some, inl, inr, refl, sym, ap, ap₂, subst, ◌∙◌}
+use Rattle.std.proofs.Common.{◌≡◌, ℕ, ◌+◌, Bool, cond, IsTrue, List, [], ◌∷◌, ◌++◌, Option, None, Some, is_some, inl, inr, refl, sym, ap, ap₂, subst, ◌∙◌}
 use Rattle.std.{proofs.{Common.{arith}, lemmas.Bool.{true≢false}}, specs.{Prelude.{IsFalse, unwrap_or, Contains}, List.{list_any, flat_map}, FinMap.{entries}}}
 use Rattle.nntp_article.specs.{Article.Parts.{Id}, Session.Spool.{Spool, Numbers, Name}, declared.session.profile.Profile.{Profile}}
 use Rattle.nntp_wire.specs.Session.{prompts_of}
@@ -49,10 +49,7 @@ join_comm OnlyOne (SecondIs k) = refl
 join_comm (SecondIs m) Impossible = refl
 join_comm (SecondIs m) NotEmpty = refl
 join_comm (SecondIs m) OnlyOne = refl
-join_comm (SecondIs m) (SecondIs k) = by (m == k) refl (k == m) refl
-  where
-    by : (a : Bool) → (m == k) ≡ a → (b : Bool) → (k == m) ≡ b → cond a (SecondIs m) Impossible ≡ cond b (SecondIs k) Impossible
-    by a e b f = grind arith
+join_comm (SecondIs m) (SecondIs k) = grind arith
 
 -- demands of asks join in any order
 join_asks : (a b : Ask) (zs : List Ask) → join (demand_in a) (join (demand_in b) (demand zs)) ≡ join (join (demand_in a) (demand_in b)) (demand zs)

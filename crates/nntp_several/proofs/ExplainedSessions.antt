@@ -1,6 +1,6 @@
 -- Some spool explains several sessions, or exactly one answer is bad.
-use Rattle.std.proofs.Common.{◌≡◌, ℕ, zero, suc, ◌+◌, ◌<◌, ◌≤◌, ◌^◌, ◌⊎◌, List, [], ◌∷◌, ◌++◌, length, take, Option, Some, slice_get, inl, inr, refl, sym, ap}
-use Rattle.std.{proofs.{Common.{subst, ◌∙◌, arith, length-append, append_assoc, append-nil}, lemmas.Bool.{cases_order}}, specs.Prelude.{MatchOption}}
+use Rattle.std.proofs.Common.{◌≡◌, ℕ, zero, suc, ◌+◌, ◌<◌, ◌≤◌, ◌^◌, ◌⊎◌, List, [], ◌∷◌, ◌++◌, length, take, Some, slice_get, inl, inr, refl, sym, ap, subst}
+use Rattle.std.{proofs.{Common.{◌∙◌, arith, length-append, append_assoc, append-nil}, lemmas.Bool.{cases_order}}, specs.Prelude.{MatchOption}}
 use Rattle.std.specs.List.{AllByRecursion}
 use Rattle.nntp_wire.specs.{Answer.{Response}, Session.{prompts_of}, declared.marks.Marks.{Marks}}
 use Rattle.nntp_article.specs.{Session.{Spool.{Spool, IsSpool}, Machine.{Run, start}}, declared.session.profile.Profile.{Profile}}
@@ -125,10 +125,7 @@ pub record BadThere (profile : Profile) (sessions : List Recorded) (j k : ℕ) :
   pub bad : BadBehind profile (take j sessions) session k
 
 pub bad_there : (profile : Profile) (sessions : List Recorded) (j k : ℕ) → BadOfAll profile sessions j k → BadThere profile sessions j k
-bad_there profile sessions j k h = by (slice_get sessions j) refl h
-  where
-    by : (o : Option Recorded) → slice_get sessions j ≡ o → MatchOption o ⊥ (λ session. BadBehind profile (take j sessions) session k) → BadThere profile sessions j k
-    by o e h = grind arith
+bad_there profile sessions j k h = grind arith
 
 pub bad_at : (profile : Profile) (before : List Recorded) (s : Recorded) (more : List Recorded) (k : ℕ) → BadBehind profile before s k → BadOfAll profile (before ++ s ∷ more) (length before) k
 bad_at profile before s more k h =

@@ -1,6 +1,6 @@
 -- Several sessions have one outcome, and it is a yes exactly if some spool explains them all.
-use Rattle.std.proofs.Common.{◌≡◌, ◌↔◌, ℕ, zero, suc, ◌<◌, ◌^◌, IsTrue, List, [], ◌∷◌, Option, slice_get, take, inl, inr, refl, sym, ap, subst, append-nil}
-use Rattle.std.{proofs.{Common.{arith}, lemmas.Bool.{true≢false}}, specs.Prelude.{MatchOption}}
+use Rattle.std.proofs.Common.{◌≡◌, ◌↔◌, ℕ, zero, suc, ◌<◌, ◌^◌, IsTrue, List, [], ◌∷◌, take, inl, inr, refl, sym, ap, subst, append-nil, arith}
+use Rattle.std.{proofs.lemmas.Bool.{true≢false}, specs.Prelude.{MatchOption}}
 use Rattle.nntp_article.specs.{Session.{Spool.{Spool}, Explains.{Explains, Bad}}, declared.session.profile.Profile.{Profile}}
 use Rattle.nntp_wire.specs.Session.{prompts_of}
 use Rattle.nntp_said.specs.Facts.{Fact}
@@ -46,11 +46,7 @@ some_class_there profile sessions j k h =
 
 -- and one only
 one_class_there : (profile : Profile) (sessions : List Recorded) (j k : ℕ) (c d : Class) → HasClassThere profile sessions j k c → HasClassThere profile sessions j k d → c ≡ d
-one_class_there profile sessions j k c d = by (slice_get sessions j)
-  where
-    by : (o : Option Recorded) → MatchOption o ⊥ (λ session. HasClass profile session.client session.server k c)
-        → MatchOption o ⊥ (λ session. HasClass profile session.client session.server k d) → c ≡ d
-    by o h g = grind (arith, one_class)
+one_class_there profile sessions j k c d = grind (arith, one_class)
 
 -- ---- one outcome
 

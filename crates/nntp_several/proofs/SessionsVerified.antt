@@ -1,7 +1,6 @@
 -- What `verify` answers of several sessions is one; and of a spool that explains them all it is that it permits them.
-use Rattle.std.proofs.Common.{◌≡◌, ℕ, ◌+◌, ◌<◌, ◌≤◌, List, [], ◌∷◌, ◌++◌, length, take, get_or, Option, Some, slice_get, inl, inr, refl, sym, ap, ap₂, subst}
-use Rattle.std.proofs.{Common.{◌∙◌, arith}, lemmas.{Bool.{cases_order}, List.{take_more, take_all, length-take-le}, Option.{slice_get-get_or}}}
-use Rattle.std.specs.Prelude.{MatchOption}
+use Rattle.std.proofs.Common.{◌≡◌, ℕ, ◌+◌, ◌<◌, ◌≤◌, List, [], ◌∷◌, ◌++◌, length, take, get_or, Some, slice_get, inl, inr, sym, ap, ap₂, subst, ◌∙◌, arith}
+use Rattle.std.proofs.lemmas.{Bool.{cases_order}, List.{take_more, take_all, length-take-le}, Option.{slice_get-get_or}}
 use Rattle.nntp_article.specs.{Session.{Spool.{Spool}, Explains.{Explains}}, declared.session.profile.Profile.{Profile}}
 use Rattle.nntp_theory.proofs.Streams.{ExplainedOrBad.{first_explained}, OneOutcome.{same_answers}}
 use Rattle.nntp_spool.{specs.Sessions.{RefusesAt}, proofs.PermittedPairs.{explained-unrefused}}
@@ -20,11 +19,7 @@ record RefusedThere (profile : Profile) (S : Spool) (sessions : List Recorded) (
   refused : RefusesAt profile S session.client session.server k
 
 refused_there : (profile : Profile) (S : Spool) (sessions : List Recorded) (j k : ℕ) → Refused profile S sessions j k → RefusedThere profile S sessions j k
-refused_there profile S sessions j k h = by (slice_get sessions j) refl h
-  where
-    by : (o : Option Recorded) → slice_get sessions j ≡ o → MatchOption o ⊥ (λ s. ExplainsEach profile S (take j sessions) × RefusesAt profile S s.client s.server k)
-        → RefusedThere profile S sessions j k
-    by o e h = grind arith
+refused_there profile S sessions j k h = grind arith
 
 -- what explains all refuses nothing
 unrefused : (profile : Profile) (S : Spool) (sessions : List Recorded) (j k : ℕ) → ExplainsEach profile S sessions → Refused profile S sessions j k → ⊥
