@@ -7,10 +7,10 @@ use Rattle.nntp_said.specs.{Asks.{Ask}, Facts.{Fact}}
 use Rattle.nntp_theory.specs.Given.{denies, demand_in, join, demand, wants, is_known, IsFirstFree, IsOneMore, IsGivenNumber, asks_in, asks_of, shows_group}
 use Rattle.nntp_theory.specs.Given.{mentions, first_given, id_in, id_shown, head_in, body_in, plain_head, invented, AreInvented, unshown_in, unshown_ids}
 use Rattle.nntp_theory.specs.{Given.{IsGiven, facts_of_session}, Together.{GiveOne}, Inner.Together.{Together}, declared.demand.Demand.{Demand}}
-use Rattle.nntp_theory.specs.{declared.demand.Demand.TheVariants.{NoDemand, NotEmpty, OnlyOne, SecondIs, Impossible}, Answered.{facts_of_all}}
-use Rattle.nntp_theory.proofs.{GivenNumbers.JoinedDemands.{demand_append}, Given.{GivenHolds.{one_given}, OneGivenSpool.{given_once}}}
-use Rattle.nntp_theory.proofs.{Given.SessionsByFacts.{stand_each}, Members.{In, all_at, all_from, any_in, found_in, to_flat, from_flat, in_front, in_back}}
-use Rattle.nntp_theory.proofs.{Members.{in_cases, first_found, first_there, in_contains, contains_in}, Streams.OneOutcome.{same_answers}}
+use Rattle.nntp_theory.{specs.{declared.demand.Demand.TheVariants.{NoDemand}, Answered.{facts_of_all}}, proofs.GivenNumbers.JoinedDemands.{demand_append}}
+use Rattle.nntp_theory.proofs.{Given.{GivenHolds.{one_given}, OneGivenSpool.{given_once}, SessionsByFacts.{stand_each}}, Members.{In, all_at, all_from, any_in}}
+use Rattle.nntp_theory.proofs.Members.{found_in, to_flat, from_flat, in_front, in_back, in_cases, first_found, first_there, in_contains, contains_in}
+use Rattle.nntp_theory.proofs.Streams.OneOutcome.{same_answers}
 use Rattle.nntp_several.specs.{Outcome.{IsLeastOfAll}, Sessions.{Recorded, ExplainsIt, ExplainsEach, ExplainsAll, answered_by}}
 use Rattle.nntp_several.proofs.ExplainedSessions.{runs_each}
 
@@ -32,24 +32,7 @@ join_none : (d : Demand) → join d NoDemand ≡ d
 join_none d = grind arith
 
 join_comm : (d e : Demand) → join d e ≡ join e d
-join_comm NoDemand e = sym (join_none e)
-join_comm d NoDemand = join_none d
-join_comm Impossible Impossible = refl
-join_comm Impossible NotEmpty = refl
-join_comm Impossible OnlyOne = refl
-join_comm Impossible (SecondIs k) = refl
-join_comm NotEmpty Impossible = refl
-join_comm NotEmpty NotEmpty = refl
-join_comm NotEmpty OnlyOne = refl
-join_comm NotEmpty (SecondIs k) = refl
-join_comm OnlyOne Impossible = refl
-join_comm OnlyOne NotEmpty = refl
-join_comm OnlyOne OnlyOne = refl
-join_comm OnlyOne (SecondIs k) = refl
-join_comm (SecondIs m) Impossible = refl
-join_comm (SecondIs m) NotEmpty = refl
-join_comm (SecondIs m) OnlyOne = refl
-join_comm (SecondIs m) (SecondIs k) = grind arith
+join_comm d e = grind arith
 
 -- demands of asks join in any order
 join_asks : (a b : Ask) (zs : List Ask) → join (demand_in a) (join (demand_in b) (demand zs)) ≡ join (join (demand_in a) (demand_in b)) (demand zs)

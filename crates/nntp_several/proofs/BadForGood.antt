@@ -62,9 +62,7 @@ bad_for_good_stays_of_all profile before s more_client more_server more j k clas
 -- one answer is told
 pub one_told_of_all : (profile : Profile) (before : List Recorded) (s : Recorded) (told other : Option (ℕ × ℕ × Class)) → IsToldBadOfAll profile before s told → IsToldBadOfAll profile before s other
     → told ≡ other
-one_told_of_all profile before s None None h g = refl
-one_told_of_all profile before s None (Some bad) h g = absurd (h bad.0 bad.1 bad.2 g)
-one_told_of_all profile before s (Some bad) None h g = absurd (g bad.0 bad.1 bad.2 h)
 one_told_of_all profile before s (Some bad) (Some also) h g =
     let e = one_outcome_of_all profile (before ++ s ∷ []) (NoOfAll bad.0 bad.1 bad.2) (NoOfAll also.0 also.1 also.2) h.0 g.0 in
     grind arith
+one_told_of_all profile before s told other h g = grind arith
