@@ -8,11 +8,10 @@ use Rattle.nntp_theory.specs.Given.{denies, demand_in, join, demand, wants, is_k
 use Rattle.nntp_theory.specs.Given.{mentions, first_given, id_in, id_shown, head_in, body_in, plain_head, invented, AreInvented, unshown_in, unshown_ids}
 use Rattle.nntp_theory.specs.{Given.{IsGiven, facts_of_session}, Together.{GiveOne}, Inner.Together.{Together}, declared.demand.Demand.{Demand}}
 use Rattle.nntp_theory.{specs.{declared.demand.Demand.TheVariants.{NoDemand}, Answered.{facts_of_all}}, proofs.GivenNumbers.JoinedDemands.{demand_append}}
-use Rattle.nntp_theory.proofs.{Given.{GivenHolds.{one_given}, OneGivenSpool.{given_once}, SessionsByFacts.{stand_each}}, Members.{In, all_at, all_from, any_in}}
-use Rattle.nntp_theory.proofs.Members.{found_in, to_flat, from_flat, in_front, in_back, in_cases, first_found, first_there, in_contains, contains_in}
+use Rattle.nntp_theory.proofs.{Given.{GivenHolds.{one_given}, OneGivenSpool.{given_once}, SessionsByFacts.{stand_each}}, Members.{In, any_in, found_in}}
+use Rattle.nntp_theory.proofs.Members.{to_flat, from_flat, in_front, in_back, in_cases, first_found, first_there, in_contains, contains_in}
 use Rattle.nntp_theory.proofs.Streams.OneOutcome.{same_answers}
-use Rattle.nntp_several.specs.{Outcome.{IsLeastOfAll}, Sessions.{Recorded, ExplainsIt, ExplainsEach, ExplainsAll, answered_by}}
-use Rattle.nntp_several.proofs.ExplainedSessions.{runs_each}
+use Rattle.nntp_several.{specs.{Outcome.{IsLeastOfAll}, Sessions.{Recorded, ExplainsIt, ExplainsEach, answered_by}}, proofs.ExplainedSessions.{runs_each}}
 
 -- ---- tests
 
@@ -120,11 +119,6 @@ module _ (xs ys : List Fact) (to : AreIn xs ys) (from : AreIn ys xs) (together :
       }
 
 -- ---- sessions in any order
-
--- a spool explains sessions among those that it explains
-pub explains_among : (profile : Profile) (S : Spool) (xs ys : List Recorded) → ((s : Recorded) → Contains xs s → Contains ys s) → ExplainsAll profile S ys → ExplainsAll profile S xs
-explains_among profile S xs ys sub x =
-    (x.0, all_from (ExplainsIt profile S) xs (λ s i. all_at (ExplainsIt profile S) s ys x.1 (in_contains s ys (sub s (contains_in s xs i)))))
 
 -- what an explained session says
 abbrev said_of : (profile : Profile) (S : Spool) (s : Recorded) → ExplainsIt profile S s → List Fact

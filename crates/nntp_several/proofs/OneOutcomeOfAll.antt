@@ -1,7 +1,7 @@
 -- Several sessions have one outcome, and it is a yes exactly if some spool explains them all.
 use Rattle.std.proofs.Common.{◌≡◌, ◌↔◌, ℕ, zero, suc, ◌<◌, ◌^◌, IsTrue, List, [], ◌∷◌, take, inl, inr, refl, sym, ap, subst, append-nil, arith}
 use Rattle.std.{proofs.lemmas.Bool.{true≢false}, specs.Prelude.{MatchOption}}
-use Rattle.nntp_article.specs.{Session.{Spool.{Spool}, Explains.{Explains, Bad}}, declared.session.profile.Profile.{Profile}}
+use Rattle.nntp_article.specs.{Session.{Spool.{Spool}, Explains.{Explains}}, declared.session.profile.Profile.{Profile}}
 use Rattle.nntp_wire.specs.Session.{prompts_of}
 use Rattle.nntp_said.specs.Facts.{Fact}
 use Rattle.nntp_theory.specs.{Given.{IsGiven, HasAtLeast, facts_of_session}, Inner.Given.{size}, Classes.{HasClass}, Outcome.{Outcome, Yes, No}}
@@ -78,10 +78,6 @@ yes_explained_of_all profile sessions (NoOfAll j k class) x = (λ t. absurd (tru
 -- what is explained of one session is what is explained of its streams
 pub one_explained : (profile : Profile) (S : Spool) (s : Recorded) → ExplainsAll profile S (s ∷ []) ↔ ((n : ℕ) × Explains profile S s.client s.server n)
 one_explained profile S s = (λ h. h.1.0, λ x. (x.1.is_spool, (x, tt)))
-
--- and what is bad
-pub one_bad_answer : (profile : Profile) (s : Recorded) (k : ℕ) → BadOfAll profile (s ∷ []) 0 k ↔ Bad profile s.client s.server k
-one_bad_answer profile s k = (λ b. b, λ b. b)
 
 -- the outcome of one session is that of its streams
 pub one_session_outcome : (profile : Profile) (s : Recorded) (h : Outcome) → IsOutcomeOfAll profile (s ∷ []) (of_one h) ↔ IsOutcome profile s.client s.server h
