@@ -5,4 +5,7 @@ use Rattle.std.proofs.Common.{length-append, arith}
 use Rattle.nntp_theory.proofs.laws.size_is_bounded_by_octets.Goals as goal
 
 pub returns : goal.returns
-returns c = record { spelled = size_by_octets; paired = λ how client server pairs left paired. grind (arith, pairs-spelled, size_by_octets, facts_by_pairs, length-append, session_size, light, prompts_of_pairs, facts_longer, as_few) }
+returns c = record {
+  spelled = size_by_octets;
+  paired = λ how client server pairs left paired. grind (arith, pairs-spelled, size_by_octets, facts_by_pairs, length-append, session_size, light, prompts_of_pairs, facts_longer, as_few);
+}
