@@ -1,23 +1,40 @@
 -- An answer, as the facts that it says.
-use Rattle.std.{proofs.Common.{◌≡◌, Bool, false, ◌↔◌, IsTrue, List, refl, subst, Result, Ok, Err, IfOk}, specs.List.{AllByRecursion}}
-use Rattle.nntp_wire.specs.Answer.{Asked, Response}
-use Rattle.nntp_article.specs.{Session.{Spool.{Spool}, Machine.{Visible, MayAnswer, fits}}, declared.session.profile.Profile.{Profile}}
+use Rattle.std.proofs.Common.{◌≡◌, ℕ, Bool, true, false, ◌↔◌, IsTrue, List, Option, None, Some, is_some, refl, sym, subst, ◌∙◌, Result, Ok, Err, IfOk}
+use Rattle.std.{proofs.lemmas.Bool.{true≢false}, specs.List.{AllByRecursion}}
+use Rattle.nntp_wire.specs.{Answer.{Asked, Response}, Listing.{ActiveValue}}
+use Rattle.nntp_article.specs.{Session.{Spool.{Spool}, Machine.{Visible, MayAnswer, fits}, Misfit.{misfit}}, Inner.Misfit.{groups_of, numbers_of}}
+use Rattle.nntp_article.specs.{Inner.MisfitView.{why_if}, declared.session.{profile.Profile.{Profile}, misfit.Misfit.{Misfit}}}
+use Rattle.nntp_article.proofs.SessionLemmas.Misfits.{fits_by_reason}
 use Rattle.nntp_said.{specs.{Inner.Asks.{state_at}, Facts.{Fact, Holds, facts_of}, declared.position.Position.{Position}}, proofs.Rows.{Row, row, listing}}
 use Rattle.nntp_said.proofs.{Rows.{active}, FactsHold.{may_by_facts}}
-use Rattle.nntp_spool.specs.Inner.Sessions.{AreInOrder}
+use Rattle.nntp_spool.specs.Inner.Sessions.{SayThese}
+
+-- ---- what fits
+
+-- an answer fits where there is no reason against it
+pub fitting : (profile : Profile) (v : Visible) (p : Asked) (a : Response) (why : Option Misfit) → why_if why ≡ misfit profile v p a → is_some why ≡ false → IsTrue (fits profile v p a)
+fitting profile v p a None e none = sym (fits_by_reason profile v p a None e)
+fitting profile v p a (Some why) e none = absurd (true≢false none)
+
+-- and where there is one it doesn't
+pub unfitting : (profile : Profile) (v : Visible) (p : Asked) (a : Response) (why : Option Misfit) → why_if why ≡ misfit profile v p a → is_some why ≡ true
+    → IsTrue (fits profile v p a) → ⊥
+unfitting profile v p a None e some f = true≢false (sym some)
+unfitting profile v p a (Some why) e some f = true≢false (sym (fits_by_reason profile v p a (Some why) e ∙ f))
 
 -- ---- what is listed
 
--- a row is in order, if what it lists is
-row_in_order : {profile : Profile} {v : Visible} {at : Position} {Fits : Type 0} {a : Response} {facts : List Fact} → Row profile v at Fits a facts → Fits → AreInOrder facts
-row_in_order (listing m name range lines known) f = (refl, (refl, ((known f).1.0, tt)))
-row_in_order (active p lines known) f = ((known f).1, tt)
-row_in_order r f = assumption
+-- a row lists what its answer does
+row_lists : {profile : Profile} {v : Visible} {at : Position} {Fits : Type 0} {a : Response} {facts : List Fact} → Row profile v at Fits a facts → Fits
+    → SayThese (numbers_of a) (groups_of a) facts
+row_lists (listing m name range lines known) f = (tt, (tt, ((refl, (known f).1.0), tt)))
+row_lists (active p lines known) f = ((refl, (known f).1), tt)
+row_lists r f = assumption
 
--- what an answer that fits lists is in order
-pub facts_in_order : (profile : Profile) (v : Visible) (at : Position) (p : Asked) (a : Response) → IsTrue (fits profile v p a)
-    → AreInOrder (facts_of profile.marks v at p a)
-facts_in_order profile v at p a = row_in_order (row profile v at p a)
+-- the facts of an answer that fits say what it lists
+pub facts_list : (profile : Profile) (v : Visible) (at : Position) (p : Asked) (a : Response) (numbers : List ℕ) (groups : List ActiveValue) (facts : List Fact)
+    → IsTrue (fits profile v p a) → numbers ≡ numbers_of a → groups ≡ groups_of a → facts ≡ facts_of profile.marks v at p a → SayThese numbers groups facts
+facts_list profile v at p a numbers groups facts f ns gs fs = rw (ns, gs, fs) (row_lists (row profile v at p a) f)
 
 -- ---- what holds
 

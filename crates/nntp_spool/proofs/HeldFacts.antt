@@ -1,27 +1,28 @@
 -- Facts that hold of a spool, one after the other.
-use Rattle.std.{proofs.Common.{◌≡◌, ◌↔◌, inl, inr, List, [], ◌∷◌, drop, Option, None, Some, IsSome, refl, sym, ap, subst}, specs.Prelude.{option_map}}
+use Rattle.std.{proofs.Common.{◌≡◌, ◌↔◌, ℕ, inl, inr, List, [], ◌∷◌, drop, Option, None, Some, IsSome, refl, sym, ap, subst}, specs.Prelude.{option_map}}
 use Rattle.std.specs.{Prelude.{slice_get}, List.{AllByRecursion}, FinMap.{get}}
-use Rattle.nntp_wire.specs.declared.command.What.{What, TheVariants.{Stat}}
+use Rattle.nntp_wire.specs.{declared.command.What.{What, TheVariants.{Stat}}, Listing.{ActiveValue}}
 use Rattle.nntp_article.specs.{Article.Parts.{Id, Line}, Session.Spool.{Spool, Text, HasText, text_of}}
 use Rattle.nntp_said.specs.{Facts.{Fact, Holds, IdAt, TextIs}, Inner.Places.{Place}}
-use Rattle.nntp_spool.specs.Inner.{Content.{IdsHaveArticles}, Sessions.{AreInOrder}}
+use Rattle.nntp_spool.specs.Inner.{Content.{IdsHaveArticles}, Sessions.{SayThese}}
 
 -- those that are left hold exactly if all do
-pub record AreLeft (S : Spool) (facts left : List Fact) : Type 0 where
+pub record AreLeft (S : Spool) (numbers : List ℕ) (groups : List ActiveValue) (facts left : List Fact) : Type 0 where
   pub same : AllByRecursion (Holds S) left ↔ AllByRecursion (Holds S) facts
-  pub order : AreInOrder left
+  pub listed : SayThese numbers groups left
 
--- none is left, so all hold
-pub none_left : (S : Spool) (facts left : List Fact) → AreLeft S facts left → None ≡ slice_get left 0 → AllByRecursion (Holds S) facts
-none_left S facts [] are e = are.same.0 tt
-none_left S facts (fact ∷ left) are e = absurd cc
+module _ (S : Spool) (numbers : List ℕ) (groups : List ActiveValue) (facts : List Fact) where
+  -- none is left, so all hold
+  pub none_left : (left : List Fact) → AreLeft S numbers groups facts left → None ≡ slice_get left 0 → AllByRecursion (Holds S) facts
+  none_left [] are e = are.same.0 tt
+  none_left (fact ∷ left) are e = absurd cc
 
--- the first of them holds where those behind it do, so it may be passed
-pub first_passed : (S : Spool) (facts left behind : List Fact) → AreLeft S facts left → behind ≡ drop 1 left
-    → (AllByRecursion (Holds S) (drop 1 left) → AllByRecursion (Holds S) left) → AreLeft S facts behind
-first_passed S facts [] behind are e h = subst (AreLeft S facts) (sym e) are
-first_passed S facts (fact ∷ left) behind are e h =
-    subst (AreLeft S facts) (sym e) (record { same = (λ held. are.same.0 (h held), λ all. (are.same.1 all).1); order = are.order.1 })
+  -- the first of them holds where those behind it do, so it may be passed
+  pub first_passed : (left behind : List Fact) → AreLeft S numbers groups facts left → behind ≡ drop 1 left
+      → (AllByRecursion (Holds S) (drop 1 left) → AllByRecursion (Holds S) left) → AreLeft S numbers groups facts behind
+  first_passed [] behind are e h = subst (AreLeft S numbers groups facts) (sym e) are
+  first_passed (fact ∷ left) behind are e h =
+      subst (AreLeft S numbers groups facts) (sym e) (record { same = (λ held. are.same.0 (h held), λ all. (are.same.1 all).1); listed = are.listed.1 })
 
 -- it does where it holds by itself
 pub first_held : (S : Spool) (fact : Fact) (left : List Fact) → Some fact ≡ slice_get left 0 → Holds S fact → AllByRecursion (Holds S) (drop 1 left) → AllByRecursion (Holds S) left

@@ -45,6 +45,14 @@ weaker : {X : Type 0} (P Q : X → Type 0) → ((x : X) → P x → Q x) → (xs
 weaker P Q f [] p = tt
 weaker P Q f (x ∷ xs) p = (f x p.0, weaker P Q f xs p.1)
 
+-- where the next line agrees, all lines agree if those do that are left
+pub one_agrees : {X : Type 0} (P : X → Type 0) (line : X) (rest lines all : List X) → lines ≡ line ∷ rest → P line → AllByRecursion P lines ↔ AllByRecursion P all
+    → AllByRecursion P rest ↔ AllByRecursion P all
+one_agrees P line rest lines all steps here known = (
+  λ h. known.0 (subst (AllByRecursion P) (sym steps) (here, h)),
+  λ h. (subst (AllByRecursion P) steps (known.1 h)).1,
+)
+
 abbrev IsAsked : Spool → Option (List ℕ) → Name → Type 0
 IsAsked S p name = IsGroup S name × IfSome p (λ w. MatchesName w name)
 

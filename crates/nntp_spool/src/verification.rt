@@ -21,7 +21,7 @@ use crate::value::content::Content;
 use asked_counts::AskedCounts;
 use holding::hold;
 use last_group::LastGroup;
-use nntp_article::{Profile, Visible};
+use nntp_article::{Profile, Visible, groups_listed, numbers_listed};
 use nntp_pair::{Exchange, Pairs, Step};
 use nntp_said::{Position, facts_of};
 use nntp_wire::Marks;
@@ -53,12 +53,21 @@ pub fn verify<A: Allocator + Copy, S: Allocator>(
     let mut visible = Visible::new(alloc);
     let mut counts = AskedCounts::new(alloc);
     // Both are lent, and so dropped at one exit alone: the check goes through the drops of each.
-    judge(profile, content, client, server, &mut visible, &mut counts)
+    judge(
+        alloc,
+        profile,
+        content,
+        client,
+        server,
+        &mut visible,
+        &mut counts,
+    )
 }
 
 /// Goes over the exchanges of both streams, from the state before the greeting on, as [`verify`]
 /// does.
 fn judge<A: Allocator + Copy, S: Allocator>(
+    alloc: A,
     profile: Profile,
     content: &Content<S>,
     client: &[u8],
@@ -78,7 +87,9 @@ fn judge<A: Allocator + Copy, S: Allocator>(
     loop {
         match pairs.next() {
             Step::Exchange(exchange) => {
-                if !may_answer(profile, &mut group, counts, visible, position, &exchange)? {
+                if !may_answer(
+                    alloc, profile, &mut group, counts, visible, position, &exchange,
+                )? {
                     return Ok(Verified::Refuses { index: answers });
                 }
                 visible.advance(exchange.prompt(), exchange.answer())?;
@@ -94,6 +105,7 @@ fn judge<A: Allocator + Copy, S: Allocator>(
 /// Tells whether the spool permits the exchange where a session stands: what it shows, and its
 /// place in the selected group.
 fn may_answer<A: Allocator + Copy, S: Allocator>(
+    alloc: A,
     profile: Profile,
     group: &mut LastGroup<'_, S>,
     counts: &mut AskedCounts<A>,
@@ -110,10 +122,13 @@ fn may_answer<A: Allocator + Copy, S: Allocator>(
 {
     let prompt = exchange.prompt();
     let answer = exchange.answer();
-    if visible.is_closed() || !visible.fits(profile, prompt, answer)? {
+    let numbers = numbers_listed(alloc, answer)?;
+    let groups = groups_listed(alloc, answer)?;
+    let why = visible.misfit_as_read(profile, prompt, answer, &numbers, &groups)?;
+    if visible.is_closed() || why.is_some() {
         return Ok(false);
     }
     let selected = visible.selected_name();
     let mut facts = facts_of(profile.marks, selected, position, prompt, answer);
-    hold(group, counts, &mut facts)
+    hold(group, counts, &numbers, &groups, &mut facts)
 }

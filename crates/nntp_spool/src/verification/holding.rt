@@ -1,14 +1,15 @@
 //! Whether what an answer says holds of a spool, a fact at a time.
-ghost use Rattle.std.specs.Prelude.{◌≡◌, ◌↔◌, true, IsTrue, IfOk, None, drop};
+ghost use Rattle.std.specs.Prelude.{◌≡◌, ◌↔◌, IsTrue, IfOk, None, drop, map};
 ghost use Rattle.std.specs.List.{AllByRecursion};
 ghost use Rattle.nntp_wire.specs.Name.{IsGroupName};
 ghost use Rattle.nntp_wire.specs.declared.command.What.TheVariants.{Stat};
+ghost use Rattle.nntp_wire.specs.Inner.View.{active_value};
 ghost use Rattle.nntp_article.specs.Session.Spool.{Name, Spool as SpoolValue, IsGroup, HasText};
 ghost use Rattle.nntp_said.specs.Facts.{Holds};
 ghost use Rattle.nntp_said.specs.Inner.FactView.{fact_of};
 ghost use Rattle.nntp_spool.specs.Inner.AskedCounts.{AreCounted};
 ghost use Rattle.nntp_spool.specs.Inner.Content.{IdsHaveArticles};
-ghost use Rattle.nntp_spool.specs.Inner.Sessions.{AreInOrder, is_in_order};
+ghost use Rattle.nntp_spool.specs.Inner.Sessions.{SaysThese, SayThese};
 
 use crate::value::content::Content;
 use crate::verification::asked_counts::AskedCounts;
@@ -16,25 +17,28 @@ use crate::verification::last_group::LastGroup;
 use crate::verification::listed_groups::lists_groups;
 use crate::verification::sent_lines::has_text;
 use nntp_said::{Fact, SaidFacts};
-use nntp_wire::{Block, What};
+use nntp_wire::{ActiveLine, Block, What};
 use std::alloc::{AllocError, Allocator};
 
-/// Tells whether all facts that are left hold of the spool.
+/// Tells whether all facts that are left hold of the spool; `numbers` and `groups` are those that
+/// their answer lists.
 pub(crate) fn hold<A: Allocator + Copy, S: Allocator>(
     group: &mut LastGroup<'_, S>,
     counts: &mut AskedCounts<A>,
+    numbers: &[u64],
+    groups: &[ActiveLine<'_>],
     facts: &mut SaidFacts<'_>,
 ) -> Result<bool, AllocError>
     requires names { (name : Name) → IsGroup group.old name → IsGroupName name }
     requires ids { IdsHaveArticles group.old }
-    requires order { AreInOrder facts.old }
+    requires listed { SayThese numbers.now (map active_value groups.now) facts.old }
     requires counted { AreCounted group.old counts.old }
     ensures spool { group.new ≡ group.old }
     ensures counted { IfOk result (λ _. AreCounted group.old counts.new) }
     ensures hold { IfOk result (λ hold. IsTrue hold ↔ AllByRecursion (Holds group.old) facts.old) }
 {
     while let Some(fact) = facts.first() {
-        if !is_implied(facts) && !holds(group, counts, fact)? {
+        if !is_implied(facts) && !holds(group, counts, numbers, groups, fact)? {
             return Ok(false);
         }
         facts.pass_first();
@@ -64,10 +68,12 @@ fn sends_nothing(what: What, block: &Option<Block<'_>>) -> bool
 fn holds<A: Allocator + Copy, S: Allocator>(
     group: &mut LastGroup<'_, S>,
     counts: &mut AskedCounts<A>,
+    numbers: &[u64],
+    groups: &[ActiveLine<'_>],
     fact: &Fact<'_>,
 ) -> Result<bool, AllocError>
     requires names { (name : Name) → IsGroup group.old name → IsGroupName name }
-    requires order { is_in_order (fact_of fact.now) ≡ true }
+    requires listed { SaysThese numbers.now (map active_value groups.now) (fact_of fact.now) }
     requires counted { AreCounted group.old counts.old }
     ensures spool { group.new ≡ group.old }
     ensures counted { IfOk result (λ _. AreCounted group.old counts.new) }
@@ -76,11 +82,11 @@ fn holds<A: Allocator + Copy, S: Allocator>(
     match fact {
         Fact::ThereIs(name) => Ok(group.find(name.as_slice()).is_some()),
         Fact::ThereIsNo(word) => Ok(group.find(*word).is_none()),
-        Fact::Asks(name, ask) => Ok(group.meets(*name, ask)),
+        Fact::Asks(name, ask) => Ok(group.meets(*name, ask, numbers)),
         Fact::IdAt(name, number, id) => Ok(group.has_id(*name, *number, id.as_str())),
         Fact::TextIs { what, id, block } => Ok(sends(group.spool(), *what, id.as_str(), *block)),
         Fact::NoArticle(word) => Ok(!group.spool().knows(*word)),
-        Fact::GroupsAre { wildmat, block } => lists_groups(group.spool(), counts, *wildmat, *block),
+        Fact::GroupsAre { wildmat, .. } => lists_groups(group.spool(), counts, *wildmat, groups),
     }
 }
 

@@ -4,7 +4,7 @@ ghost use Rattle.std.specs.FinMap as map;
 ghost use Rattle.nntp_article.specs.Session.Spool.{numbers as numbers_of};
 ghost use Rattle.nntp_said.specs.Asks.{Meets};
 ghost use Rattle.nntp_said.specs.Inner.FactView.{ask_of};
-ghost use Rattle.nntp_spool.specs.Inner.Sessions.{are_ascending};
+ghost use Rattle.nntp_spool.specs.Inner.Sessions.{AsksThese};
 
 use crate::value::content::Content;
 use crate::value::numbers::Numbers;
@@ -73,20 +73,20 @@ impl<'s, S: Allocator> LastGroup<'s, S> {
         self.group
     }
 
-    /// Tells whether the numbers of the group that the word names meet what is asked. Where it names
-    /// none there are none.
-    pub(crate) fn meets(&mut self, word: &[u8], ask: &Ask<'_>) -> bool
-        requires { are_ascending (ask_of ask.now) ≡ true }
+    /// Tells whether the numbers of the group that the word names meet what is asked; `listed` are the
+    /// numbers that the answer lists. Where the word names no group there are no numbers.
+    pub(crate) fn meets(&mut self, word: &[u8], ask: &Ask<'_>, listed: &[u64]) -> bool
+        requires { AsksThese listed.now (ask_of ask.now) }
         ensures meets { IsTrue result ↔ Meets (numbers_of self.old word.now) (ask_of ask.now) }
         ensures spool { self.new ≡ self.old }
     {
         match self.find(word) {
             Some((name, numbers, mut entry)) => {
-                let meets = numbers.meet(ask, &mut entry);
+                let meets = numbers.meet(ask, listed, &mut entry);
                 self.group = Some((name, numbers, entry));
                 meets
             }
-            None => self.spool.no_numbers().meet(ask, &mut None),
+            None => self.spool.no_numbers().meet(ask, listed, &mut None),
         }
     }
 

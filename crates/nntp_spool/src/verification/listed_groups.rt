@@ -1,9 +1,8 @@
 //! The comparison of the groups that LIST ACTIVE lists with those of a spool (RFC 3977,
 //! section 7.6.3).
-ghost use Rattle.std.specs.Prelude.{◌≡◌, ℕ, ◌≤◌, ◌↔◌, true, length, IsTrue, IfOk, MatchOption};
+ghost use Rattle.std.specs.Prelude.{◌≡◌, ℕ, ◌≤◌, ◌↔◌, true, map, IsTrue, IfOk};
 ghost use Rattle.std.specs.List.{AllByRecursion};
 ghost use Rattle.nntp_wire.specs.Name.{IsGroupName};
-ghost use Rattle.nntp_wire.specs.Listing.{active_groups};
 ghost use Rattle.nntp_wire.specs.Inner.View.{active_value};
 ghost use Rattle.nntp_article.specs.Session.Spool.{Name, IsGroup, IsNumber, numbers as numbers_of};
 ghost use Rattle.nntp_article.specs.Session.Machine.{names_differ, ActivesAgree};
@@ -13,7 +12,7 @@ ghost use Rattle.nntp_spool.specs.Inner.ListedGroups.{LineAgrees};
 use crate::value::content::Content;
 use crate::verification::asked_counts::AskedCounts;
 use nntp_wire::laws::matching_is_decided;
-use nntp_wire::{ActiveLine, Block, Wildmat, is_asked, matches_if_given};
+use nntp_wire::{ActiveLine, Wildmat, is_asked, matches_if_given};
 use std::alloc::{AllocError, Allocator};
 
 /// Tells whether a listed group is one of the spool, matches, and has its numbers between the
@@ -39,25 +38,21 @@ fn agrees_bounds<A: Allocator>(spool: &Content<A>, name: &str, low: u64, high: u
     }
 }
 
-/// Returns how many groups are listed, if each is one of the spool, matches, and has its numbers
-/// between the marks.
-fn count_agreeing<A: Allocator>(
+/// Tells whether each listed group is one of the spool, matches, and has its numbers between the
+/// marks.
+fn agree_lines<A: Allocator>(
     spool: &Content<A>,
     wildmat: &Option<Wildmat<'_>>,
-    block: &Block<'_>,
-) -> Option<usize>
-    ensures { MatchOption result
-        (AllByRecursion (LineAgrees spool.now wildmat.now) (active_groups block.now) → ⊥)
-        (λ count. AllByRecursion (LineAgrees spool.now wildmat.now) (active_groups block.now) × (count ≡ length (active_groups block.now))) }
+    groups: &[ActiveLine<'_>],
+) -> bool
+    ensures { IsTrue result ↔ AllByRecursion (LineAgrees spool.now wildmat.now) (map active_value groups.now) }
 {
-    let mut count = 0;
-    for group in block.groups() {
-        if !agrees_line(spool, wildmat, &group) {
-            return None;
+    for group in groups {
+        if !agrees_line(spool, wildmat, group) {
+            return false;
         }
-        count += 1;
     }
-    Some(count)
+    true
 }
 
 impl<A: Allocator> Content<A> {
@@ -78,17 +73,17 @@ pub(crate) fn lists_groups<A: Allocator + Copy, S: Allocator>(
     spool: &Content<S>,
     counts: &mut AskedCounts<A>,
     wildmat: &Option<Wildmat<'_>>,
-    block: &Block<'_>,
+    groups: &[ActiveLine<'_>],
 ) -> Result<bool, AllocError>
-    requires differ { names_differ (active_groups block.now) ≡ true }
+    requires differ { names_differ (map active_value groups.now) ≡ true }
     requires names { (name : Name) → IsGroup spool.now name → IsGroupName name }
     requires counted { AreCounted spool.now counts.old }
     ensures counted { IfOk result (λ _. AreCounted spool.now counts.new) }
-    ensures lists { IfOk result (λ lists. IsTrue lists ↔ ActivesAgree spool.now wildmat.now (active_groups block.now)) }
+    ensures lists { IfOk result (λ lists. IsTrue lists ↔ ActivesAgree spool.now wildmat.now (map active_value groups.now)) }
 {
     matching_is_decided();
-    match count_agreeing(spool, wildmat, block) {
-        Some(listed) => Ok(counts.count(spool, wildmat)? == listed),
-        None => Ok(false),
+    if !agree_lines(spool, wildmat, groups) {
+        return Ok(false);
     }
+    Ok(counts.count(spool, wildmat)? == groups.len())
 }

@@ -3,23 +3,27 @@ ghost use Rattle.std.specs.Prelude.{◌≡◌, ℕ, ◌≤◌, ◌↔◌, [], tr
 ghost use Rattle.std.specs.FinMap as map;
 ghost use Rattle.nntp_article.specs.Session.Spool.{IsNumber, least, IsNextAbove, IsNextBelow, NoneAbove, NoneBelow, Lists};
 ghost use Rattle.nntp_article.specs.Session.Machine.{AreEnds, Bound, is_ascending};
-ghost use Rattle.nntp_wire.specs.Listing.{listed_numbers};
 ghost use Rattle.nntp_said.specs.Asks.{Meets, current_in};
 ghost use Rattle.nntp_said.specs.Inner.FactView.{ask_of};
 ghost use Rattle.nntp_spool.specs.Inner.ListedNumbers.{IsNextFrom, IsAbove, ListsFrom};
-ghost use Rattle.nntp_spool.specs.Inner.Sessions.{are_ascending};
+ghost use Rattle.nntp_spool.specs.Inner.Sessions.{AsksThese};
 
 use crate::value::numbers::Numbers;
 use nntp_article::session::laws::first_is_least;
 use nntp_said::{Ask, Position};
-use nntp_wire::{Block, Marks, Range, WaterMarks};
+use nntp_wire::{Marks, Range, WaterMarks};
 use std::alloc::Allocator;
 
 impl<A: Allocator> Numbers<A> {
-    /// Tells whether the numbers meet what is asked. Where it is a step, the number to which that
-    /// leads, and the id there, are kept in `entry`.
-    pub(crate) fn meet<'s>(&'s self, ask: &Ask<'_>, entry: &mut Option<(u64, &'s str)>) -> bool
-        requires ascending { are_ascending (ask_of ask.now) ≡ true }
+    /// Tells whether the numbers meet what is asked; `listed` are the numbers that the answer lists.
+    /// Where a step is asked, the number to which that leads, and the id there, are kept in `entry`.
+    pub(crate) fn meet<'s>(
+        &'s self,
+        ask: &Ask<'_>,
+        listed: &[u64],
+        entry: &mut Option<(u64, &'s str)>,
+    ) -> bool
+        requires listed { AsksThese listed.now (ask_of ask.now) }
         requires entry { IfSome entry.old (λ e. map.get self.now e.0 ≡ Some e.1.now) }
         ensures meet { IsTrue result ↔ Meets self.now (ask_of ask.now) }
         ensures entry { IfSome entry.new (λ e. map.get self.now e.0 ≡ Some e.1.now) }
@@ -27,7 +31,7 @@ impl<A: Allocator> Numbers<A> {
         match ask {
             Ask::Estimates { how, marks } => self.is_bound(*how, *marks),
             Ask::Bounds { low, high } => self.is_between(*low, *high),
-            Ask::Lists { range, block } => self.lists(*range, *block),
+            Ask::Lists { range, .. } => self.lists(*range, listed),
             Ask::Lacks(number) => self.id(*number).is_none(),
             Ask::StandsAt(at, number) => self.current(*at) == Some(*number),
             Ask::StandsNowhere(at) => self.current(*at).is_none(),
@@ -137,17 +141,16 @@ impl<A: Allocator> Numbers<A> {
     }
 
     /// Tells whether the numbers within the range are the listed ones.
-    fn lists(&self, range: Range, block: &Block<'_>) -> bool
-        requires { is_ascending (listed_numbers block.now) ≡ true }
-        ensures { IsTrue result ↔ Lists self.now range (listed_numbers block.now) }
+    fn lists(&self, range: Range, listed: &[u64]) -> bool
+        requires { is_ascending listed.now ≡ true }
+        ensures { IsTrue result ↔ Lists self.now range listed.now }
     {
-        let mut numbers = block.numbers();
         let mut before = before(range.first);
-        while let Some(number) = numbers.next() {
-            if !self.is_next_within(range, before, number) {
+        for number in listed {
+            if !self.is_next_within(range, before, *number) {
                 return false;
             }
-            before = Some(number);
+            before = Some(*number);
         }
         self.has_none_within(range, before)
     }

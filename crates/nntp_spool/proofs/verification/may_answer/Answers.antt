@@ -1,23 +1,38 @@
-use Rattle.std.proofs.Common.{IsTrue, sym, subst, ◌∙◌}
-use Rattle.nntp_wire.specs.Inner.{View.{asked}, AnswerView.{response}}
-use Rattle.nntp_article.specs.Session.Machine.{fits}
-use Rattle.nntp_spool.{specs.Inner.Sessions.{AreInOrder}, proofs.AnswersInFacts.{facts_in_order, permitted_where_held}}
+use Rattle.std.proofs.{Common.{map, ap, sym, ◌∙◌}, lemmas.Bool.{true≢false}}
+use Rattle.nntp_wire.specs.Inner.{View.{active_value, asked}, AnswerView.{response}}
+use Rattle.nntp_article.specs.Session.Machine.{MayAnswer}
+use Rattle.nntp_said.specs.Inner.Asks.{state_at}
+use Rattle.nntp_spool.proofs.AnswersInFacts.{fitting, unfitting, facts_list, permitted_where_held}
+use Rattle.nntp_spool.proofs.verification.may_answer.Goals.{then-is_closed-via-then-is_closed, then-is_closed-via-else-is_closed+then-is_some}
 use Rattle.nntp_spool.proofs.verification.may_answer.Goals as goal
 
-pub hold-requires-clause-order : goal.hold-requires-clause-order
-hold-requires-clause-order g c =
+pub returns-then-is_closed-clause-may : goal.returns-then-is_closed-clause-may
+returns-then-is_closed-clause-may g c =
     let v = c.args.visible.now in
     let q = asked c.prompt-prompt.result.now in
     let a = response c.answer-answer.result.now in
-    let f : IsTrue (fits c.args.profile v q a) = sym c.in_ok-fits.ensures ∙ c.if-not-branch.false in
-    subst AreInOrder (sym (c.facts_of-facts.ensures v c.selected_name-selected.ensures)) (facts_in_order c.args.profile v c.args.position q a f)
+    let never = elim c.then-is_closed.branch as (λ _. MayAnswer c.args.profile c.args.group.now (state_at c.args.group.now v c.args.position) q a → ⊥) [
+      | then-is_closed-via-then-is_closed w ↦ λ may. true≢false (sym w.if-is_closed.true ∙ c.is_closed.ensures ∙ may.is_open)
+      | then-is_closed-via-else-is_closed+then-is_some w ↦ λ may.
+          unfitting c.args.profile v q a c.in_ok-why.why c.in_ok-why.ensures (sym w.is_some.ensures ∙ w.if-is_some.true) may.fits_visible
+    ] in
+    rw (sym c.prompt-prompt.ensures, sym c.answer-answer.ensures.value) (λ t. absurd (true≢false (sym t)), λ may. absurd (never may))
+
+pub hold-requires-clause-listed : goal.hold-requires-clause-listed
+hold-requires-clause-listed g c =
+    let v = c.args.visible.now in
+    let q = asked c.prompt-prompt.result.now in
+    let a = response c.answer-answer.result.now in
+    let f = fitting c.args.profile v q a c.in_ok-why.why c.in_ok-why.ensures (sym c.is_some.ensures ∙ c.if-is_some.false) in
+    facts_list c.args.profile v c.args.position q a _ _ _ f (c.deref-3.ensures.value ∙ c.in_ok-numbers.ensures) (ap (map active_value) c.deref-4.ensures.value ∙ c.in_ok-groups.ensures)
+    (c.facts_of-facts.ensures v c.selected_name-selected.ensures)
 
 pub returns-clause-may : goal.returns-clause-may
 returns-clause-may g c =
     let v = c.args.visible.now in
     let q = asked c.prompt-prompt.result.now in
     let a = response c.answer-answer.result.now in
-    let f : IsTrue (fits c.args.profile v q a) = sym c.in_ok-fits.ensures ∙ c.if-not-branch.false in
+    let f = fitting c.args.profile v q a c.in_ok-why.why c.in_ok-why.ensures (sym c.is_some.ensures ∙ c.if-is_some.false) in
     let may = permitted_where_held c.args.profile c.args.group.now v c.args.position q a c.facts_of-facts.result c.hold.result (sym c.is_closed.ensures ∙ c.if-is_closed.false) f
     (c.facts_of-facts.ensures v c.selected_name-selected.ensures) c.hold.ensures.hold in
     rw (sym c.prompt-prompt.ensures, sym c.answer-answer.ensures.value) may
