@@ -38,6 +38,10 @@ same_ids ids new N M e d are id = ap (list_any (λ known. bytes_eq id (rc_str_by
 pub no_ids : {A : Type 0} (ids : List (RcStr A)) (N : Numbers) → ids ≡ [] → N ≡ empty → AreIdsOf ids N
 no_ids ids N e d id = ap (list_any (λ known. bytes_eq id (rc_str_bytes known))) e ∙ sym (ap (list_any (λ e. bytes_eq e.1 id)) (entries-empty N d))
 
+-- no numbers have no id
+pub none_has : (N : Numbers) (id : Id) → N ≡ empty → has_id N id ≡ false
+none_has N id d = ap (list_any (λ e. bytes_eq e.1 id)) (entries-empty N d)
+
 either_way : (a b : List ℕ) → bytes_eq a b ≡ bytes_eq b a
 either_way a b = let back = bytes_eq-Decides b a in same_from_decides (bytes_eq a b) (bytes_eq b a) (bytes_eq-Decides a b) (λ t. sym (back.0 t), λ e. back.1 (sym e))
 

@@ -2,6 +2,7 @@
 pub(crate) mod article;
 pub(crate) mod articles;
 pub(crate) mod ascending;
+pub(crate) mod boxed_numbers;
 mod builder;
 pub(crate) mod content;
 pub(crate) mod numbers;

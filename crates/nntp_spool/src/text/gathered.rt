@@ -9,6 +9,7 @@ ghost use Rattle.nntp_spool.specs.Inner.ArticleLines.{text_stored, HasLineCount}
 use crate::value::article::StoredArticle;
 use crate::value::articles::Articles;
 use crate::value::ascending::map_of;
+use crate::value::boxed_numbers::BoxedNumbers;
 use crate::value::content::Content;
 use crate::value::numbers::Numbers;
 use nntp_wire::OwnedBlock;
@@ -21,7 +22,7 @@ use std::string::String;
 #[derive(Drop)]
 pub(crate) struct Gathered<A: Allocator, T: Allocator> {
     /// The groups, each with its name, in a list that is given back once their map is made.
-    groups: Vec<(String<A>, Numbers<A>), T>,
+    groups: Vec<(String<A>, BoxedNumbers<A>), T>,
     /// The articles, each with its message-id.
     articles: Articles<A>,
 }
@@ -80,6 +81,7 @@ impl<A: Allocator + Copy, T: Allocator> Gathered<A, T> {
         ensures { OnOk result (self.new ≡ with_group self.old name.now numbers) }
     {
         let name = String::from_str(alloc, name)?;
+        let numbers = BoxedNumbers::of(alloc, numbers)?;
         self.push_group(name, numbers)
     }
 
@@ -100,7 +102,7 @@ impl<A: Allocator + Copy, T: Allocator> Gathered<A, T> {
     }
 
     /// Adds a group whose name is greater than each other's.
-    fn push_group(&mut self, name: String<A>, numbers: Numbers<A>) -> Result<(), AllocError>
+    fn push_group(&mut self, name: String<A>, numbers: BoxedNumbers<A>) -> Result<(), AllocError>
         requires { is_last self.old.groups (string_bytes name) ≡ true }
         ensures { OnOk result (self.new ≡ with_group self.old (string_bytes name) numbers) }
     {

@@ -196,7 +196,7 @@ impl<A: Allocator> Content<A> {
     {
         let mut entries = self.groups.iter();
         while let Some((name, numbers)) = entries.next() {
-            put_group(output, name.as_bytes(), numbers)?;
+            put_group(output, name.as_bytes(), numbers.or(&self.no_numbers))?;
         }
         Ok(())
     }

@@ -11,8 +11,8 @@ ghost use Rattle.nntp_spool.specs.Inner.Text.{IsWritten};
 
 use crate::value::Spool;
 use crate::value::article::{Article, StoredArticle};
+use crate::value::boxed_numbers::BoxedNumbers;
 use crate::value::content::Content;
-use crate::value::numbers::Numbers;
 use crate::value::spool_fault::SpoolFault;
 use crate::value::well_formed::{
     are_lines, block_has_lines, id_of, is_block_head_of, is_head_of, name_of,
@@ -182,7 +182,7 @@ impl<A: Allocator + Copy> SpoolBuilder<A> {
             self.failed = true;
             return Err(SpoolFault::Memory);
         };
-        let Ok(_) = self.content.put_group(name, Numbers::new(self.alloc)) else {
+        let Ok(_) = self.content.put_group(name, BoxedNumbers::none()) else {
             self.failed = true;
             return Err(SpoolFault::Memory);
         };
@@ -253,7 +253,7 @@ impl<A: Allocator + Copy> SpoolBuilder<A> {
             (with_group self.old.spool name.now (map.insert (numbers_of self.old.spool name.now) number (rc_str_bytes id.now))) result self.old
             self.new }
     {
-        match self.content.put_number(name, number, id) {
+        match self.content.put_number(self.alloc, name, number, id) {
             Ok(true) => Ok(()),
             Ok(false) => Err(SpoolFault::DuplicateId),
             Err(_) => {

@@ -14,6 +14,7 @@ ghost use Rattle.nntp_spool.specs.Inner.Text.{HasLineCounts};
 
 use crate::value::article::StoredArticle;
 use crate::value::articles::Articles;
+use crate::value::boxed_numbers::BoxedNumbers;
 use crate::value::numbers::Numbers;
 use std::alloc::{AllocError, Allocator, Global};
 use std::collections::BTreeMap;
@@ -25,10 +26,10 @@ use std::string::String;
 /// The groups of a spool by their names, and its articles by their ids.
 pub struct Content<A: Allocator = Global> {
     /// The numbers of each group, by its name.
-    pub(crate) groups: BTreeMap<String<A>, Numbers<A>, A>,
+    pub(crate) groups: BTreeMap<String<A>, BoxedNumbers<A>, A>,
     /// The articles, each by its message-id.
     pub(crate) articles: Articles<A>,
-    /// No numbers, which are lent where a word names no group.
+    /// No numbers, which are lent where a word names no group, or one without numbers.
     pub(crate) no_numbers: Numbers<A>,
 }
 
@@ -77,7 +78,7 @@ impl<A: Allocator + Copy> Content<A> {
     pub(crate) fn put_group(
         &mut self,
         name: String<A>,
-        numbers: Numbers<A>,
+        numbers: BoxedNumbers<A>,
     ) -> Result<(), AllocError>
         ensures ok { OnOk result (self.new ≡ with_group self.old (string_bytes name) numbers) }
         ensures err { OnErr result (self.new ≡ self.old) }
@@ -90,6 +91,7 @@ impl<A: Allocator + Copy> Content<A> {
     /// true. Where the group has the id already, it answers false and adds nothing.
     pub(crate) fn put_number(
         &mut self,
+        alloc: A,
         name: &str,
         number: u64,
         id: &RcStr<A>,
@@ -103,7 +105,7 @@ impl<A: Allocator + Copy> Content<A> {
         let Some(group) = self.groups.get_mut(name) else {
             return Ok(false);
         };
-        group.put(number, id)
+        group.put(alloc, number, id)
     }
 
     /// Adds an article, or puts it in the place of the one of its id. Where memory is refused, all is as before, or no
@@ -127,7 +129,10 @@ impl<A: Allocator> Content<A> {
     pub(crate) fn group(&self, name: &str) -> Option<&Numbers<A>>
         ensures { option_copied result ≡ map.get self.now.groups name.now }
     {
-        self.groups.get(name)
+        match self.groups.get(name) {
+            Some(numbers) => Some(numbers.or(&self.no_numbers)),
+            None => None,
+        }
     }
 
     /// Returns the word as text, and the numbers of the group that it names. A word that is no text
@@ -138,7 +143,7 @@ impl<A: Allocator> Content<A> {
     {
         match str::from_utf8(word) {
             Ok(name) => match self.groups.get(name) {
-                Some(numbers) => Some((name, numbers)),
+                Some(numbers) => Some((name, numbers.or(&self.no_numbers))),
                 None => None,
             },
             Err(_) => None,
@@ -153,7 +158,7 @@ impl<A: Allocator> Content<A> {
     {
         match str::from_utf8(word) {
             Ok(name) => match self.groups.get_key_value(name) {
-                Some((kept, numbers)) => Some((kept.as_str(), numbers)),
+                Some((kept, numbers)) => Some((kept.as_str(), numbers.or(&self.no_numbers))),
                 None => None,
             },
             Err(_) => None,
@@ -219,7 +224,7 @@ impl<A: Allocator> Content<A> {
         let mut total = 0u128;
         let mut entries = self.groups.iter();
         while let Some((_, numbers)) = entries.next() {
-            total += numbers.len() as u128;
+            total += numbers.or(&self.no_numbers).len() as u128;
         }
         total
     }
@@ -241,9 +246,10 @@ impl<A: Allocator> Content<A> {
 
     /// Tells whether each id of these numbers has an article. The ids are looked for in their own
     /// order, in which each is found near the one before it.
-    fn knows_all(&self, numbers: &Numbers<A>) -> bool
+    fn knows_all(&self, numbers: &BoxedNumbers<A>) -> bool
         ensures { result ≡ all_known self.now numbers.now }
     {
+        let numbers = numbers.or(&self.no_numbers);
         numbers.known.iter().all(|id| self.has_article(id.as_str()))
     }
 

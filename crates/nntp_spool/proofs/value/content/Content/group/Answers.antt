@@ -1,6 +1,16 @@
-use Rattle.std.proofs.Common.{ap, ◌∙◌}
+use Rattle.std.{proofs.Common.{Some, sym, ap, ◌∙◌}, specs.Prelude.{option_copied}}
 use Rattle.nntp_spool.proofs.ShownMaps.{group_got}
 use Rattle.nntp_spool.proofs.value.content.Content.group.Goals as goal
 
-pub returns : goal.returns
-returns g c = c.get.ensures.value ∙ group_got c.self.inside.groups.entries c.args.self.now.groups c.args.name.now (ap (λ s. s.groups) c.self.view_is)
+pub or-requires : goal.or-requires
+or-requires g c = c.self.invariant.1
+
+pub returns-in-Some : goal.returns-in-Some
+returns-in-Some g c =
+    ap Some c.or.ensures ∙ ap option_copied (sym c.in-Some.is) ∙ c.get.ensures.value
+    ∙ group_got c.self.inside.groups.entries c.args.self.now.groups c.args.name.now (ap (λ s. s.groups) c.self.view_is)
+
+pub returns-in-None : goal.returns-in-None
+returns-in-None g c =
+    ap option_copied (sym c.in-None.is) ∙ c.get.ensures.value
+    ∙ group_got c.self.inside.groups.entries c.args.self.now.groups c.args.name.now (ap (λ s. s.groups) c.self.view_is)

@@ -1,11 +1,14 @@
-use Rattle.std.{proofs.Common.{sym, ap, ◌∙◌}, specs.{Prelude.{option_map}, FinMap.{get, slice_cmp-IsAntisymmetric, nat_cmp-IsAntisymmetric}}}
+use Rattle.std.{proofs.Common.{Some, sym, ap, ◌∙◌}, specs.{Prelude.{option_map}, FinMap.{get, slice_cmp-IsAntisymmetric, nat_cmp-IsAntisymmetric}}}
 use Rattle.std.specs.String.{string_bytes}
 use Rattle.nntp_spool.proofs.{TextKeys.{no_name}, ShownMaps.{group_got}}
 use Rattle.nntp_spool.proofs.value.content.Content.kept_group.Goals as goal
 
+pub or-requires : goal.or-requires
+or-requires g c = c.self.invariant.1
+
 pub returns-in-Some-clause-numbers : goal.returns-in-Some-clause-numbers
 returns-in-Some-clause-numbers g c =
-    ap (option_map (λ p. p.1.now)) (sym c.in-Some.is) ∙ c.get_key_value.ensures.value
+    ap Some c.or.ensures ∙ ap (option_map (λ p. p.1.now)) (sym c.in-Some.is) ∙ c.get_key_value.ensures.value
     ∙ group_got c.self.inside.groups.entries c.args.self.now.groups c.in-Ok.name.now (ap (λ s. s.groups) c.self.view_is)
     ∙ ap (get c.args.self.now.groups) c.in-Ok.ensures.cases.0
 

@@ -11,4 +11,4 @@ returns g c =
     let ids = c.numbers.inside.known.keys in
     let known = λ (id : Id). is_some (map.get c.args.self.now.articles id) in
     let all = all_from_yields_List (λ id. known (rc_str_bytes id)) _ _ c.all.result c.all.ensures.ran (YieldsList-from_rest ids c.iter.ensures.rest) (λ x b q k. search (rules, tests)) in
-    all ∙ all_ids known ids c.args.numbers.now (subst (AreIdsOf ids) c.numbers.view_is c.numbers.invariant)
+    all ∙ all_ids known ids c.args.numbers.now (subst (AreIdsOf ids) (c.numbers.view_is ∙ c.or-numbers.ensures) c.numbers.invariant)

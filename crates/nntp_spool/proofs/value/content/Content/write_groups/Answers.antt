@@ -13,7 +13,7 @@ returns-in_err-put_group-clause-text g c =
       Wrote-head (λ es. with_line_ends (flat_map group_lines (list_map (λ e. (string_bytes e.0, e.1)) es)))
           (λ x. with_line_ends (group_lines (string_bytes x.0, x.1)))
           (λ x xs. with_line_ends-append (group_lines (string_bytes x.0, x.1)) _) _ _ _ _ _ _ _ _ _ w.0 c.in-Some.ensures.steps
-          (ap (λ s. with_line_ends (group_lines (s, c.in-Some.numbers.now))) c.as_bytes.ensures.value)
+          (λ i. with_line_ends (group_lines (c.as_bytes.ensures.value i, c.or.ensures i)))
           c.loop-name.invariant.wrote w.1,
     )
 
@@ -22,7 +22,7 @@ loop-name-preserved g c = record {
   wrote = Wrote-head (λ es. with_line_ends (flat_map group_lines (list_map (λ e. (string_bytes e.0, e.1)) es)))
       (λ x. with_line_ends (group_lines (string_bytes x.0, x.1)))
       (λ x xs. with_line_ends-append (group_lines (string_bytes x.0, x.1)) _) _ _ _ _ _ _ _ _ _ _ c.in-Some.ensures.steps
-      (ap (λ s. with_line_ends (group_lines (s, c.in-Some.numbers.now))) c.as_bytes.ensures.value) c.loop-name.invariant.wrote
+      (λ i. with_line_ends (group_lines (c.as_bytes.ensures.value i, c.or.ensures i))) c.loop-name.invariant.wrote
       c.in_ok-put_group.ensures.text;
   same = grind (arith, c.in_ok-put_group.ensures.failed);
   writer = c.in_ok-put_group.ensures.same_writer ∙ c.loop-name.invariant.writer;
