@@ -85,8 +85,8 @@ few_accepted (Refused pair ∷ answers) = omega (arith, few_accepted answers)
 few_accepted (Unspelled index line initial block ∷ answers) = omega (arith, few_accepted answers)
 
 -- what is told of it stands behind what is told of those before it
-pub explained_push : (profile : Profile) (earlier : List (List Paired)) (before : ℕ) (past : List Paired) (answers : List Judged) (answer : Judged) (text more : List ℕ)
-    → AreExplained profile earlier before past answers text → IsExplained profile earlier before (past ++ accepted_of answers) answer more
+pub explained_push : (profile : Profile) (earlier : List (List Paired)) (before : ℕ) (past answers : List Judged) (answer : Judged) (text more : List ℕ)
+    → AreExplained profile earlier before past answers text → IsExplained profile earlier before (past ++ answers) answer more
     → AreExplained profile earlier before past (answers ++ answer ∷ []) (text ++ more)
 explained_push profile earlier before past [] answer text more none is =
     (more, [], ap (λ t. t ++ more) none ∙ sym (append-nil more), subst (λ p. IsExplained profile earlier before p answer more) (append-nil past) is, refl)
@@ -95,7 +95,8 @@ explained_push profile earlier before past (first ∷ answers) answer text more 
   back ++ more,
   ap (λ t. t ++ more) whole ∙ append_assoc front back more,
   head,
-  explained_push profile earlier before (accepted_with past first) answers answer back more tail (subst (λ p. IsExplained profile earlier before p answer more) (joined past first answers) is),
+  explained_push profile earlier before (past ++ first ∷ []) answers answer back more tail
+      (subst (λ p. IsExplained profile earlier before p answer more) (sym (append_assoc past (first ∷ []) answers)) is),
 )
 
 -- an accepted one adds nothing that is bad

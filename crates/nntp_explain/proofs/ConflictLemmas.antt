@@ -1,8 +1,9 @@
 -- What is told of a core.
-use Rattle.std.proofs.Common.{◌≡◌, ◌≤◌, refl, arith, length, ℕ, List, ◌++◌, Option, None, Some, MatchOption}
+use Rattle.std.proofs.Common.{◌≡◌, ◌≤◌, ◌⊎◌, refl, sym, subst, inl, inr, arith, length, append-nil, ℕ, Bool, true, false, List, [], ◌∷◌, ◌++◌, Option, None, Some}
+use Rattle.std.{proofs.{Common.{MatchOption, is_some}, lemmas.Bool.{true≢false}}}
 use Rattle.nntp_article.specs.declared.session.profile.Profile.{Profile}
-use Rattle.nntp_theory.specs.{Conflict.{Placed, Point, Core, IsFirstPoint, told_with, places_of}, Inner.Conflict.{HasLast}}
-use Rattle.nntp_explain.specs.{Explaining.{TellsCore}, Inner.ExplainingView.{GoesOn}, Says.{conflict_lines}, Standing.{Cited}}
+use Rattle.nntp_theory.specs.{Conflict.{Placed, Point, Core, IsCore, IsEndOfCore, IsFound, IsFirstPoint, SomeHas, told, told_with, places_of}, Inner.Conflict.{HasLast}}
+use Rattle.nntp_explain.specs.{Explaining.{TellsCore, IsConflictOf, IsContradiction}, Inner.ExplainingView.{GoesOn}, Reasons.{rest_line}, Says.{conflict_lines}, Standing.{Cited}}
 
 -- where the core is cut short, some of it was found
 pub some_found : (core : Core) → MatchOption core.rest (length core.places ≤ 4) (λ bound. length core.places ≡ 4) → HasLast core
@@ -17,3 +18,40 @@ pub tells : (here : ℕ) (profile : Profile) (bad : Placed) (answers : List Plac
     → IsFirstPoint (told_with profile bad answers (places_of core)) point → new ≡ old ++ conflict_lines here profile.marks point bad answers told core
     → GoesOn (TellsCore here profile bad answers told core) old new
 tells here profile bad answers told core point old new first is = (conflict_lines here profile.marks point bad answers told core, is, (point, first, refl))
+
+-- ---- the reason of a contradiction
+
+module _ (P : Type 0) (here : ℕ) (profile : Profile) (bad : Placed) (answers : List Placed) (cited : List Cited) (text : List ℕ) where
+  -- of one that was told before
+  pub told_again : (looked_for : Bool) → IsConflictOf here profile bad answers cited text → P → IsContradiction looked_for P here profile bad answers cited text
+  told_again true conflict p = conflict
+  told_again false conflict p = inl (conflict, inl p)
+
+  -- of one whose answers are looked for, or that conflicts with itself
+  pub told_whole : (looked_for : Bool) → (looked_for ≡ true) ⊎ (SomeHas profile (told profile bad) → ⊥) → IsConflictOf here profile bad answers cited text
+      → IsContradiction looked_for P here profile bad answers cited text
+  told_whole true why conflict = conflict
+  told_whole false (inl is) conflict = absurd (true≢false (sym is))
+  told_whole false (inr alone) conflict = inl (conflict, inr alone)
+
+  -- of one whose answers aren't
+  pub told_short : (looked_for : Bool) → (looked_for ≡ false) × SomeHas profile (told profile bad) → text ≡ rest_line here cited (Some (length answers))
+      → IsContradiction looked_for P here profile bad answers cited text
+  told_short true why is = absurd (true≢false why.0)
+  told_short false why is = inr (why.1, is)
+
+-- whether it stands alone, by a search for no answer
+pub alone_by : (profile : Profile) (bad : Placed) (answers : List Placed) (core : Core) → IsFound profile bad answers core
+    → MatchOption core.rest (length core.places ≤ 0) (λ bound. length core.places ≡ 0)
+    → (is_some core.rest ≡ true → SomeHas profile (told profile bad)) × (is_some core.rest ≡ false → SomeHas profile (told profile bad) → ⊥)
+alone_by profile bad answers core is most = by core.rest core.places is.found most
+  where
+    none : (places : List ℕ) → length places ≤ 0 → told_with profile bad answers places ≡ told profile bad
+    none [] few = append-nil (told profile bad)
+    none (k ∷ places) few = absurd (omega (arith, few))
+
+    by : (rest : Option ℕ) (places : List ℕ) → MatchOption rest (IsCore profile bad answers places) (λ bound. IsEndOfCore profile bad answers bound places)
+        → MatchOption rest (length places ≤ 0) (λ bound. length places ≡ 0)
+        → (is_some rest ≡ true → SomeHas profile (told profile bad)) × (is_some rest ≡ false → SomeHas profile (told profile bad) → ⊥)
+    by None places core few = (λ e. absurd (true≢false (sym e)), λ e has. core.conflict (subst (SomeHas profile) (sym (none places few)) has))
+    by (Some bound) places end few = (λ e. subst (SomeHas profile) (none places (omega (arith, few))) end.stand, λ e. absurd (true≢false e))

@@ -1,20 +1,22 @@
 -- How an explanation goes through the answers of two streams, behind those of earlier sessions.
 use Rattle.std.proofs.Common.{◌≡◌, ◌≢◌, ◌∙◌, sym, subst, refl, ap, ℕ, ◌+◌, ◌-◌, ◌≤◌, List, [], ◌∷◌, ◌++◌, Option, None, Some, MatchOption, length, arith}
-use Rattle.std.{proofs.Common.{append-nil, length-append, Result, Ok, Err}, specs.{Prelude.{OnOk, IfOk}, List.{AllByRecursion, flat_map}}}
+use Rattle.std.{proofs.Common.{append-nil, append_assoc, length-append, inl, inr, Bool, true, false, Result, Ok, Err}, specs.{Prelude.{OnOk, IfOk}, List.{AllByRecursion, flat_map}}}
 use Rattle.std.specs.Option.{option_map_or}
 use Rattle.nntp_wire.specs.{Answer.{Asked}, Misspelling.{misspelling}, declared.misspelling.Misspelling.{Misspelling, TheVariants.{WrongBlock}}}
 use Rattle.nntp_article.specs.{declared.session.profile.Profile.{Profile}, Session.{Machine.{Visible}, Misfit.{misfit}}}
 use Rattle.nntp_pair.specs.{Pairing.{Paired, Unpaired, IsNext, IsPassedOver, asked_at, streams}, declared.class.Class.{Class, TheVariants.{Malformed}}}
 use Rattle.nntp_pair.{specs.declared.class.Class.TheVariants.{OutOfPlace, Contradiction}, proofs.PassedLemmas.{passed-reason}}
-use Rattle.nntp_theory.specs.{Conflict.{Placed, placed_of, SomeHas, told_with, below}, Inner.Conflict.{FitsThere}, Permitted.{ArePermittedBehind}}
+use Rattle.nntp_theory.specs.{Conflict.{Placed, placed_of, placed_behind, SomeHas, told_with, below}, Inner.Conflict.{FitsThere}, Permitted.{ArePermittedBehind}}
 use Rattle.nntp_theory.specs.{Reading.{Judged, Accepted, Refused, Unspelled, accepted_of, accepted_with, class_behind, IsJudged}, declared.noted.Noted.{Noted}}
-use Rattle.nntp_theory.proofs.{Members.{all_at, all_from}, Reading.JudgedSession.{accepted_one_more}}
+use Rattle.nntp_theory.proofs.{Members.{all_at, all_both, all_from, in_contains}, Reading.JudgedSession.{accepted_one_more}}
 use Rattle.nntp_facts.{specs.Inner.Noted.{FactsKept, HasNotedBehind, IsNotedBehind, IsDue, profile_kept}, proofs.Reading.NotedAsJudged.{unfit_refused}}
 use Rattle.nntp_facts.proofs.Reading.NotedAsJudged.{contradiction_refused}
 use Rattle.nntp_said.specs.declared.position.Position.{Position}
 use Rattle.nntp_several.{specs.Conflict.{placed_of_all}, proofs.ConflictsOfSessions.{accepted_fit_behind, noted_conflicts_behind, placed_next_behind}}
 use Rattle.nntp_printing.specs.Title.{title_line}
 use Rattle.nntp_explain.specs.{Explaining.{IsTold, IsConflictOf, IsReason, IsExplained, AreExplained, count_bad}, Inner.Explaining.{ToldContradiction}}
+use Rattle.nntp_explain.specs.Explaining.{IsContradiction, WasRefused, are_looked_for, bad_behind}
+use Rattle.nntp_explain.specs.Inner.ExplainingView.{AddsReason, HasReason, TellsNext}
 use Rattle.nntp_explain.specs.Inner.ExplainingView.{Kept, Before, begins, placed_at, keeps, refuses, title_of, title_told, untold, unfitting_told, AreKept}
 use Rattle.nntp_explain.specs.{Inner.ExplainingView.{AreReasons, AreTold, GoesOn, unspelled_lines}, Reasons.{unfitting_lines, misspelling_line}}
 use Rattle.nntp_explain.specs.Standing.{Standing, Cited, standing, standing_after, cited, cited_at, cited_each, number_behind, cited_of_all, closing_after}
@@ -41,6 +43,7 @@ told_first profile earlier kept title text client server k few =
       stands_there = refl;
       closing_is = refl;
       reasons = tt;
+      refused = tt;
       bad_are = omega arith;
       few = few;
       told = [];
@@ -82,6 +85,27 @@ reasons_behind profile b client server kept text left t p c =
     (λ told i. reason_still kept.session profile told.bad kept.placed (p ∷ []) kept.cited (c ∷ []) told.reason same
     (all_at (λ (told : ToldContradiction). IsConflictOf kept.session profile told.bad kept.placed kept.cited told.reason) told kept.contradictions t.reasons i))
 
+-- an answer that was refused was so behind one answer more
+still : (answers : List Judged) (answer : Judged) (bad : Placed) → WasRefused answers bad → WasRefused (answers ++ answer ∷ []) bad
+still answers answer bad (front, pair, back, whole, same) =
+    (front, pair, back ++ answer ∷ [], ap (λ all. all ++ answer ∷ []) whole ∙ append_assoc front (Refused pair ∷ back) (answer ∷ []), same)
+
+refused_still : (answers : List Judged) (answer : Judged) (contradictions : List ToldContradiction)
+    → AllByRecursion (λ c. WasRefused answers c.bad) contradictions → AllByRecursion (λ c. WasRefused (answers ++ answer ∷ []) c.bad) contradictions
+refused_still answers answer contradictions all =
+    all_from _ contradictions (λ c i. still answers answer c.bad (all_at (λ (c : ToldContradiction). WasRefused answers c.bad) c contradictions all i))
+
+-- and one that is refused now was then
+refused_after : (answers : List Judged) (pair : Paired) (bad : Placed) (old new : List ToldContradiction) → placed_behind (accepted_of answers) pair ≡ bad
+    → AllByRecursion (λ c. WasRefused answers c.bad) old → AddsReason bad old new → AllByRecursion (λ c. WasRefused (answers ++ Refused pair ∷ []) c.bad) new
+refused_after answers pair bad old new placed all adds =
+    let Was = λ (c : ToldContradiction). WasRefused (answers ++ Refused pair ∷ []) c.bad in
+    let before = refused_still answers (Refused pair) old all in
+    elim adds [
+      | inl same ↦ subst (AllByRecursion Was) (sym same) before
+      | inr one ↦ subst (AllByRecursion Was) (sym one.1) (all_both Was old (record { bad = bad; reason = one.0 } ∷ []) before ((answers, pair, [], refl, placed), tt))
+    ]
+
 -- an exchange that some spool permits
 told_good : (profile : Profile) (b : Before) (client server : List ℕ) (kept : Kept) (new : FactsKept) (text : List ℕ) (left behind : Unpaired) (pair : Paired)
     → AreTold profile b client server kept text left → IsNext left pair behind
@@ -106,6 +130,7 @@ told_good profile b client server kept new text left behind pair t next notes =
       stands_there = ap (λ s. standing_after s pair) t.stands_there ∙ sym (standing_push None past pair) ∙ ap standing (sym accepted);
       closing_is = closing_next (number_behind b.earlier) t.answers (Accepted pair) kept.session kept.closing kept.stands t.session_is t.closing_is t.stands_there;
       reasons = reasons_behind profile b client server kept text left t (placed_at kept.stands kept.facts.position pair) (cited_at kept.session kept.stands pair);
+      refused = refused_still t.answers (Accepted pair) kept.contradictions t.refused;
       bad_are = t.bad_are ∙ ap (λ n. b.bad + n) (sym count);
       few = t.few;
       told = t.told;
@@ -128,11 +153,13 @@ few_more bad text line more few some =
     omega (arith, few, some, both, all)
 
 -- an answer that is bad is passed over
-told_bad : (profile : Profile) (b : Before) (client server : List ℕ) (kept : Kept) (text more : List ℕ) (left behind : Unpaired) (answer : Judged)
+told_bad : (profile : Profile) (b : Before) (client server : List ℕ) (kept : Kept) (text more : List ℕ) (left behind : Unpaired) (answer : Judged) (contradictions : List ToldContradiction)
     → (t : AreTold profile b client server kept text left) → IsJudged (ArePermittedBehind profile b.earlier) (accepted_of t.answers) left answer behind
-    → accepted_with (accepted_of t.answers) answer ≡ accepted_of t.answers → IsExplained profile b.earlier b.bad (accepted_of t.answers) answer more → 1 ≤ length more
-    → AreTold profile b client server (record (refuses kept) { closing = closing_with kept.session kept.closing kept.stands answer }) ((text ++ title_of kept) ++ more) behind
-told_bad profile b client server kept text more left behind answer t judged same is some =
+    → accepted_with (accepted_of t.answers) answer ≡ accepted_of t.answers → IsExplained profile b.earlier b.bad t.answers answer more → 1 ≤ length more
+    → AreReasons profile kept contradictions → AllByRecursion (λ c. WasRefused (t.answers ++ answer ∷ []) c.bad) contradictions
+    → AreTold profile b client server (record (refuses kept) { closing = closing_with kept.session kept.closing kept.stands answer; contradictions = contradictions })
+    ((text ++ title_of kept) ++ more) behind
+told_bad profile b client server kept text more left behind answer contradictions t judged same is some reasons refused =
     let accepted = accepted_one_more t.answers answer ∙ same in
     let number = number_behind b.earlier in
     let n = count_bad t.answers in
@@ -148,7 +175,8 @@ told_bad profile b client server kept text more left behind answer t judged same
       title_is = told_once b.title n ∙ ap (untold b.title) (sym count);
       stands_there = t.stands_there ∙ ap standing (sym accepted);
       closing_is = closing_next number t.answers answer kept.session kept.closing kept.stands t.session_is t.closing_is t.stands_there;
-      reasons = t.reasons;
+      reasons = reasons;
+      refused = refused;
       bad_are = ap (λ n. n + 1) t.bad_are ∙ more-bad b.bad n ∙ ap (λ n. b.bad + n) (sym count);
       few = few_more kept.bad text (title_of kept) more t.few some;
       told = t.told ++ more;
@@ -179,16 +207,16 @@ told_behind profile b client server kept text left t index at class line initial
     subst (λ (q : ℕ × Option Standing). IsTold q.0 q.1 index class line initial Reason more) (λ i. (bad_before profile b client server kept text left t index at i, t.stands_there i)) is
 
 -- what is told of it explains it, since there is one
-unspelled_explained : (profile : Profile) (earlier : List (List Paired)) (before : ℕ) (accepted : List Paired) (left behind : Unpaired) (index : ℕ) (line : Option (List ℕ)) (initial : List ℕ)
+unspelled_explained : (profile : Profile) (earlier : List (List Paired)) (before : ℕ) (past : List Judged) (left behind : Unpaired) (index : ℕ) (line : Option (List ℕ)) (initial : List ℕ)
     (block : Option (List ℕ)) (text : List ℕ) → IsPassedOver left line initial block behind
-    → IsTold (before + (index - length accepted)) (standing accepted) index Malformed line initial (λ reason. reason ≡ unspelled_lines (asked_at line) initial block) text
-    → IsExplained profile earlier before accepted (Unspelled index line initial block) text
-unspelled_explained profile earlier before accepted left behind index line initial block text passed is =
+    → IsTold (bad_behind before past index) (standing (accepted_of past)) index Malformed line initial (λ reason. reason ≡ unspelled_lines (asked_at line) initial block) text
+    → IsExplained profile earlier before past (Unspelled index line initial block) text
+unspelled_explained profile earlier before past left behind index line initial block text passed is =
     by (misspelling (asked_at line) initial block) (passed-reason left behind line initial block passed) is
   where
     by : (o : Option Misspelling) → MatchOption o ⊥ (λ why. why ≢ WrongBlock)
-        → IsTold (before + (index - length accepted)) (standing accepted) index Malformed line initial (λ reason. reason ≡ option_map_or misspelling_line o []) text
-        → MatchOption o ⊥ (λ why. IsTold (before + (index - length accepted)) (standing accepted) index Malformed line initial (λ reason. reason ≡ misspelling_line why) text)
+        → IsTold (bad_behind before past index) (standing (accepted_of past)) index Malformed line initial (λ reason. reason ≡ option_map_or misspelling_line o []) text
+        → MatchOption o ⊥ (λ why. IsTold (bad_behind before past index) (standing (accepted_of past)) index Malformed line initial (λ reason. reason ≡ misspelling_line why) text)
     by None none is = none
     by (Some why) some is = is
 
@@ -202,19 +230,21 @@ pub told_unspelled : (profile : Profile) (b : Before) (client server : List ℕ)
 told_unspelled profile b client server kept new text after left behind index asked line initial block new-is asked-is (more, after-is, told) t at passed =
     let here = subst (λ asked. IsTold kept.bad kept.stands index Malformed line initial (λ reason. reason ≡ unspelled_lines asked initial block) more) asked-is told in
     subst (λ (q : Kept × List ℕ). AreTold profile b client server q.0 q.1 behind) (λ i. (sym new-is i, sym after-is i))
-    (told_bad profile b client server kept text more left behind (Unspelled index line initial block) t (at, passed) refl
-    (unspelled_explained profile b.earlier b.bad (accepted_of t.answers) left behind index line initial block more passed
+    (told_bad profile b client server kept text more left behind (Unspelled index line initial block) kept.contradictions t (at, passed) refl
+    (unspelled_explained profile b.earlier b.bad t.answers left behind index line initial block more passed
     (told_behind profile b client server kept text left t index at Malformed line initial (λ reason. reason ≡ unspelled_lines (asked_at line) initial block) more here))
-    (told_long kept.bad kept.stands index Malformed line initial (λ reason. reason ≡ unspelled_lines asked initial block) more told))
+    (told_long kept.bad kept.stands index Malformed line initial (λ reason. reason ≡ unspelled_lines asked initial block) more told)
+    t.reasons (refused_still t.answers (Unspelled index line initial block) kept.contradictions t.refused))
 
 -- what is told of a refused answer of this class explains it
-refused_explained : (profile : Profile) (earlier : List (List Paired)) (before : ℕ) (accepted : List Paired) (pair : Paired) (class : Class) (text : List ℕ)
-    → class_behind profile accepted (Refused pair) ≡ Some class
-    → IsTold (before + (pair.index - length accepted)) (standing accepted) pair.index class pair.line pair.initial (IsReason profile earlier accepted pair class) text
-    → IsExplained profile earlier before accepted (Refused pair) text
-refused_explained profile earlier before accepted pair class text class-is is =
-    subst (λ o. MatchOption o ⊥ (λ class. IsTold (before + (pair.index - length accepted))
-    (standing accepted) pair.index class pair.line pair.initial (IsReason profile earlier accepted pair class) text))
+refused_explained : (profile : Profile) (earlier : List (List Paired)) (before : ℕ) (past : List Judged) (pair : Paired) (class : Class) (text : List ℕ)
+    → class_behind profile (accepted_of past) (Refused pair) ≡ Some class
+    → IsTold (bad_behind before past pair.index) (standing (accepted_of past)) pair.index class pair.line pair.initial
+    (IsReason profile earlier (bad_behind before past pair.index) past pair class) text
+    → IsExplained profile earlier before past (Refused pair) text
+refused_explained profile earlier before past pair class text class-is is =
+    subst (λ o. MatchOption o ⊥ (λ class. IsTold (bad_behind before past pair.index)
+    (standing (accepted_of past)) pair.index class pair.line pair.initial (IsReason profile earlier (bad_behind before past pair.index) past pair class) text))
     (sym class-is) is
 
 -- an exchange that doesn't fit
@@ -230,33 +260,51 @@ told_unfitting profile b client server kept text left behind pair more t next no
     let judged = unfit_refused profile b.earlier past pair kept.facts kept.facts left behind t.noted (notes past t.noted) next in
     let placed = own_part kept.others kept.placed (flat_map placed_of b.earlier) (placed_of past) t.others_are t.placed_are in
     let told = own_part kept.others kept.cited (cited_each 1 b.earlier) (cited number past) (t.others_are ∙ sym (as_many_cited 1 b.earlier)) t.cited_are in
-    told_bad profile b client server kept text more left behind (Refused pair) t judged.0 refl
-    (refused_explained profile b.earlier b.bad past pair OutOfPlace more judged.1
-    (told_as (b.bad + (pair.index - length past)) (standing past) pair.index OutOfPlace pair.line pair.initial _ (IsReason profile b.earlier past pair OutOfPlace) more
+    told_bad profile b client server kept text more left behind (Refused pair) kept.contradictions t judged.0 refl
+    (refused_explained profile b.earlier b.bad t.answers pair OutOfPlace more judged.1
+    (told_as (bad_behind b.bad t.answers pair.index) (standing past) pair.index OutOfPlace pair.line pair.initial _
+    (IsReason profile b.earlier (bad_behind b.bad t.answers pair.index) t.answers pair OutOfPlace) more
     (λ reason is. is ∙ ap (λ (q : Profile × Visible × ℕ × List Placed × List Cited). option_map_or (unfitting_lines q.2 q.3 q.4 pair.response) (misfit q.0 q.1 (asked_at pair.line) pair.response) [])
     (λ i. (t.noted.profile_is i, t.noted.visible i, t.session_is i, placed i, told i)))
     (told_behind profile b client server kept text left t pair.index next.index OutOfPlace pair.line pair.initial _ more is)))
     (told_long kept.bad kept.stands pair.index OutOfPlace pair.line pair.initial (λ reason. reason ≡ unfitting_told kept pair) more is)
+    t.reasons (refused_still t.answers (Refused pair) kept.contradictions t.refused)
+
+-- the reason of a contradiction, by what follows from that one was told before
+told_before : (looked_for : Bool) (P Q : Type 0) (here : ℕ) (profile : Profile) (bad : Placed) (answers : List Placed) (told : List Cited) (text : List ℕ) → (P → Q)
+    → IsContradiction looked_for P here profile bad answers told text → IsContradiction looked_for Q here profile bad answers told text
+told_before true P Q here profile bad answers told text f is = is
+told_before false P Q here profile bad answers told text f (inl (conflict, inl p)) = inl (conflict, inl (f p))
+told_before false P Q here profile bad answers told text f (inl (conflict, inr alone)) = inl (conflict, inr alone)
+told_before false P Q here profile bad answers told text f (inr some) = inr some
 
 -- an exchange that contradicts those that were accepted
 told_contradiction : (profile : Profile) (b : Before) (client server : List ℕ) (kept : Kept) (text : List ℕ) (left behind : Unpaired) (pair : Paired) (more : List ℕ)
-    → AreTold profile b client server kept text left → IsNext left pair behind
+    (contradictions : List ToldContradiction) → AreTold profile b client server kept text left → IsNext left pair behind
     → ((past : List Paired) → HasNotedBehind profile kept.facts b.earlier past → IsNotedBehind profile b.earlier past pair kept.facts kept.facts kinds.Contradiction)
-    → IsTold kept.bad kept.stands pair.index Contradiction pair.line pair.initial
-    (IsConflictOf kept.session (profile_kept kept.facts) (placed_at kept.stands kept.facts.position pair) kept.placed kept.cited) more
-    → AreTold profile b client server (record (refuses kept) { closing = closing_after kept.session kept.closing kept.stands pair }) ((text ++ title_of kept) ++ more) behind
-told_contradiction profile b client server kept text left behind pair more t next notes is =
+    → IsTold kept.bad kept.stands pair.index Contradiction pair.line pair.initial (TellsNext kept (placed_at kept.stands kept.facts.position pair)) more
+    → AreReasons profile kept contradictions → AddsReason (placed_at kept.stands kept.facts.position pair) kept.contradictions contradictions
+    → AreTold profile b client server (record (refuses kept) { closing = closing_after kept.session kept.closing kept.stands pair; contradictions = contradictions })
+    ((text ++ title_of kept) ++ more) behind
+told_contradiction profile b client server kept text left behind pair more contradictions t next notes is reasons adds =
     let past = accepted_of t.answers in
+    let bad = placed_at kept.stands kept.facts.position pair in
     let judged = contradiction_refused profile b.earlier past pair kept.facts kept.facts left behind t.noted (notes past t.noted) next in
     let placed = placed_there past kept.stands kept.facts.position pair t.stands_there t.noted.position in
-    told_bad profile b client server kept text more left behind (Refused pair) t judged.0 refl
-    (refused_explained profile b.earlier b.bad past pair Contradiction more judged.1
-    (told_as (b.bad + (pair.index - length past)) (standing past) pair.index Contradiction pair.line pair.initial _ (IsReason profile b.earlier past pair Contradiction) more
-    (λ reason is. subst (λ (q : ℕ × Profile × Placed × List Placed × List Cited). IsConflictOf q.0 q.1 q.2 q.3 q.4 reason)
-    (λ i. (t.session_is i, t.noted.profile_is i, placed i, t.placed_are i, t.cited_are i)) is)
+    let before = bad_before profile b client server kept text left t pair.index next.index in
+    let told : HasReason kept bad → WasRefused t.answers bad =
+        λ h. all_at (λ (c : ToldContradiction). WasRefused t.answers c.bad) (record { bad = bad; reason = h.0 }) kept.contradictions t.refused (in_contains _ kept.contradictions h.1) in
+    told_bad profile b client server kept text more left behind (Refused pair) contradictions t judged.0 refl
+    (refused_explained profile b.earlier b.bad t.answers pair Contradiction more judged.1
+    (told_as (bad_behind b.bad t.answers pair.index) (standing past) pair.index Contradiction pair.line pair.initial _
+    (IsReason profile b.earlier (bad_behind b.bad t.answers pair.index) t.answers pair Contradiction) more
+    (λ reason is. subst (λ (q : ℕ × ℕ × Profile × Placed × List Placed × List Cited).
+    IsContradiction (are_looked_for q.0 (length q.4)) (WasRefused t.answers q.3) q.1 q.2 q.3 q.4 q.5 reason)
+    (λ i. (before i, t.session_is i, t.noted.profile_is i, placed i, t.placed_are i, t.cited_are i))
+    (told_before (are_looked_for kept.bad (length kept.placed)) (HasReason kept bad) (WasRefused t.answers bad) kept.session (profile_kept kept.facts) bad kept.placed kept.cited reason told is))
     (told_behind profile b client server kept text left t pair.index next.index Contradiction pair.line pair.initial _ more is)))
-    (told_long kept.bad kept.stands pair.index Contradiction pair.line pair.initial
-    (IsConflictOf kept.session (profile_kept kept.facts) (placed_at kept.stands kept.facts.position pair) kept.placed kept.cited) more is)
+    (told_long kept.bad kept.stands pair.index Contradiction pair.line pair.initial (TellsNext kept bad) more is)
+    reasons (refused_after t.answers pair bad kept.contradictions contradictions (sym placed) t.refused adds)
 
 -- what the search for its reasons asks for
 contradiction_due : (profile : Profile) (b : Before) (client server : List ℕ) (kept : Kept) (text : List ℕ) (left behind : Unpaired) (pair : Paired)
@@ -280,9 +328,9 @@ pub on_ok : {T E P Q R : Type 0} (r : Result T E) → OnOk r P → OnOk r Q → 
 on_ok (Ok x) p q f = f p q
 on_ok (Err e) p q f = tt
 
-pub on_all : {T E P Q R S : Type 0} (r : Result T E) → OnOk r P → OnOk r Q → OnOk r R → (P → Q → R → S) → OnOk r S
-on_all (Ok x) p q r f = f p q r
-on_all (Err e) p q r f = tt
+pub on_each : {T E P Q R S W : Type 0} (r : Result T E) → OnOk r P → OnOk r Q → OnOk r R → OnOk r S → (P → Q → R → S → W) → OnOk r W
+on_each (Ok x) p q r s f = f p q r s
+on_each (Err e) p q r s f = tt
 
 pub if_ok : {T E : Type 0} {P Q R : T → Type 0} (r : Result T E) → IfOk r P → IfOk r Q → ((v : T) → P v → Q v → R v) → IfOk r R
 if_ok (Ok x) p q f = f x p q
@@ -317,39 +365,18 @@ noted_out_of_place profile b client server kept new facts noted closing text aft
     (subst (λ (f : FactsKept). IsTold kept.bad kept.stands pair.index OutOfPlace pair.line pair.initial
     (λ reason. reason ≡ unfitting_told (record kept { facts = f }) pair) more) same told))
 
--- of a contradiction that was told more reasons may be kept
-with_reasons : (profile : Profile) (b : Before) (client server : List ℕ) (kept : Kept) (text : List ℕ) (left : Unpaired) (contradictions : List ToldContradiction)
-    → AreReasons profile kept contradictions → AreTold profile b client server kept text left → AreTold profile b client server (record kept { contradictions = contradictions }) text left
-with_reasons profile b client server kept text left contradictions reasons t = record {
-  answers = t.answers;
-  judged = t.judged;
-  noted = t.noted;
-  placed_are = t.placed_are;
-  cited_are = t.cited_are;
-  session_is = t.session_is;
-  others_are = t.others_are;
-  title_is = t.title_is;
-  stands_there = t.stands_there;
-  closing_is = t.closing_is;
-  reasons = reasons;
-  bad_are = t.bad_are;
-  few = t.few;
-  told = t.told;
-  explained = t.explained;
-  silent = t.silent;
-  text_is = t.text_is;
-}
-
+-- an exchange that contradicts those that were accepted, by what is noted of it
 pub noted_contradiction : (profile : Profile) (b : Before) (client server : List ℕ) (kept new : Kept) (facts : FactsKept) (noted : Noted)
     (position : Position) (closing : Option Cited) (contradictions : List ToldContradiction) (text after : List ℕ) (left behind : Unpaired) (pair : Paired)
     → noted ≡ kinds.Contradiction → position ≡ kept.facts.position → closing ≡ closing_after kept.session kept.closing kept.stands pair
     → ((past : List Paired) → HasNotedBehind profile kept.facts b.earlier past → IsNotedBehind profile b.earlier past pair kept.facts facts noted)
     → new ≡ record (refuses (record kept { facts = facts; closing = closing })) { contradictions = contradictions } → AreReasons (profile_kept facts) kept contradictions
+    → AddsReason (placed_at kept.stands position pair) kept.contradictions contradictions
     → GoesOn (IsTold kept.bad kept.stands pair.index Contradiction pair.line pair.initial
-    (IsConflictOf kept.session (profile_kept facts) (placed_at kept.stands position pair) kept.placed kept.cited)) (text ++ title_of kept) after
+    (TellsNext (record kept { facts = facts }) (placed_at kept.stands position pair))) (text ++ title_of kept) after
     → AreTold profile b client server kept text left → IsNext left pair behind → AreTold profile b client server new after behind
-noted_contradiction profile b client server kept new facts noted position closing contradictions text after left behind pair is position-is closing-is notes new-is reasons (more, after-is, told) t
-    next =
+noted_contradiction profile b client server kept new facts noted position closing contradictions text after left behind pair is position-is closing-is notes new-is reasons adds
+    (more, after-is, told) t next =
     let at = λ (past : List Paired) (h : HasNotedBehind profile kept.facts b.earlier past). subst (IsNotedBehind profile b.earlier past pair kept.facts facts) is (notes past h) in
     let same : facts ≡ kept.facts = (at (accepted_of t.answers) t.noted).2 in
     subst (λ (q : Kept × List ℕ). AreTold profile b client server q.0 q.1 behind)
@@ -358,12 +385,12 @@ noted_contradiction profile b client server kept new facts noted position closin
           (λ i. (same i, closing-is i))) i,
       sym after-is i,
     ))
-    (with_reasons profile b client server _ _ behind contradictions
-    (subst (λ profile. AreReasons profile kept contradictions) (ap profile_kept same ∙ t.noted.profile_is) reasons)
-    (told_contradiction profile b client server kept text left behind pair more t next
+    (told_contradiction profile b client server kept text left behind pair more contradictions t next
     (λ past h. subst (λ f. IsNotedBehind profile b.earlier past pair kept.facts f kinds.Contradiction) same (at past h))
     (subst (λ (q : FactsKept × Position). IsTold kept.bad kept.stands pair.index Contradiction pair.line pair.initial
-    (IsConflictOf kept.session (profile_kept q.0) (placed_at kept.stands q.1 pair) kept.placed kept.cited) more) (λ i. (same i, position-is i)) told)))
+    (TellsNext (record kept { facts = q.0 }) (placed_at kept.stands q.1 pair)) more) (λ i. (same i, position-is i)) told)
+    (subst (λ profile. AreReasons profile kept contradictions) (ap profile_kept same ∙ t.noted.profile_is) reasons)
+    (subst (λ at. AddsReason (placed_at kept.stands at pair) kept.contradictions contradictions) position-is adds))
 
 -- and the reasons that are kept are those by what is noted
 pub noted_contradiction_reasons : (b : Before) (client server : List ℕ) (kept : Kept) (facts : FactsKept) (noted : Noted) (text : List ℕ) (left behind : Unpaired) (pair : Paired)

@@ -1,16 +1,16 @@
 -- What `explain` prints of sessions: each bad answer, where its session stands there, and why it is bad.
-use Rattle.std.specs.Prelude.{◌≡◌, ℕ, zero, suc, ◌+◌, ◌-◌, ◌≤◌, ◌==◌, nat_lt, if◌then◌else◌, cond, Bool, List, [], ◌∷◌, ◌++◌, length, drop, count_by, is_some}
-use Rattle.std.specs.{Prelude.{Option, MatchOption, codes, decimal}, Option.{option_map, option_map_or}}
+use Rattle.std.specs.Prelude.{◌≡◌, ℕ, zero, suc, ◌+◌, ◌-◌, ◌*◌, ◌≤◌, ◌==◌, ◌||◌, ◌⊎◌, nat_lt, if◌then◌else◌, cond, Bool, List, [], ◌∷◌, ◌++◌, length, drop}
+use Rattle.std.specs.{Prelude.{count_by, is_some, Option, Some, MatchOption, codes, decimal}, Option.{option_map, option_map_or}}
 use Rattle.nntp_wire.specs.{Lines.{lines_of_stream}, declared.{limit.Limit.{Limit}, marks.Marks.{Marks}}, Misspelling.{misspelling}}
 use Rattle.nntp_article.specs.{Session.{Machine.{Visible, start}, Limit.{profile_of}, Misfit.{misfit}}, declared.session.profile.Profile.{Profile}}
-use Rattle.nntp_theory.specs.{Classes.{visible_from}, Conflict.{Placed, placed_of, placed_behind, Core, IsFound, places_of, told_with, Point, IsFirstPoint}}
-use Rattle.nntp_theory.specs.Reading.{Judged, Accepted, Refused, Unspelled, accepted_of, accepted_with, class_behind, IsReading}
+use Rattle.nntp_theory.specs.{Classes.{visible_from}, Conflict.{Placed, placed_of, placed_behind, Core, IsFound, places_of, told, told_with, Point, IsFirstPoint, SomeHas}}
+use Rattle.nntp_theory.specs.Reading.{Judged, Accepted, Refused, Unspelled, accepted_of, class_behind, IsReading}
 use Rattle.nntp_pair.specs.{Classes.{class_of}, declared.class.{Class.{Class, TheVariants.{Malformed, OutOfPlace, Contradiction}}, PairClass.{PairClass}}}
 use Rattle.nntp_pair.specs.{declared.class.PairClass.TheVariants.{Surplus as PairSurplus, Cut as PairCut, Malformed as PairMalformed}, Pairing.{Paired}}
 use Rattle.nntp_pair.specs.Pairing.{Unpaired, Ending, end, bad as ends_at, line_ahead, asked_at, asked_of, responses_of}
 use Rattle.nntp_printing.specs.{BadAnswer.{IsFirstLine, bad_lines, shown}, Title.{title_line}}
 use Rattle.nntp_several.specs.{Conflict.{placed_of_all}, Reading.{ReadSession, AreReadings, IsReadingOfAll}, Sessions.{Named, unnamed}}
-use Rattle.nntp_explain.specs.{Reasons.{standing_line, unfitting_lines, misspelling_line, cut_line, surplus_lines}, Says.{conflict_lines}, Standing.{Standing}}
+use Rattle.nntp_explain.specs.{Reasons.{standing_line, unfitting_lines, misspelling_line, cut_line, surplus_lines, rest_line}, Says.{conflict_lines}, Standing.{Standing}}
 use Rattle.nntp_explain.specs.Standing.{Cited, standing, cited, number_behind, cited_of_all, closing}
 
 -- the visible state that accepted answers leave
@@ -44,34 +44,60 @@ abbrev pub IsConflictOf : ℕ → Profile → Placed → List Placed → List Ci
 IsConflictOf here profile bad answers told text =
     (core : Core) × IsFound profile bad answers core × MatchOption core.rest (length core.places ≤ 4) (λ bound. length core.places ≡ 4) × TellsCore here profile bad answers told core text
 
--- the text is the reason of an answer that is refused, by its class, behind these accepted answers of earlier sessions and of its own: what doesn't fit is by its own session alone, and what it
--- contradicts is of all
-abbrev pub IsReason : Profile → List (List Paired) → List Paired → Paired → Class → List ℕ → Type 0
-IsReason profile earlier accepted pair OutOfPlace text =
+-- whether the accepted answers that it conflicts with are looked for: behind so many bad answers and so many accepted ones that it takes little
+abbrev pub are_looked_for : ℕ → ℕ → Bool
+are_looked_for bad accepted = nat_lt bad 3 || nat_lt (bad * accepted) 20000
+
+-- the text tells, where none is looked for, that the bad answer conflicts with some of these answers, and not with itself
+abbrev pub IsConflictWithSome : ℕ → Profile → Placed → List Placed → List Cited → List ℕ → Type 0
+IsConflictWithSome here profile bad answers cited text = SomeHas profile (told profile bad) × (text ≡ rest_line here cited (Some (length answers)))
+
+-- the text is the reason of a contradiction: where none is looked for the conflict is told all the same of one that was told before, and of one with itself
+abbrev pub IsContradiction : Bool → Type 0 → ℕ → Profile → Placed → List Placed → List Cited → List ℕ → Type 0
+IsContradiction looked_for WasTold here profile bad answers cited text = cond looked_for
+    (IsConflictOf here profile bad answers cited text)
+    ((IsConflictOf here profile bad answers cited text × (WasTold ⊎ (SomeHas profile (told profile bad) → ⊥))) ⊎ IsConflictWithSome here profile bad answers cited text)
+
+-- one of these answers of its session was refused that said the same, from the same place
+abbrev pub WasRefused : List Judged → Placed → Type 0
+WasRefused past bad = (front : List Judged) × (pair : Paired) × (back : List Judged) × (past ≡ front ++ Refused pair ∷ back) × (placed_behind (accepted_of front) pair ≡ bad)
+
+-- the text is the reason of an answer that is refused, by its class, behind so many bad answers, accepted ones of earlier sessions, and these of its own: what doesn't fit is by its own session
+-- alone, and what it contradicts is of all
+abbrev pub IsReason : Profile → List (List Paired) → ℕ → List Judged → Paired → Class → List ℕ → Type 0
+IsReason profile earlier before past pair OutOfPlace text =
     let here = number_behind earlier in
+    let accepted = accepted_of past in
     text ≡ option_map_or (unfitting_lines here (placed_of accepted) (cited here accepted) pair.response) (misfit profile (visible_left accepted) (asked_at pair.line) pair.response) []
-IsReason profile earlier accepted pair Contradiction text =
-    IsConflictOf (number_behind earlier) profile (placed_behind accepted pair) (placed_of_all earlier accepted) (cited_of_all earlier accepted) text
-IsReason profile earlier accepted pair class text = text ≡ []
+IsReason profile earlier before past pair Contradiction text =
+    let bad = placed_behind (accepted_of past) pair in
+    let answers = placed_of_all earlier (accepted_of past) in
+    IsContradiction (are_looked_for before (length answers)) (WasRefused past bad) (number_behind earlier) profile bad answers (cited_of_all earlier (accepted_of past)) text
+IsReason profile earlier before past pair class text = text ≡ []
 
 -- ---- the answers of a reading, behind these accepted answers of earlier sessions, of which so many answers are bad
 
--- the text is what is printed of an answer that is judged behind these accepted ones of its session: of one that is accepted too nothing
-abbrev pub IsExplained : Profile → List (List Paired) → ℕ → List Paired → Judged → List ℕ → Type 0
-IsExplained profile earlier before accepted (Accepted pair) text = text ≡ []
-IsExplained profile earlier before accepted (Refused pair) text =
-    MatchOption (class_behind profile accepted (Refused pair)) ⊥
-    (λ class. IsTold (before + (pair.index - length accepted)) (standing accepted) pair.index class pair.line pair.initial (IsReason profile earlier accepted pair class) text)
-IsExplained profile earlier before accepted (Unspelled index line initial block) text =
-    MatchOption (misspelling (asked_at line) initial block) ⊥
-    (λ why. IsTold (before + (index - length accepted)) (standing accepted) index Malformed line initial (λ reason. reason ≡ misspelling_line why) text)
+-- so many answers are bad before the one at this place, behind these of its session
+abbrev pub bad_behind : ℕ → List Judged → ℕ → ℕ
+bad_behind before past index = before + (index - length (accepted_of past))
 
--- the text is what is printed of answers, one after the other
-abbrev pub AreExplained : Profile → List (List Paired) → ℕ → List Paired → List Judged → List ℕ → Type 0
-AreExplained profile earlier before accepted [] text = text ≡ []
-AreExplained profile earlier before accepted (answer ∷ answers) text =
+-- the text is what is printed of an answer that is judged behind these of its session: of one that is accepted too nothing
+abbrev pub IsExplained : Profile → List (List Paired) → ℕ → List Judged → Judged → List ℕ → Type 0
+IsExplained profile earlier before past (Accepted pair) text = text ≡ []
+IsExplained profile earlier before past (Refused pair) text =
+    let bad = bad_behind before past pair.index in
+    MatchOption (class_behind profile (accepted_of past) (Refused pair)) ⊥
+    (λ class. IsTold bad (standing (accepted_of past)) pair.index class pair.line pair.initial (IsReason profile earlier bad past pair class) text)
+IsExplained profile earlier before past (Unspelled index line initial block) text =
+    MatchOption (misspelling (asked_at line) initial block) ⊥
+    (λ why. IsTold (bad_behind before past index) (standing (accepted_of past)) index Malformed line initial (λ reason. reason ≡ misspelling_line why) text)
+
+-- the text is what is printed of answers behind these of their session, one after the other
+abbrev pub AreExplained : Profile → List (List Paired) → ℕ → List Judged → List Judged → List ℕ → Type 0
+AreExplained profile earlier before past [] text = text ≡ []
+AreExplained profile earlier before past (answer ∷ answers) text =
     (front : List ℕ) × (back : List ℕ) × (text ≡ front ++ back)
-    × IsExplained profile earlier before accepted answer front × AreExplained profile earlier before (accepted_with accepted answer) answers back
+    × IsExplained profile earlier before past answer front × AreExplained profile earlier before (past ++ answer ∷ []) answers back
 
 -- how many of the answers are bad
 abbrev pub count_bad : List Judged → ℕ

@@ -1,5 +1,5 @@
 //! What is kept of sessions that are read on behind bad answers, and what is told of a bad answer.
-ghost use Rattle.std.specs.Prelude.{◌≡◌, ◌≢◌, ℕ, ◌+◌, ◌<◌, ◌≤◌, ◌^◌, ◌++◌, List, ◌∷◌, None, length, map, nat_lt, OnOk, IfOk};
+ghost use Rattle.std.specs.Prelude.{◌≡◌, ◌≢◌, ◌⊎◌, true, false, ℕ, ◌+◌, ◌<◌, ◌≤◌, ◌^◌, ◌++◌, List, ◌∷◌, None, length, map, nat_lt, OnOk, IfOk};
 ghost use Rattle.std.specs.List.{AllByRecursion};
 ghost use Rattle.std.specs.Option.{option_copied, option_map};
 ghost use Rattle.nntp_wire.specs.Inner.View.{asked};
@@ -14,16 +14,16 @@ ghost use Rattle.nntp_pair.specs.declared.class.Class.TheVariants.{Malformed as 
 ghost use Rattle.nntp_pair.specs.Classes.{class_of};
 ghost use Rattle.nntp_facts.specs.Inner.Noted.{profile_kept};
 ghost use Rattle.nntp_printing.specs.BadAnswer.{IsFirstLine};
-ghost use Rattle.nntp_explain.specs.Explaining.{front_lines, place_lines, IsEndReason, TellsCore};
+ghost use Rattle.nntp_explain.specs.Explaining.{are_looked_for, front_lines, place_lines, IsEndReason, TellsCore};
 ghost use Rattle.nntp_explain.specs.Inner.ExplainingView.{Before, begins, cited_of, kept_of, keeps, placed_here, refuses, standing_of, title_of};
 ghost use Rattle.nntp_explain.specs.Inner.ExplainingView.{unfitting_told, unspelled_lines, AreReasons, Contradicts, Fits, GoesOn, HasReadNone, HasTold};
-ghost use Rattle.nntp_explain.specs.Inner.ExplainingView.{TellsBad, TellsConflict};
+ghost use Rattle.nntp_explain.specs.Inner.ExplainingView.{AddsReason, StandsAlone, TellsBad, TellsConflict, TellsContradiction, TellsNext};
 ghost use Rattle.nntp_explain.specs.Standing.{Cited as CitedValue};
 
 use crate::conflict::put_conflict;
 use crate::contradiction::{ToldContradiction, reason_of};
 use crate::ending::put_end_reason;
-use crate::reasons::{put_misspelling, put_standing};
+use crate::reasons::{put_misspelling, put_rest, put_standing};
 use crate::standing::{Cited, Standing, note_closing, standing_after};
 use crate::unfitting::put_unfitting;
 use nntp_facts::{Conflict, Core, Facts, Noted, Placed, Position};
@@ -38,6 +38,12 @@ const EXPLAINED: u64 = 100;
 
 /// How many answers are looked for at most with which a bad one conflicts.
 const CITED: usize = 4;
+
+/// Behind fewer bad answers they are looked for in any case.
+const SEARCHED: u64 = 3;
+
+/// Else they are looked for where the number of bad answers times that of accepted ones is below this.
+const PRODUCT: u64 = 20_000;
 
 /// Reads on behind bad answers: each is passed over, and the next one is judged behind those that were accepted, of
 /// earlier sessions and of its own.
@@ -192,10 +198,12 @@ impl<'a, A: Allocator + Copy> Explainer<'a, A> {
         requires reasons { AreReasons (profile_kept self.old.facts) (kept_of self.old) self.old.contradictions.items }
         ensures kept { OnOk result (kept_of self.new ≡ record (refuses (kept_of self.old)) { contradictions = self.new.contradictions.items }) }
         ensures reasons { OnOk result (AreReasons (profile_kept self.old.facts) (kept_of self.old) self.new.contradictions.items) }
+        ensures adds { OnOk result (AddsReason (placed_here (kept_of self.old) position exchange.entry) self.old.contradictions.items self.new.contradictions.items) }
         ensures text { OnOk result (TellsBad (kept_of self.old) exchange.entry.index Contradiction exchange.entry.line exchange.entry.initial
-            (TellsConflict (kept_of self.old) (placed_here (kept_of self.old) position exchange.entry)) self.old.text.items self.new.text.items) }
+            (TellsNext (kept_of self.old) (placed_here (kept_of self.old) position exchange.entry)) self.old.text.items self.new.text.items) }
     {
         let line = exchange.line();
+        let looked_for = are_looked_for(self.bad, self.placed.len());
         if !self.put_bad(
             exchange.index(),
             Class::Contradiction,
@@ -205,21 +213,26 @@ impl<'a, A: Allocator + Copy> Explainer<'a, A> {
             return Ok(());
         }
         let bad = Placed::new(self.selected(), position, exchange);
-        self.tell_conflict(bad)
+        self.tell_conflict(bad, looked_for)
     }
 
     /// Tells with which of the accepted answers the bad one conflicts, and about what. It is what was told of the same
     /// answer from the same place, if the session had one.
-    fn tell_conflict(&mut self, bad: Placed<'a>) -> Result<(), AllocError>
+    fn tell_conflict(&mut self, bad: Placed<'a>, looked_for: bool) -> Result<(), AllocError>
         requires fit { Fits (kept_of self.old) bad }
         requires conflict { Contradicts (kept_of self.old) bad }
         requires reasons { AreReasons (profile_kept self.old.facts) (kept_of self.old) self.old.contradictions.items }
         ensures kept { OnOk result (kept_of self.new ≡ record (kept_of self.old) { contradictions = self.new.contradictions.items }) }
         ensures reasons { OnOk result (AreReasons (profile_kept self.old.facts) (kept_of self.old) self.new.contradictions.items) }
-        ensures text { OnOk result (GoesOn (TellsConflict (kept_of self.old) bad.entry) self.old.text.items self.new.text.items) }
+        ensures adds { OnOk result (AddsReason bad.entry self.old.contradictions.items self.new.contradictions.items) }
+        ensures text { OnOk result (GoesOn (TellsContradiction looked_for (kept_of self.old) bad.entry) self.old.text.items self.new.text.items) }
     {
         if let Some(reason) = reason_of(&self.contradictions, &bad) {
             return self.text.extend_from_slice(reason);
+        }
+        if self.is_cut_short(&bad, looked_for)? {
+            let all = Some(self.placed.len());
+            return put_rest(&mut self.text, self.session, &self.cited, all);
         }
         let mut reason = Vec::new(self.alloc);
         self.put_found(&mut reason, &bad)?;
@@ -227,6 +240,23 @@ impl<'a, A: Allocator + Copy> Explainer<'a, A> {
         self.contradictions
             .push(ToldContradiction::new(bad, reason))?;
         Ok(())
+    }
+
+    /// Tells whether the accepted answers with which the bad one conflicts aren't looked for, and there are some: it
+    /// doesn't conflict with itself.
+    fn is_cut_short(&self, bad: &Placed<'a>, looked_for: bool) -> Result<bool, AllocError>
+        requires fit { Fits (kept_of self.now) bad.now }
+        requires conflict { Contradicts (kept_of self.now) bad.now }
+        ensures short { IfOk result (λ short. short ≡ true → (looked_for ≡ false) × StandsAlone (kept_of self.now) bad.now) }
+        ensures whole { IfOk result (λ short. short ≡ false → (looked_for ≡ true) ⊎ (StandsAlone (kept_of self.now) bad.now → ⊥)) }
+    {
+        if looked_for {
+            return Ok(false);
+        }
+        let limit = self.facts.limit();
+        let marks = self.facts.marks();
+        let core = Core::find(self.alloc, limit, marks, &self.placed, bad, 0)?;
+        Ok(core.rest().is_some())
     }
 
     /// Finds with which of the accepted answers the bad one conflicts, and adds these, and about what.
@@ -338,6 +368,14 @@ impl<'a, A: Allocator + Copy> Explainer<'a, A> {
             None => Ok(()),
         }
     }
+}
+
+/// Tells whether the accepted answers with which a bad one conflicts are looked for, behind so many bad answers and so
+/// many accepted ones.
+fn are_looked_for(bad: u64, accepted: usize) -> bool
+    ensures { result ≡ are_looked_for bad accepted }
+{
+    bad < SEARCHED || bad.saturating_mul(accepted as u64) < PRODUCT
 }
 
 /// Adds what the answers of a core conflict about, and which they are.

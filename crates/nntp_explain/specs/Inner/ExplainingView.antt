@@ -1,10 +1,10 @@
 -- What the values of src/standing.rt and src/explainer.rt mean.
-use Rattle.std.specs.{Prelude.{◌≡◌, ℕ, zero, suc, ◌+◌, ◌≤◌, List, [], ◌∷◌, ◌++◌, length, map, drop, Option, None}, List.{AllByRecursion, flat_map}}
+use Rattle.std.specs.{Prelude.{◌≡◌, ℕ, zero, suc, ◌+◌, ◌≤◌, ◌⊎◌, Bool, List, [], ◌∷◌, ◌++◌, length, map, drop, Option, None, Contains}, List.{AllByRecursion, flat_map}}
 use Rattle.std.specs.Option.{option_copied, option_map, option_map_or}
 use Rattle.nntp_wire.specs.{Answer.{Asked}, Misspelling.{misspelling}}
 use Rattle.nntp_article.specs.{Session.Misfit.{misfit}, declared.session.profile.Profile.{Profile}}
 use Rattle.nntp_pair.specs.{Pairing.{Paired, Unpaired, asked_at, streams}, declared.class.Class.{Class}}
-use Rattle.nntp_theory.specs.{Conflict.{Placed, placed_of, SomeHas, told_with, below}, Inner.Conflict.{FitsThere}, Permitted.{ArePermittedBehind}}
+use Rattle.nntp_theory.specs.{Conflict.{Placed, placed_of, SomeHas, told, told_with, below}, Inner.Conflict.{FitsThere}, Permitted.{ArePermittedBehind}}
 use Rattle.nntp_theory.specs.Reading.{Judged, accepted_of, AreJudged, IsReadingBy}
 use Rattle.nntp_facts.specs.Inner.Noted.{FactsKept, HasNotedBehind, begun, profile_kept}
 use Rattle.nntp_several.specs.{Conflict.{placed_of_all}, Reading.{ReadSession, IsReadingOfAll}, Sessions.{Named, Recorded, unnamed}}
@@ -12,6 +12,7 @@ use Rattle.nntp_printing.specs.Title.{title_line}
 use Rattle.nntp_explain.specs.declared.{standing.{Standing.{Standing as StandingCode}, Cited.{Cited as CitedCode}}, explainer.Explainer.{Explainer}}
 use Rattle.nntp_explain.specs.Standing.{Standing, Cited, standing, standing_after, cited_at, cited_each, number_behind, cited_of_all, closing}
 use Rattle.nntp_explain.specs.{Inner.Explaining.{ToldContradiction}, Explaining.{IsTold, IsConflictOf, AreExplained, count_bad, IsSessionExplained, Counts}}
+use Rattle.nntp_explain.specs.Explaining.{IsContradiction, WasRefused, are_looked_for}
 use Rattle.nntp_explain.specs.{Explaining.{counts_of, titled, none_counted, AreSessionsExplained}, Reasons.{unfitting_lines, misspelling_line}}
 use Rattle.nntp_said.specs.declared.position.Position.{Position}
 
@@ -122,6 +123,7 @@ pub record AreTold (profile : Profile) (b : Before) (client server : List ℕ) (
   pub stands_there : kept.stands ≡ standing (accepted_of answers)
   pub closing_is : kept.closing ≡ closing (number_behind b.earlier) answers
   pub reasons : AreReasons profile kept kept.contradictions
+  pub refused : AllByRecursion (λ c. WasRefused answers c.bad) kept.contradictions
   pub bad_are : kept.bad ≡ b.bad + count_bad answers
   pub few : kept.bad ≤ length text
   pub told : List ℕ
@@ -215,9 +217,29 @@ Fits k bad = AllByRecursion (FitsThere (profile_kept k.facts)) (bad ∷ k.placed
 abbrev pub Contradicts : Kept → Placed → Type 0
 Contradicts k bad = SomeHas (profile_kept k.facts) (told_with (profile_kept k.facts) bad k.placed (below (length k.placed))) → ⊥
 
+-- some spool has what it says
+abbrev pub StandsAlone : Kept → Placed → Type 0
+StandsAlone k bad = SomeHas (profile_kept k.facts) (told (profile_kept k.facts) bad)
+
 -- the text tells with which accepted answers it conflicts, and about what
 abbrev pub TellsConflict : Kept → Placed → List ℕ → Type 0
 TellsConflict k bad text = IsConflictOf k.session (profile_kept k.facts) bad k.placed k.cited text
+
+-- a reason was told of the same answer
+abbrev pub HasReason : Kept → Placed → Type 0
+HasReason k bad = (reason : List ℕ) × Contains k.contradictions (record { bad = bad; reason = reason })
+
+-- the text is its reason, whether or not the answers that it conflicts with are looked for
+abbrev pub TellsContradiction : Bool → Kept → Placed → List ℕ → Type 0
+TellsContradiction looked_for k bad text = IsContradiction looked_for (HasReason k bad) k.session (profile_kept k.facts) bad k.placed k.cited text
+
+-- the same of one that comes next, by how many are bad before it
+abbrev pub TellsNext : Kept → Placed → List ℕ → Type 0
+TellsNext k bad text = TellsContradiction (are_looked_for k.bad (length k.placed)) k bad text
+
+-- the reason of this answer is kept too, or no further one
+abbrev pub AddsReason : Placed → List ToldContradiction → List ToldContradiction → Type 0
+AddsReason bad old new = (new ≡ old) ⊎ ((reason : List ℕ) × (new ≡ old ++ record { bad = bad; reason = reason } ∷ []))
 
 -- the report goes on with a bad answer, behind the name of its session where that is untold: its lines, where the session stands, and a reason
 abbrev pub TellsBad : Kept → ℕ → Class → Option (List ℕ) → List ℕ → (List ℕ → Type 0) → List ℕ → List ℕ → Type 0

@@ -1,6 +1,6 @@
 use Rattle.std.{proofs.{Common.{◌≤◌, map, length, arith}, lemmas.List.{length-map}}, specs.Option.{option_map}}
 use Rattle.nntp_facts.specs.Inner.Noted.{profile_kept}
-use Rattle.nntp_explain.{specs.Inner.ExplainingView.{cited_of, kept_of}, proofs.ExplainLemmas.{told_due, others_placed, others_cited, on_ok, on_all}}
+use Rattle.nntp_explain.{specs.Inner.ExplainingView.{cited_of, kept_of}, proofs.ExplainLemmas.{told_due, others_placed, others_cited, on_ok, on_each}}
 use Rattle.nntp_explain.proofs.ExplainLemmas.{noted_consistent, noted_out_of_place, noted_contradiction, noted_contradiction_reasons, noted_contradiction_due}
 use Rattle.nntp_explain.proofs.explainer.Explainer.note.Goals as goal
 
@@ -65,8 +65,8 @@ returns-in-OutOfPlace g c =
 pub returns-in-Contradiction : goal.returns-in-Contradiction
 returns-in-Contradiction g c =
     let new = c.refuse_contradiction.new.self in
-    on_all c.refuse_contradiction.result c.refuse_contradiction.ensures.kept c.refuse_contradiction.ensures.reasons c.refuse_contradiction.ensures.text
-    (λ kept reasons text profile b client server left behind t next.
+    on_each c.refuse_contradiction.result c.refuse_contradiction.ensures.kept c.refuse_contradiction.ensures.reasons c.refuse_contradiction.ensures.adds c.refuse_contradiction.ensures.text
+    (λ kept reasons adds text profile b client server left behind t next.
     noted_contradiction profile b client server (kept_of c.args.self.now) (kept_of new) c.note.new.self c.in-Ok.noted c.position-position.result
     (option_map cited_of c.note_closing.new.closing) new.contradictions.items c.args.self.now.text.items new.text.items left behind c.args.exchange
-    c.in-Contradiction.is c.position-position.ensures c.note_closing.ensures (c.in-Ok.ensures.noted profile b.earlier) kept reasons text t next)
+    c.in-Contradiction.is c.position-position.ensures c.note_closing.ensures (c.in-Ok.ensures.noted profile b.earlier) kept reasons adds text t next)

@@ -1,9 +1,10 @@
-use Rattle.std.{proofs.Common.{◌≡◌, ◌∙◌, ◌++◌, sym, ap, subst, refl, append-nil, true, false, ℕ, List, [], Option}, specs.Option.{option_map}}
+use Rattle.std.{proofs.Common.{rules, ◌≡◌, ◌∙◌, ◌++◌, sym, ap, subst, refl, inl, append-nil, Bool, true, false, ℕ, length, List, [], Option}, specs.Option.{option_map}}
 use Rattle.nntp_article.specs.Session.Spool.{Name}
 use Rattle.nntp_theory.specs.Conflict.{Placed}
 use Rattle.nntp_facts.specs.Inner.Noted.{profile_kept}
 use Rattle.nntp_pair.specs.{declared.class.Class.TheVariants.{Contradiction}, Pairing.{asked_at}}
-use Rattle.nntp_explain.specs.{Explaining.{front_lines, place_lines}, Inner.ExplainingView.{Kept, AreReasons, Contradicts, Fits, TellsConflict, refuses}}
+use Rattle.nntp_explain.specs.{Explaining.{are_looked_for, front_lines, place_lines}, Inner.{Explaining.{ToldContradiction}, ExplainingView.{AddsReason, Kept, AreReasons, Contradicts, Fits, TellsNext}}}
+use Rattle.nntp_explain.specs.Inner.ExplainingView.{TellsContradiction, refuses}
 use Rattle.nntp_explain.{specs.Inner.ExplainingView.{kept_of, standing_of, placed_here, title_of}, proofs.{AnswerLemmas.{told_reason}, ExplainLemmas.{on_ok}}}
 use Rattle.nntp_explain.proofs.explainer.Explainer.refuse_contradiction.Goals.{After-new-bad}
 use Rattle.nntp_explain.proofs.explainer.Explainer.refuse_contradiction.Given as given
@@ -47,6 +48,9 @@ returns-then-not-branch-clause-text g c =
     (c.in_ok-put_bad.ensures.text ∙ lines ∙ sym (append-nil _))
     refl
 
+pub returns-then-not-branch-clause-adds : goal.returns-then-not-branch-clause-adds
+returns-then-not-branch-clause-adds g c = inl (same_told (kept_of c.args.self.now) (kept_of c.put_bad.new.self) c.in_ok-put_bad.ensures.kept)
+
 pub tell_conflict-requires-clause-fit : goal.tell_conflict-requires-clause-fit
 tell_conflict-requires-clause-fit g c =
     subst (λ (q : Kept × Placed). Fits q.0 q.1) (sym (before g (goal.at.tell_conflict-requires-clause-fit g c).After-new-bad)) c.requires.fit
@@ -69,6 +73,14 @@ returns-clause-reasons g c =
     on_ok c.tell_conflict.result c.tell_conflict.ensures.reasons c.tell_conflict.ensures.reasons
     (λ reasons _. subst (λ (k : Kept). AreReasons (profile_kept k.facts) k c.tell_conflict.new.self.contradictions.items) c.in_ok-put_bad.ensures.kept reasons)
 
+pub returns-clause-adds : goal.returns-clause-adds
+returns-clause-adds g c =
+    let old = kept_of c.args.self.now in
+    let told = same_told old (kept_of c.put_bad.new.self) c.in_ok-put_bad.ensures.kept in
+    on_ok c.tell_conflict.result c.tell_conflict.ensures.adds c.tell_conflict.ensures.adds
+    (λ adds _. subst (λ (q : Placed × List ToldContradiction). AddsReason q.0 q.1 c.tell_conflict.new.self.contradictions.items)
+    (λ i. ((before g (goal.at.returns-clause-adds g c).After-new-bad i).1, told i)) adds)
+
 pub returns-clause-text : goal.returns-clause-text
 returns-clause-text g c =
     let pair = c.args.exchange in
@@ -78,10 +90,14 @@ returns-clause-text g c =
     let bad = placed_here (kept_of self) c.args.position pair in
     let lines = ap (λ (q : ℕ × Option (List ℕ) × List ℕ). old ++ front_lines q.0 Contradiction q.1 q.2 ++ place_lines self.bad stands)
     (λ i. (c.index.ensures.value i, c.line-line.ensures i, c.initial.ensures i)) in
-    let conflict = λ (more : List ℕ). subst (λ (q : Kept × Placed). TellsConflict q.0 q.1 more) (before g (goal.at.returns-clause-text g c).After-new-bad) in
+    let count : c.len.result ≡ length self.placed.items = search rules in
+    let looked_for : c.are_looked_for-looked_for.result ≡ are_looked_for self.bad (length self.placed.items) = c.are_looked_for-looked_for.ensures ∙ ap (are_looked_for self.bad) count in
+    let conflict = λ (more : List ℕ) (is : TellsContradiction c.are_looked_for-looked_for.result (kept_of c.put_bad.new.self) c.new-bad.result more).
+        subst (λ (q : Bool × Kept × Placed). TellsContradiction q.0 q.1 q.2 more)
+        (λ i. (looked_for i, (before g (goal.at.returns-clause-text g c).After-new-bad i).0, (before g (goal.at.returns-clause-text g c).After-new-bad i).1)) is in
     on_ok c.tell_conflict.result c.tell_conflict.ensures.text c.tell_conflict.ensures.text
     (λ goes _. told_reason self.bad stands pair.index Contradiction pair.line pair.initial
-    (TellsConflict (kept_of self) bad)
+    (TellsNext (kept_of self) bad)
     old c.tell_conflict.new.self.text.items goes.0 true
     (sym c.if-not-branch.false ∙ c.in_ok-put_bad.ensures.told)
     (goes.1 ∙ ap (λ t. t ++ goes.0) (c.in_ok-put_bad.ensures.text ∙ lines))

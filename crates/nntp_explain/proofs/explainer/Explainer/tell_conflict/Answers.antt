@@ -1,7 +1,9 @@
-use Rattle.std.{proofs.Common.{◌∙◌, ◌++◌, ◌∷◌, [], refl, ap, subst, sym, List}, specs.Prelude.{⊤, Contains, MatchOption}}
+use Rattle.std.{proofs.Common.{rules, ◌≡◌, ◌∙◌, ◌++◌, ◌∷◌, [], refl, ap, subst, sym, inl, map, ℕ, List, Some, length}, specs.Prelude.{⊤, Contains, MatchOption}}
 use Rattle.nntp_facts.specs.Inner.Noted.{profile_kept}
 use Rattle.nntp_theory.proofs.Members.{all_at, all_both, in_contains}
-use Rattle.nntp_explain.{specs.Inner.{Explaining.{ToldContradiction}, ExplainingView.{AreReasons, TellsConflict, kept_of}}, proofs.ReasonsGoOn.{in_any_case}}
+use Rattle.nntp_explain.{specs.Inner.{Explaining.{ToldContradiction}, ExplainingView.{AreReasons, HasReason, TellsConflict, cited_of, kept_of}}, proofs.ReasonsGoOn.{in_any_case}}
+use Rattle.nntp_explain.specs.{Reasons.{rest_line}, Standing.{Cited}}
+use Rattle.nntp_explain.proofs.ConflictLemmas.{told_again, told_short, told_whole}
 use Rattle.nntp_explain.proofs.{ReasonsGoOn.{extended}, SaysLemmas.{on_ok}}
 use Rattle.nntp_explain.proofs.explainer.Explainer.tell_conflict.Goals as goal
 
@@ -10,6 +12,9 @@ returns-in-Some-clause-kept g c = in_any_case c.extend_from_slice.result refl
 
 pub returns-in-Some-clause-reasons : goal.returns-in-Some-clause-reasons
 returns-in-Some-clause-reasons g c = in_any_case c.extend_from_slice.result c.requires.reasons
+
+pub returns-in-Some-clause-adds : goal.returns-in-Some-clause-adds
+returns-in-Some-clause-adds g c = in_any_case c.extend_from_slice.result (inl refl)
 
 pub returns-in-Some-clause-text : goal.returns-in-Some-clause-text
 returns-in-Some-clause-text g c =
@@ -21,8 +26,9 @@ returns-in-Some-clause-text g c =
     (λ put. (
       c.in-Some.reason.now,
       put,
-      all_at (λ (t : ToldContradiction). TellsConflict (kept_of self) t.bad t.reason) here self.contradictions.items c.requires.reasons
-          (in_contains here self.contradictions.items there),
+      told_again (HasReason (kept_of self) c.args.bad) self.session (profile_kept self.facts) c.args.bad self.placed.items (map cited_of self.cited.items) c.in-Some.reason.now c.args.looked_for
+          (all_at (λ (t : ToldContradiction). TellsConflict (kept_of self) t.bad t.reason) here self.contradictions.items c.requires.reasons
+          (in_contains here self.contradictions.items there)) (c.in-Some.reason.now, there),
     ))
     (extended c.extend_from_slice.result c.extend_from_slice.new.self.items self.text.items c.in-Some.reason.now c.extend_from_slice.ensures.items)
 
@@ -35,3 +41,29 @@ returns-clause-reasons g c =
     let here = subst (TellsConflict (kept_of self) c.args.bad) (sym whole) goes.2 in
     subst (AreReasons (profile_kept self.facts) (kept_of self)) (sym c.in_ok-push.ensures.items)
     (all_both told self.contradictions.items (c.new.result ∷ []) c.requires.reasons (subst told (sym c.new.ensures) here, tt))
+
+pub returns-then-branch-clause-text : goal.returns-then-branch-clause-text
+returns-then-branch-clause-text g c =
+    let self = c.args.self.now in
+    let answers = map cited_of self.cited.items in
+    let count : c.len.result ≡ length self.placed.items = search rules in
+    let cited : map cited_of c.deref-then-branch.result.now ≡ answers = ap (map cited_of) c.deref-then-branch.ensures.value in
+    on_ok c.put_rest.result
+    (λ is. (
+      rest_line self.session answers (Some (length self.placed.items)),
+      is ∙ ap (λ (q : List Cited × ℕ). self.text.items ++ rest_line self.session q.0 (Some q.1)) (λ i. (cited i, count i)),
+      told_short (HasReason (kept_of self) c.args.bad) self.session (profile_kept self.facts) c.args.bad self.placed.items answers _ c.args.looked_for
+          (c.in_ok-is_cut_short.ensures.short c.if-branch.true) refl,
+    ))
+    c.put_rest.ensures
+
+pub returns-clause-text : goal.returns-clause-text
+returns-clause-text g c =
+    let self = c.args.self.now in
+    let goes = c.in_ok-put_found.ensures in
+    let whole = c.deref-2.ensures.value ∙ goes.1 ∙ ap (λ t. t ++ goes.0) c.new-reason.ensures.items in (
+      goes.0,
+      c.in_ok-extend_from_slice.ensures.items ∙ ap (λ t. self.text.items ++ t) whole,
+      told_whole (HasReason (kept_of self) c.args.bad) self.session (profile_kept self.facts) c.args.bad self.placed.items (map cited_of self.cited.items) goes.0 c.args.looked_for
+          (c.in_ok-is_cut_short.ensures.whole c.if-branch.false) goes.2,
+    )
