@@ -11,12 +11,14 @@ use Rattle.nntp_theory.specs.{Reading.{Judged, Accepted, Refused, Unspelled, acc
 use Rattle.nntp_theory.proofs.{Members.{all_at, all_both, all_from, in_contains}, Reading.JudgedSession.{accepted_one_more}}
 use Rattle.nntp_facts.{specs.Inner.Noted.{FactsKept, HasNotedBehind, IsNotedBehind, IsDue, profile_kept}, proofs.Reading.NotedAsJudged.{unfit_refused}}
 use Rattle.nntp_facts.proofs.Reading.NotedAsJudged.{contradiction_refused}
-use Rattle.nntp_said.specs.declared.position.Position.{Position}
+use Rattle.nntp_said.specs.{Facts.{Fact}, declared.position.Position.{Position}}
+use Rattle.nntp_theory.specs.{Conflict.{told}, Inner.Exchanged.{said_behind}}
+use Rattle.nntp_facts.{specs.Inner.Points.{AreHeld, held_by}, proofs.Keeping.RefusedAnswers.{held_refused}}
 use Rattle.nntp_several.{specs.Conflict.{placed_of_all}, proofs.ConflictsOfSessions.{accepted_fit_behind, noted_conflicts_behind, placed_next_behind}}
 use Rattle.nntp_printing.specs.Title.{title_line}
 use Rattle.nntp_explain.specs.{Explaining.{IsTold, IsConflictOf, IsReason, IsExplained, AreExplained, count_bad}, Inner.Explaining.{ToldContradiction}}
 use Rattle.nntp_explain.specs.Explaining.{IsContradiction, WasRefused, are_looked_for, bad_behind}
-use Rattle.nntp_explain.specs.Inner.ExplainingView.{AddsReason, HasReason, TellsNext}
+use Rattle.nntp_explain.specs.Inner.ExplainingView.{AddsReason, HasReason, IsRefused, TellsNext}
 use Rattle.nntp_explain.specs.Inner.ExplainingView.{Kept, Before, begins, placed_at, keeps, refuses, title_of, title_told, untold, unfitting_told, AreKept}
 use Rattle.nntp_explain.specs.{Inner.ExplainingView.{AreReasons, AreTold, GoesOn, unspelled_lines}, Reasons.{unfitting_lines, misspelling_line}}
 use Rattle.nntp_explain.specs.Standing.{Standing, Cited, standing, standing_after, cited, cited_at, cited_each, number_behind, cited_of_all, closing_after}
@@ -271,24 +273,26 @@ told_unfitting profile b client server kept text left behind pair more t next no
     t.reasons (refused_still t.answers (Refused pair) kept.contradictions t.refused)
 
 -- the reason of a contradiction, by what follows from that one was told before
-told_before : (looked_for : Bool) (P Q : Type 0) (here : ℕ) (profile : Profile) (bad : Placed) (answers : List Placed) (told : List Cited) (text : List ℕ) → (P → Q)
-    → IsContradiction looked_for P here profile bad answers told text → IsContradiction looked_for Q here profile bad answers told text
-told_before true P Q here profile bad answers told text f is = is
-told_before false P Q here profile bad answers told text f (inl (conflict, inl p)) = inl (conflict, inl (f p))
-told_before false P Q here profile bad answers told text f (inl (conflict, inr alone)) = inl (conflict, inr alone)
-told_before false P Q here profile bad answers told text f (inr some) = inr some
+told_before : (looked_for : Bool) (P Q : Type 0) (here : ℕ) (profile : Profile) (facts : List Fact) (bad : Placed) (answers : List Placed) (told : List Cited) (text : List ℕ) → (P → Q)
+    → IsContradiction looked_for P here profile facts bad answers told text → IsContradiction looked_for Q here profile facts bad answers told text
+told_before true P Q here profile facts bad answers told text f is = is
+told_before false P Q here profile facts bad answers told text f (inl (conflict, inl p)) = inl (conflict, inl (f p))
+told_before false P Q here profile facts bad answers told text f (inl (conflict, inr alone)) = inl (conflict, inr alone)
+told_before false P Q here profile facts bad answers told text f (inr some) = inr some
 
 -- an exchange that contradicts those that were accepted
 told_contradiction : (profile : Profile) (b : Before) (client server : List ℕ) (kept : Kept) (text : List ℕ) (left behind : Unpaired) (pair : Paired) (more : List ℕ)
-    (contradictions : List ToldContradiction) → AreTold profile b client server kept text left → IsNext left pair behind
+    (contradictions : List ToldContradiction) → (t : AreTold profile b client server kept text left) → IsNext left pair behind
     → ((past : List Paired) → HasNotedBehind profile kept.facts b.earlier past → IsNotedBehind profile b.earlier past pair kept.facts kept.facts kinds.Contradiction)
-    → IsTold kept.bad kept.stands pair.index Contradiction pair.line pair.initial (TellsNext kept (placed_at kept.stands kept.facts.position pair)) more
+    → IsTold kept.bad kept.stands pair.index Contradiction pair.line pair.initial
+    (TellsNext kept (said_behind profile.marks b.earlier (accepted_of t.answers)) (placed_at kept.stands kept.facts.position pair)) more
     → AreReasons profile kept contradictions → AddsReason (placed_at kept.stands kept.facts.position pair) kept.contradictions contradictions
     → AreTold profile b client server (record (refuses kept) { closing = closing_after kept.session kept.closing kept.stands pair; contradictions = contradictions })
     ((text ++ title_of kept) ++ more) behind
 told_contradiction profile b client server kept text left behind pair more contradictions t next notes is reasons adds =
     let past = accepted_of t.answers in
     let bad = placed_at kept.stands kept.facts.position pair in
+    let facts = said_behind profile.marks b.earlier past in
     let judged = contradiction_refused profile b.earlier past pair kept.facts kept.facts left behind t.noted (notes past t.noted) next in
     let placed = placed_there past kept.stands kept.facts.position pair t.stands_there t.noted.position in
     let before = bad_before profile b client server kept text left t pair.index next.index in
@@ -299,11 +303,12 @@ told_contradiction profile b client server kept text left behind pair more contr
     (told_as (bad_behind b.bad t.answers pair.index) (standing past) pair.index Contradiction pair.line pair.initial _
     (IsReason profile b.earlier (bad_behind b.bad t.answers pair.index) t.answers pair Contradiction) more
     (λ reason is. subst (λ (q : ℕ × ℕ × Profile × Placed × List Placed × List Cited).
-    IsContradiction (are_looked_for q.0 (length q.4)) (WasRefused t.answers q.3) q.1 q.2 q.3 q.4 q.5 reason)
+    IsContradiction (are_looked_for q.0 (length q.4)) (WasRefused t.answers q.3) q.1 q.2 facts q.3 q.4 q.5 reason)
     (λ i. (before i, t.session_is i, t.noted.profile_is i, placed i, t.placed_are i, t.cited_are i))
-    (told_before (are_looked_for kept.bad (length kept.placed)) (HasReason kept bad) (WasRefused t.answers bad) kept.session (profile_kept kept.facts) bad kept.placed kept.cited reason told is))
+    (told_before (are_looked_for kept.bad (length kept.placed)) (HasReason kept bad) (WasRefused t.answers bad) kept.session (profile_kept kept.facts) facts bad kept.placed
+    kept.cited reason told is))
     (told_behind profile b client server kept text left t pair.index next.index Contradiction pair.line pair.initial _ more is)))
-    (told_long kept.bad kept.stands pair.index Contradiction pair.line pair.initial (TellsNext kept bad) more is)
+    (told_long kept.bad kept.stands pair.index Contradiction pair.line pair.initial (TellsNext kept facts bad) more is)
     reasons (refused_after t.answers pair bad kept.contradictions contradictions (sym placed) t.refused adds)
 
 -- what the search for its reasons asks for
@@ -365,6 +370,22 @@ noted_out_of_place profile b client server kept new facts noted closing text aft
     (subst (λ (f : FactsKept). IsTold kept.bad kept.stands pair.index OutOfPlace pair.line pair.initial
     (λ reason. reason ≡ unfitting_told (record kept { facts = f }) pair) more) same told))
 
+-- what all that was accepted says refuses it
+refused_here : (profile : Profile) (b : Before) (client server : List ℕ) (kept : Kept) (facts : FactsKept) (noted : Noted) (position : Position) (text : List ℕ)
+    (left behind : Unpaired) (pair : Paired) → noted ≡ kinds.Contradiction → position ≡ kept.facts.position
+    → ((past : List Paired) → HasNotedBehind profile kept.facts b.earlier past → IsNotedBehind profile b.earlier past pair kept.facts facts noted)
+    → (t : AreTold profile b client server kept text left) → IsNext left pair behind
+    → IsRefused (record kept { facts = facts }) (said_behind profile.marks b.earlier (accepted_of t.answers)) (placed_at kept.stands position pair)
+refused_here profile b client server kept facts noted position text left behind pair is position-is notes t next few =
+    let past = accepted_of t.answers in
+    let at = subst (IsNotedBehind profile b.earlier past pair kept.facts facts) is (notes past t.noted) in
+    let same : facts ≡ kept.facts = at.2 in
+    let due = told_due profile b client server kept text left behind pair t next in
+    let placed = ap (λ at. placed_at kept.stands at pair) position-is ∙ placed_there past kept.stands kept.facts.position pair t.stands_there t.noted.position in
+    subst (λ (q : FactsKept × Placed × Profile). AreHeld q.2 (said_behind profile.marks b.earlier past ++ told q.2 q.1) (held_by q.0 q.1))
+    (λ i. (sym same i, sym placed i, sym (ap profile_kept same ∙ t.noted.profile_is) i))
+    (held_refused profile kept.facts b.earlier past pair t.noted due (subst (λ f. IsNotedBehind profile b.earlier past pair kept.facts f kinds.Contradiction) same at) few)
+
 -- an exchange that contradicts those that were accepted, by what is noted of it
 pub noted_contradiction : (profile : Profile) (b : Before) (client server : List ℕ) (kept new : Kept) (facts : FactsKept) (noted : Noted)
     (position : Position) (closing : Option Cited) (contradictions : List ToldContradiction) (text after : List ℕ) (left behind : Unpaired) (pair : Paired)
@@ -372,23 +393,30 @@ pub noted_contradiction : (profile : Profile) (b : Before) (client server : List
     → ((past : List Paired) → HasNotedBehind profile kept.facts b.earlier past → IsNotedBehind profile b.earlier past pair kept.facts facts noted)
     → new ≡ record (refuses (record kept { facts = facts; closing = closing })) { contradictions = contradictions } → AreReasons (profile_kept facts) kept contradictions
     → AddsReason (placed_at kept.stands position pair) kept.contradictions contradictions
+    → ((said : List Fact) → IsRefused (record kept { facts = facts }) said (placed_at kept.stands position pair)
     → GoesOn (IsTold kept.bad kept.stands pair.index Contradiction pair.line pair.initial
-    (TellsNext (record kept { facts = facts }) (placed_at kept.stands position pair))) (text ++ title_of kept) after
+    (TellsNext (record kept { facts = facts }) said (placed_at kept.stands position pair))) (text ++ title_of kept) after)
     → AreTold profile b client server kept text left → IsNext left pair behind → AreTold profile b client server new after behind
 noted_contradiction profile b client server kept new facts noted position closing contradictions text after left behind pair is position-is closing-is notes new-is reasons adds
-    (more, after-is, told) t next =
+    tells t next =
     let at = λ (past : List Paired) (h : HasNotedBehind profile kept.facts b.earlier past). subst (IsNotedBehind profile b.earlier past pair kept.facts facts) is (notes past h) in
-    let same : facts ≡ kept.facts = (at (accepted_of t.answers) t.noted).2 in
+    let past = accepted_of t.answers in
+    let same : facts ≡ kept.facts = (at past t.noted).2 in
+    let said = said_behind profile.marks b.earlier past in
+    let refused = refused_here profile b client server kept facts noted position text left behind pair is position-is notes t next in
+    let goes = tells said refused in
+    let more = goes.0 in
+    let told = goes.2 in
     subst (λ (q : Kept × List ℕ). AreTold profile b client server q.0 q.1 behind)
     (λ i. (
       sym (new-is ∙ ap (λ (q : FactsKept × Option Cited). record (refuses (record kept { facts = q.0; closing = q.1 })) { contradictions = contradictions })
           (λ i. (same i, closing-is i))) i,
-      sym after-is i,
+      sym goes.1 i,
     ))
     (told_contradiction profile b client server kept text left behind pair more contradictions t next
     (λ past h. subst (λ f. IsNotedBehind profile b.earlier past pair kept.facts f kinds.Contradiction) same (at past h))
     (subst (λ (q : FactsKept × Position). IsTold kept.bad kept.stands pair.index Contradiction pair.line pair.initial
-    (TellsNext (record kept { facts = q.0 }) (placed_at kept.stands q.1 pair)) more) (λ i. (same i, position-is i)) told)
+    (TellsNext (record kept { facts = q.0 }) said (placed_at kept.stands q.1 pair)) more) (λ i. (same i, position-is i)) told)
     (subst (λ profile. AreReasons profile kept contradictions) (ap profile_kept same ∙ t.noted.profile_is) reasons)
     (subst (λ at. AddsReason (placed_at kept.stands at pair) kept.contradictions contradictions) position-is adds))
 

@@ -1,8 +1,10 @@
 -- What `explain` prints of sessions: each bad answer, where its session stands there, and why it is bad.
 use Rattle.std.specs.Prelude.{◌≡◌, ℕ, zero, suc, ◌+◌, ◌-◌, ◌*◌, ◌≤◌, ◌==◌, ◌||◌, ◌⊎◌, nat_lt, if◌then◌else◌, cond, Bool, List, [], ◌∷◌, ◌++◌, length, drop}
-use Rattle.std.specs.{Prelude.{count_by, is_some, Option, Some, MatchOption, codes, decimal}, Option.{option_map, option_map_or}}
+use Rattle.std.specs.{Prelude.{count_by, is_some, map, Option, Some, MatchOption, codes, decimal}, Option.{option_map, option_map_or}}
 use Rattle.nntp_wire.specs.{Lines.{lines_of_stream}, declared.{limit.Limit.{Limit}, marks.Marks.{Marks}}, Misspelling.{misspelling}}
 use Rattle.nntp_article.specs.{Session.{Machine.{Visible, start}, Limit.{profile_of}, Misfit.{misfit}}, declared.session.profile.Profile.{Profile}}
+use Rattle.nntp_said.specs.Facts.{Fact}
+use Rattle.nntp_theory.specs.{Answered.{facts_in, facts_of_all}, Permitted.{exchanged}}
 use Rattle.nntp_theory.specs.{Classes.{visible_from}, Conflict.{Placed, placed_of, placed_behind, Core, IsFound, places_of, told, told_with, Point, IsFirstPoint, SomeHas}}
 use Rattle.nntp_theory.specs.Reading.{Judged, Accepted, Refused, Unspelled, accepted_of, class_behind, IsReading}
 use Rattle.nntp_pair.specs.{Classes.{class_of}, declared.class.{Class.{Class, TheVariants.{Malformed, OutOfPlace, Contradiction}}, PairClass.{PairClass}}}
@@ -10,7 +12,7 @@ use Rattle.nntp_pair.specs.{declared.class.PairClass.TheVariants.{Surplus as Pai
 use Rattle.nntp_pair.specs.Pairing.{Unpaired, Ending, end, bad as ends_at, line_ahead, asked_at, asked_of, responses_of}
 use Rattle.nntp_printing.specs.{BadAnswer.{IsFirstLine, bad_lines, shown}, Title.{title_line}}
 use Rattle.nntp_several.specs.{Conflict.{placed_of_all}, Reading.{ReadSession, AreReadings, IsReadingOfAll}, Sessions.{Named, unnamed}}
-use Rattle.nntp_explain.specs.{Reasons.{standing_line, unfitting_lines, misspelling_line, cut_line, surplus_lines, rest_line}, Says.{conflict_lines}, Standing.{Standing}}
+use Rattle.nntp_explain.specs.{Reasons.{standing_line, unfitting_lines, misspelling_line, cut_line, surplus_lines}, Says.{conflict_lines}, Standing.{Standing}}
 use Rattle.nntp_explain.specs.Standing.{Cited, standing, cited, number_behind, cited_of_all, closing}
 
 -- the visible state that accepted answers leave
@@ -48,15 +50,21 @@ IsConflictOf here profile bad answers told text =
 abbrev pub are_looked_for : ℕ → ℕ → Bool
 are_looked_for bad accepted = nat_lt bad 3 || nat_lt (bad * accepted) 20000
 
--- the text tells, where none is looked for, that the bad answer conflicts with some of these answers, and not with itself
-abbrev pub IsConflictWithSome : ℕ → Profile → Placed → List Placed → List Cited → List ℕ → Type 0
-IsConflictWithSome here profile bad answers cited text = SomeHas profile (told profile bad) × (text ≡ rest_line here cited (Some (length answers)))
+-- the text tells, where none is looked for, that the bad answer conflicts with some of these answers, and not with itself; and about what: the first point of what it and all of them say
+abbrev pub IsConflictWithSome : ℕ → Profile → List Fact → Placed → List Placed → List Cited → List ℕ → Type 0
+IsConflictWithSome here profile facts bad answers cited text =
+    (point : Point) × SomeHas profile (told profile bad) × IsFirstPoint (facts ++ told profile bad) point
+    × (text ≡ conflict_lines here profile.marks point bad answers cited (record { places = []; rest = Some (length answers) }))
 
--- the text is the reason of a contradiction: where none is looked for the conflict is told all the same of one that was told before, and of one with itself
-abbrev pub IsContradiction : Bool → Type 0 → ℕ → Profile → Placed → List Placed → List Cited → List ℕ → Type 0
-IsContradiction looked_for WasTold here profile bad answers cited text = cond looked_for
+-- the text is the reason of a contradiction to these answers, which say these facts: where none is looked for the conflict is told all the same of one that was told before, and of one with itself
+abbrev pub IsContradiction : Bool → Type 0 → ℕ → Profile → List Fact → Placed → List Placed → List Cited → List ℕ → Type 0
+IsContradiction looked_for WasTold here profile facts bad answers cited text = cond looked_for
     (IsConflictOf here profile bad answers cited text)
-    ((IsConflictOf here profile bad answers cited text × (WasTold ⊎ (SomeHas profile (told profile bad) → ⊥))) ⊎ IsConflictWithSome here profile bad answers cited text)
+    ((IsConflictOf here profile bad answers cited text × (WasTold ⊎ (SomeHas profile (told profile bad) → ⊥))) ⊎ IsConflictWithSome here profile facts bad answers cited text)
+
+-- what the accepted answers of earlier sessions and of this one say of the spool
+abbrev pub accepted_facts : Marks → List (List Paired) → List Paired → List Fact
+accepted_facts how earlier accepted = facts_of_all how (map exchanged earlier) ++ facts_in how (exchanged accepted)
 
 -- one of these answers of its session was refused that said the same, from the same place
 abbrev pub WasRefused : List Judged → Placed → Type 0
@@ -72,7 +80,8 @@ IsReason profile earlier before past pair OutOfPlace text =
 IsReason profile earlier before past pair Contradiction text =
     let bad = placed_behind (accepted_of past) pair in
     let answers = placed_of_all earlier (accepted_of past) in
-    IsContradiction (are_looked_for before (length answers)) (WasRefused past bad) (number_behind earlier) profile bad answers (cited_of_all earlier (accepted_of past)) text
+    let facts = accepted_facts profile.marks earlier (accepted_of past) in
+    IsContradiction (are_looked_for before (length answers)) (WasRefused past bad) (number_behind earlier) profile facts bad answers (cited_of_all earlier (accepted_of past)) text
 IsReason profile earlier before past pair class text = text ≡ []
 
 -- ---- the answers of a reading, behind these accepted answers of earlier sessions, of which so many answers are bad

@@ -1,13 +1,12 @@
 //! What is kept of sessions that are read on behind bad answers, and what is told of a bad answer.
 ghost use Rattle.std.specs.Prelude.{◌≡◌, ◌≢◌, ◌⊎◌, true, false, ℕ, ◌+◌, ◌<◌, ◌≤◌, ◌^◌, ◌++◌, List, ◌∷◌, None, length, map, nat_lt, OnOk, IfOk};
-ghost use Rattle.std.specs.List.{AllByRecursion};
 ghost use Rattle.std.specs.Option.{option_copied, option_map};
 ghost use Rattle.nntp_wire.specs.Inner.View.{asked};
 ghost use Rattle.nntp_article.specs.declared.session.profile.Profile.{Profile};
 ghost use Rattle.nntp_pair.specs.Pairing.{Unpaired, IsNext};
 ghost use Rattle.nntp_pair.specs.declared.class.PairClass.TheVariants.{Malformed};
-ghost use Rattle.nntp_theory.specs.Conflict.{Placed as PlacedValue, places_of};
-ghost use Rattle.nntp_theory.specs.Inner.Conflict.{FitsThere};
+ghost use Rattle.nntp_said.specs.Facts.{Fact};
+ghost use Rattle.nntp_theory.specs.Conflict.{Placed as PlacedValue, told_with, places_of};
 ghost use Rattle.nntp_facts.specs.Inner.Points.{AreHeld};
 ghost use Rattle.nntp_facts.specs.Inner.StatementView.{held_of};
 ghost use Rattle.nntp_pair.specs.declared.class.Class.TheVariants.{Malformed as MalformedClass, OutOfPlace, Contradiction};
@@ -17,13 +16,13 @@ ghost use Rattle.nntp_printing.specs.BadAnswer.{IsFirstLine};
 ghost use Rattle.nntp_explain.specs.Explaining.{are_looked_for, front_lines, place_lines, IsEndReason, TellsCore};
 ghost use Rattle.nntp_explain.specs.Inner.ExplainingView.{Before, begins, cited_of, kept_of, keeps, placed_here, refuses, standing_of, title_of};
 ghost use Rattle.nntp_explain.specs.Inner.ExplainingView.{unfitting_told, unspelled_lines, AreReasons, Contradicts, Fits, GoesOn, HasReadNone, HasTold};
-ghost use Rattle.nntp_explain.specs.Inner.ExplainingView.{AddsReason, StandsAlone, TellsBad, TellsConflict, TellsContradiction, TellsNext};
+ghost use Rattle.nntp_explain.specs.Inner.ExplainingView.{AddsReason, IsRefused, StandsAlone, TellsBad, TellsConflict, TellsContradiction, TellsNext, TellsSome};
 ghost use Rattle.nntp_explain.specs.Standing.{Cited as CitedValue};
 
 use crate::conflict::put_conflict;
 use crate::contradiction::{ToldContradiction, reason_of};
 use crate::ending::put_end_reason;
-use crate::reasons::{put_misspelling, put_rest, put_standing};
+use crate::reasons::{put_misspelling, put_standing};
 use crate::standing::{Cited, Standing, note_closing, standing_after};
 use crate::unfitting::put_unfitting;
 use nntp_facts::{Conflict, Core, Facts, Noted, Placed, Position};
@@ -199,8 +198,9 @@ impl<'a, A: Allocator + Copy> Explainer<'a, A> {
         ensures kept { OnOk result (kept_of self.new ≡ record (refuses (kept_of self.old)) { contradictions = self.new.contradictions.items }) }
         ensures reasons { OnOk result (AreReasons (profile_kept self.old.facts) (kept_of self.old) self.new.contradictions.items) }
         ensures adds { OnOk result (AddsReason (placed_here (kept_of self.old) position exchange.entry) self.old.contradictions.items self.new.contradictions.items) }
-        ensures text { OnOk result (TellsBad (kept_of self.old) exchange.entry.index Contradiction exchange.entry.line exchange.entry.initial
-            (TellsNext (kept_of self.old) (placed_here (kept_of self.old) position exchange.entry)) self.old.text.items self.new.text.items) }
+        ensures text { OnOk result ((facts : List Fact) → IsRefused (kept_of self.old) facts (placed_here (kept_of self.old) position exchange.entry)
+            → TellsBad (kept_of self.old) exchange.entry.index Contradiction exchange.entry.line exchange.entry.initial
+            (TellsNext (kept_of self.old) facts (placed_here (kept_of self.old) position exchange.entry)) self.old.text.items self.new.text.items) }
     {
         let line = exchange.line();
         let looked_for = are_looked_for(self.bad, self.placed.len());
@@ -225,16 +225,17 @@ impl<'a, A: Allocator + Copy> Explainer<'a, A> {
         ensures kept { OnOk result (kept_of self.new ≡ record (kept_of self.old) { contradictions = self.new.contradictions.items }) }
         ensures reasons { OnOk result (AreReasons (profile_kept self.old.facts) (kept_of self.old) self.new.contradictions.items) }
         ensures adds { OnOk result (AddsReason bad.entry self.old.contradictions.items self.new.contradictions.items) }
-        ensures text { OnOk result (GoesOn (TellsContradiction looked_for (kept_of self.old) bad.entry) self.old.text.items self.new.text.items) }
+        ensures text { OnOk result ((facts : List Fact) → IsRefused (kept_of self.old) facts bad.entry
+            → GoesOn (TellsContradiction looked_for (kept_of self.old) facts bad.entry) self.old.text.items self.new.text.items) }
     {
         if let Some(reason) = reason_of(&self.contradictions, &bad) {
             return self.text.extend_from_slice(reason);
         }
-        if self.is_cut_short(&bad, looked_for)? {
-            let all = Some(self.placed.len());
-            return put_rest(&mut self.text, self.session, &self.cited, all);
-        }
         let mut reason = Vec::new(self.alloc);
+        if self.is_cut_short(&bad, looked_for)? {
+            self.put_some(&mut reason, &bad)?;
+            return self.text.extend_from_slice(&reason);
+        }
         self.put_found(&mut reason, &bad)?;
         self.text.extend_from_slice(&reason)?;
         self.contradictions
@@ -257,6 +258,28 @@ impl<'a, A: Allocator + Copy> Explainer<'a, A> {
         let marks = self.facts.marks();
         let core = Core::find(self.alloc, limit, marks, &self.placed, bad, 0)?;
         Ok(core.rest().is_some())
+    }
+
+    /// Adds that the bad answer conflicts with some of the accepted ones, and about what: none of them is looked for.
+    fn put_some(&self, text: &mut Vec<u8, A>, bad: &Placed<'a>) -> Result<(), AllocError>
+        ensures { OnOk result ((facts : List Fact) → IsRefused (kept_of self.now) facts bad.now → StandsAlone (kept_of self.now) bad.now
+            → GoesOn (TellsSome (kept_of self.now) facts bad.now) text.old.items text.new.items) }
+    {
+        let core = Core::below(self.alloc, self.placed.len());
+        let refusal = self.facts.refusal(bad)?;
+        match refusal.point()? {
+            Some(point) => put_conflict(
+                text,
+                self.session,
+                self.facts.marks(),
+                point,
+                bad,
+                &self.placed,
+                &self.cited,
+                &core,
+            ),
+            None => Ok(()),
+        }
     }
 
     /// Finds with which of the accepted answers the bad one conflicts, and adds these, and about what.
@@ -391,7 +414,7 @@ fn put_point_of<A: Allocator + Copy>(
 ) -> Result<(), AllocError>
     ensures { OnOk result ((profile : Profile) (answers : List PlacedValue) (told : List CitedValue) → marks ≡ profile.marks → placed.now ≡ answers
         → map cited_of cited.now ≡ told
-        → AllByRecursion (FitsThere profile) (bad.now ∷ answers) → AreHeld profile bad.now answers (places_of core.now) (held_of conflict.now)
+        → AreHeld profile (told_with profile bad.now answers (places_of core.now)) (held_of conflict.now)
         → GoesOn (TellsCore here profile bad.now answers told core.now) text.old.items text.new.items) }
 {
     match conflict.point()? {

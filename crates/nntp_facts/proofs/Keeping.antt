@@ -21,6 +21,7 @@ pub mod NotedExchange
 pub mod NotedParts
 pub mod NotedSessions
 pub mod PartsJoin
+pub mod RefusedAnswers
 pub mod SaidAgain
 pub mod SaidOfArticles
 pub mod SayingRows

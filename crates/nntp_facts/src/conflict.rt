@@ -1,5 +1,5 @@
 //! The accepted answers with which a bad one conflicts.
-ghost use Rattle.std.specs.Prelude.{◌≡◌, ◌<◌, ◌≤◌, ◌^◌, ◌∷◌, [], List, ℕ, length, IfOk, MatchOption};
+ghost use Rattle.std.specs.Prelude.{◌≡◌, ◌<◌, ◌≤◌, ◌^◌, ◌∷◌, [], List, ℕ, Some, length, IfOk, MatchOption};
 ghost use Rattle.std.specs.List.{AllByRecursion};
 ghost use Rattle.nntp_article.specs.Session.Limit.{profile_of};
 ghost use Rattle.nntp_theory.specs.Conflict.{Placed as PlacedValue, SomeHas, told_with, below, places_of, IsFound};
@@ -32,6 +32,16 @@ impl<A: Allocator> Model for Core<A> {
 }
 
 impl<A: Allocator> Core<A> {
+    /// Returns the core of which no place was looked for: all are below the bound.
+    pub fn below(alloc: A, bound: usize) -> Core<A>
+        ensures { result ≡ record { places = []; rest = Some bound } }
+    {
+        Core {
+            places: Vec::new(alloc),
+            rest: Some(bound),
+        }
+    }
+
     /// Returns the places, in ascending order. They count from 0.
     pub fn places(&self) -> &[usize]
         ensures { result.now ≡ self.now.places }

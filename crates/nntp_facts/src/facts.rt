@@ -1,5 +1,5 @@
 //! What the accepted exchanges of sessions say of the spool.
-ghost use Rattle.std.specs.Prelude.{◌≡◌, true, false, List, [], IfOk, Err, slice_get};
+ghost use Rattle.std.specs.Prelude.{◌≡◌, ◌<◌, ◌^◌, true, false, List, [], IfOk, Err, slice_get};
 ghost use Rattle.nntp_pair.specs.Pairing.{Paired, asked_at};
 ghost use Rattle.nntp_article.specs.declared.session.profile.Profile.{Profile};
 ghost use Rattle.nntp_article.specs.Session.Limit.{profile_of};
@@ -7,7 +7,10 @@ ghost use Rattle.nntp_article.specs.Session.Misfit.{misfit};
 ghost use Rattle.nntp_article.specs.Inner.MisfitView.{why_if};
 ghost use Rattle.nntp_said.specs.Facts.{Fact};
 ghost use Rattle.nntp_theory.specs.Given.{is_mentioned};
+ghost use Rattle.nntp_pair.specs.Inner.Pairing.{lines_in};
 ghost use Rattle.nntp_facts.specs.Inner.Kept.{AreKeptArticles};
+ghost use Rattle.nntp_facts.specs.Inner.Points.{held_by};
+ghost use Rattle.nntp_facts.specs.Inner.StatementView.{held_of_refusal};
 ghost use Rattle.nntp_facts.specs.Inner.Noted.{HasNoted, HasNotedBehind, IsDue, IsNotedBehind, NotesBehind, begun, profile_kept};
 ghost use Rattle.nntp_theory.specs.Inner.Exchanged.{said_behind};
 ghost use Rattle.nntp_facts.specs.Inner.Readers.{ShownGroup as GroupValue, ShownArticle as ArticleValue, AreShownGroups, AreShownArticles};
@@ -15,6 +18,8 @@ ghost use Rattle.nntp_facts.specs.Inner.Readers.{ShownGroup as GroupValue, Shown
 use crate::articles::{ShownArticle, ShownArticles};
 use crate::facts_error::FactsError;
 use crate::kept::Kept;
+use crate::placed::Placed;
+use crate::points::Refusal;
 use crate::saying::Saying;
 use crate::shown_groups::{ShownGroup, ShownGroups};
 use crate::taken_groups::TakenGroups;
@@ -191,6 +196,18 @@ impl<A: Allocator + Copy> Facts<A> {
         ensures limit { self.new.limit ≡ self.old.limit }
     {
         self.kept.take_groups()
+    }
+
+    /// Puts a bad answer beside all that the accepted ones of all sessions say, to tell about what they conflict.
+    ///
+    /// # Errors
+    ///
+    /// If memory is refused.
+    pub fn refusal<'f>(&'f self, bad: &'f Placed<'f>) -> Result<Refusal<'f, A>, AllocError>
+        ensures held { IfOk result (λ refusal. held_of_refusal refusal ≡ held_by self.now bad.now) }
+        ensures few { IfOk result (λ refusal. lines_in bad.now.response < 2 ^ 64) }
+    {
+        Refusal::of(self.alloc, self.limit, self.marks, &self.kept, bad)
     }
 
     /// Tells why the answer of an exchange doesn't fit what the accepted ones of the session leave

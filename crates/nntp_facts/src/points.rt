@@ -1,14 +1,15 @@
 //! A point, of the first kind that there is, about which a bad answer and accepted ones conflict.
-ghost use Rattle.std.specs.Prelude.{◌≡◌, ◌<◌, ◌^◌, ◌∷◌, List, ℕ, get_or, IfOk, MatchOption};
+ghost use Rattle.std.specs.Prelude.{◌≡◌, ◌<◌, ◌^◌, ◌∷◌, List, get_or, IfOk, MatchOption};
 ghost use Rattle.std.specs.List.{AllByRecursion};
 ghost use Rattle.nntp_article.specs.Session.Limit.{profile_of};
 ghost use Rattle.nntp_article.specs.declared.session.profile.Profile.{Profile};
-ghost use Rattle.nntp_theory.specs.Conflict.{Placed as PlacedValue, told_with, places_of, IsFound, IsFirstPoint};
+ghost use Rattle.nntp_said.specs.Facts.{Fact};
+ghost use Rattle.nntp_theory.specs.Conflict.{told_with, places_of, IsFound, IsFirstPoint};
 ghost use Rattle.nntp_theory.specs.Inner.Conflict.{FitsThere, HasLast};
 ghost use Rattle.nntp_facts.specs.Inner.Points.{AreHeld, with_numbers};
 ghost use Rattle.nntp_facts.specs.Inner.PointView.{point_of};
 ghost use Rattle.nntp_pair.specs.Inner.Pairing.{lines_in};
-ghost use Rattle.nntp_facts.specs.Inner.StatementView.{held_of, listing_of};
+ghost use Rattle.nntp_facts.specs.Inner.StatementView.{held_of, held_of_refusal, listing_of};
 
 mod statement;
 
@@ -91,7 +92,7 @@ impl<'a, A: Allocator + Copy> Conflict<'a, A> {
     ) -> Result<Conflict<'a, A>, AllocError>
         ensures { IfOk result (λ conflict. AllByRecursion (FitsThere (profile_of limit marks)) (bad.now ∷ answers.now)
             → IsFound (profile_of limit marks) bad.now answers.now core.now
-            → HasLast core.now → AreHeld (profile_of limit marks) bad.now answers.now (places_of core.now) (held_of conflict)) }
+            → HasLast core.now → AreHeld (profile_of limit marks) (told_with (profile_of limit marks) bad.now answers.now (places_of core.now)) (held_of conflict)) }
     {
         let places = core.all_places(alloc)?;
         let mut kept = Kept::new(alloc);
@@ -131,19 +132,77 @@ impl<'a, A: Allocator + Copy> Conflict<'a, A> {
     ///
     /// If memory is refused.
     pub fn point(&self) -> Result<Option<Point<'_>>, AllocError>
-        ensures { IfOk result (λ point. (profile : Profile) (bad : PlacedValue) (answers : List PlacedValue) (places : List ℕ)
-            → AllByRecursion (FitsThere profile) (bad ∷ answers)
-            → AreHeld profile bad answers places (held_of self.now)
-            → MatchOption point ⊥ (λ point. IsFirstPoint (told_with profile bad answers places) (point_of point))) }
+        ensures { IfOk result (λ point. (profile : Profile) (all : List Fact) → AreHeld profile all (held_of self.now)
+            → MatchOption point ⊥ (λ point. IsFirstPoint all (point_of point))) }
     {
-        let told = Statement::of(self.marks, self.last.answer, &self.last.numbers);
-        for kind in &KINDS {
-            if let Some(point) = self.kept.point(self.limit, *kind, &told)? {
-                return Ok(Some(point));
-            }
-        }
-        Ok(None)
+        first_point(&self.kept, self.limit, self.marks, &self.last)
     }
+}
+
+/// A bad answer, and all that the accepted ones say, which refuses it.
+#[derive(Drop)]
+pub struct Refusal<'a, A: Allocator = Global> {
+    limit: Limit,
+    marks: Marks,
+    /// What the accepted answers say.
+    kept: &'a Kept<A>,
+    /// The bad answer.
+    last: Listing<'a, A>,
+}
+
+impl<'a, A: Allocator + Copy> Refusal<'a, A> {
+    /// Puts the bad answer beside what is kept of the accepted ones.
+    pub(crate) fn of(
+        alloc: A,
+        limit: Limit,
+        marks: Marks,
+        kept: &'a Kept<A>,
+        bad: &'a Placed<'a>,
+    ) -> Result<Refusal<'a, A>, AllocError>
+        ensures held { IfOk result (λ refusal. held_of_refusal refusal ≡ record { profile = profile_of limit marks; kept = kept.now; last = with_numbers bad.now }) }
+        ensures few { IfOk result (λ refusal. lines_in bad.now.response < 2 ^ 64) }
+    {
+        let last = Listing::of(alloc, bad)?;
+        Ok(Refusal {
+            limit,
+            marks,
+            kept,
+            last,
+        })
+    }
+
+    /// Returns the first point about which the bad answer conflicts with all that the accepted ones say, as
+    /// [`Conflict::point`] does.
+    ///
+    /// # Errors
+    ///
+    /// If memory is refused.
+    pub fn point(&self) -> Result<Option<Point<'_>>, AllocError>
+        ensures { IfOk result (λ point. (profile : Profile) (all : List Fact) → AreHeld profile all (held_of_refusal self.now)
+            → MatchOption point ⊥ (λ point. IsFirstPoint all (point_of point))) }
+    {
+        first_point(self.kept, self.limit, self.marks, &self.last)
+    }
+}
+
+/// Returns the first point about which an answer conflicts with what is kept.
+fn first_point<'s, A: Allocator + Copy>(
+    kept: &'s Kept<A>,
+    limit: Limit,
+    marks: Marks,
+    last: &'s Listing<'s, A>,
+) -> Result<Option<Point<'s>>, AllocError>
+    ensures { IfOk result (λ point. (profile : Profile) (all : List Fact)
+        → AreHeld profile all (record { profile = profile_of limit marks; kept = kept.now; last = listing_of last.now })
+        → MatchOption point ⊥ (λ point. IsFirstPoint all (point_of point))) }
+{
+    let told = Statement::of(marks, last.answer, &last.numbers);
+    for kind in &KINDS {
+        if let Some(point) = kept.point(limit, *kind, &told)? {
+            return Ok(Some(point));
+        }
+    }
+    Ok(None)
 }
 
 /// Returns the answer at the place, or the other one if none is there.

@@ -29,7 +29,7 @@ some_has profile facts fitting placed small together =
 -- ---- what answers say, where each fits
 
 -- that there is such a group fits
-group_fitting : (profile : Profile) (group : Option Name) → AllByRecursion (IsFitting profile) (the_group profile group)
+pub group_fitting : (profile : Profile) (group : Option Name) → AllByRecursion (IsFitting profile) (the_group profile group)
 group_fitting profile group = grind arith
 
 -- it says the same in each visible state in which that group is selected

@@ -3,7 +3,7 @@ use Rattle.std.proofs.Common.{◌≡◌, ℕ, ◌+◌, ◌<◌, ◌^◌, ◌⊎�
 use Rattle.std.proofs.{Common.{sym, ap, subst, ◌∙◌, arith}, lemmas.Bool.{true≢false, and_parts, and_from, cases_Bool, cases_eq, eqb-true, eq-eqb}}
 use Rattle.std.{proofs.lemmas.Bool.{false_from_ne_true, cases_lt}, specs.{Prelude.{IsFalse, IfSome, ⊤, not}, List.{AllByRecursion, list_any, flat_map}}}
 use Rattle.std.specs.Cmp.Lexicographic.{same_text}
-use Rattle.nntp_wire.specs.declared.{command.What.{What}, marks.Marks.TheVariants.{Lenient}}
+use Rattle.nntp_wire.specs.declared.{command.What.{What}, marks.Marks.{Marks, TheVariants.{Lenient}}}
 use Rattle.nntp_article.{proofs.SessionLemmas.FiniteMapsDecided.{Dec, dec_some, dec_texts, dec_lists}, specs.{Article.Parts.{Id, Line}, Session.Spool.{Name}}}
 use Rattle.nntp_article.specs.{Session.{Spool.{Numbers, numbers}, Machine.{is_same}}, declared.session.profile.Profile.{Profile}}
 use Rattle.nntp_said.specs.{Asks.{Ask}, Facts.{Fact, ThereIs, IdAt, TextIs, GroupsAre}}
@@ -98,7 +98,7 @@ module _ (facts : List Fact) where
           subst P (same_text f.0.name name (sym f.2)) (all_at (λ line. P line.name) f.0 lines s f.1)
       by name fact s t = cc
 
-  module _ (placed : AllByRecursion (IsPlaced Lenient facts) facts) where
+  module _ (how : Marks) (placed : AllByRecursion (IsPlaced how facts) facts) where
     -- nothing is asked of the numbers of one that isn't
     none_asked : (name : Name) → is_shown_group facts name ≡ false → asks_of name facts ≡ []
     none_asked name hidden = grind (arith, flat_none, all_at, false_from_ne_true, true≢false, any_in)
@@ -283,14 +283,14 @@ module _ (facts : List Fact) where
 -- ---- the law
 
 -- facts that fit and are placed stand together, or conflict at a first point
-pub stand_or_conflict : (profile : Profile) (facts : List Fact) → AllByRecursion (IsFitting profile) facts → AllByRecursion (IsPlaced Lenient facts) facts → AllByRecursion IsWellFormed facts
+pub stand_or_conflict : (profile : Profile) (how : Marks) (facts : List Fact) → AllByRecursion (IsFitting profile) facts → AllByRecursion (IsPlaced how facts) facts → AllByRecursion IsWellFormed facts
     → ((point : Point) × IsFirstPoint facts point) ⊎ Together facts
-stand_or_conflict profile facts fitting placed formed = first_or_none facts placed given formed
+stand_or_conflict profile how facts fitting placed formed = first_or_none facts how placed given formed
   where
     given : (name : Name) → IsTrue (is_shown_group facts name) → (N : Numbers) × HasGivenNumbers (asks_of name facts) N
     given name shown = (
       numbers (made profile.limit (10 ^ 64) facts) name,
-      made_given profile.limit (10 ^ 64) facts name (λ e x. free_in_limit profile facts Lenient fitting placed name shown e x.first.1) ((made_group profile.limit (10 ^ 64) facts name).1 shown),
+      made_given profile.limit (10 ^ 64) facts name (λ e x. free_in_limit profile facts how fitting placed name shown e x.first.1) ((made_group profile.limit (10 ^ 64) facts name).1 shown),
     )
 
 -- what answers tell, each fitting where it stands, conflicts at a first point, if no spool has it
@@ -300,7 +300,7 @@ pub point_of_conflict : (profile : Profile) (bad : Placed) (answers : List Place
 point_of_conflict profile bad answers places fit fits formed small none =
     let facts = told_with profile bad answers places in
     let t = with_told profile bad answers places fit fits in
-    elim (stand_or_conflict profile facts
+    elim (stand_or_conflict profile Lenient facts
     (all_from (IsFitting profile) facts (λ fact i. let s = t.source fact i in all_at (IsFitting profile) fact (told profile s.0) (told_fitting profile s.0 s.1) s.2))
     (all_from (IsPlaced Lenient facts) facts (λ fact i. let s = t.source fact i in all_at (IsPlaced Lenient facts) fact (told profile s.0) (told_placed profile facts s.0 s.3) s.2))
     formed) [ inl c ↦ c | inr together ↦ absurd (none ((told_together profile facts t small).1 together)) ]

@@ -1,20 +1,21 @@
 -- What the values of src/standing.rt and src/explainer.rt mean.
-use Rattle.std.specs.{Prelude.{◌≡◌, ℕ, zero, suc, ◌+◌, ◌≤◌, ◌⊎◌, Bool, List, [], ◌∷◌, ◌++◌, length, map, drop, Option, None, Contains}, List.{AllByRecursion, flat_map}}
+use Rattle.std.specs.{Prelude.{◌≡◌, ℕ, zero, suc, ◌+◌, ◌≤◌, ◌<◌, ◌^◌, ◌⊎◌, Bool, List, [], ◌∷◌, ◌++◌, length, map, drop, Option, None, Contains}, List.{AllByRecursion, flat_map}}
 use Rattle.std.specs.Option.{option_copied, option_map, option_map_or}
 use Rattle.nntp_wire.specs.{Answer.{Asked}, Misspelling.{misspelling}}
 use Rattle.nntp_article.specs.{Session.Misfit.{misfit}, declared.session.profile.Profile.{Profile}}
 use Rattle.nntp_pair.specs.{Pairing.{Paired, Unpaired, asked_at, streams}, declared.class.Class.{Class}}
 use Rattle.nntp_theory.specs.{Conflict.{Placed, placed_of, SomeHas, told, told_with, below}, Inner.Conflict.{FitsThere}, Permitted.{ArePermittedBehind}}
 use Rattle.nntp_theory.specs.Reading.{Judged, accepted_of, AreJudged, IsReadingBy}
-use Rattle.nntp_facts.specs.Inner.Noted.{FactsKept, HasNotedBehind, begun, profile_kept}
+use Rattle.nntp_facts.specs.Inner.{Noted.{FactsKept, HasNotedBehind, begun, profile_kept}, Points.{AreHeld, held_by}}
 use Rattle.nntp_several.specs.{Conflict.{placed_of_all}, Reading.{ReadSession, IsReadingOfAll}, Sessions.{Named, Recorded, unnamed}}
 use Rattle.nntp_printing.specs.Title.{title_line}
 use Rattle.nntp_explain.specs.declared.{standing.{Standing.{Standing as StandingCode}, Cited.{Cited as CitedCode}}, explainer.Explainer.{Explainer}}
 use Rattle.nntp_explain.specs.Standing.{Standing, Cited, standing, standing_after, cited_at, cited_each, number_behind, cited_of_all, closing}
 use Rattle.nntp_explain.specs.{Inner.Explaining.{ToldContradiction}, Explaining.{IsTold, IsConflictOf, AreExplained, count_bad, IsSessionExplained, Counts}}
-use Rattle.nntp_explain.specs.Explaining.{IsContradiction, WasRefused, are_looked_for}
+use Rattle.nntp_explain.specs.Explaining.{IsConflictWithSome, IsContradiction, WasRefused, are_looked_for}
 use Rattle.nntp_explain.specs.{Explaining.{counts_of, titled, none_counted, AreSessionsExplained}, Reasons.{unfitting_lines, misspelling_line}}
-use Rattle.nntp_said.specs.declared.position.Position.{Position}
+use Rattle.nntp_said.specs.{Facts.{Fact}, declared.position.Position.{Position}}
+use Rattle.nntp_pair.specs.Inner.Pairing.{lines_in}
 
 -- where a session stands, without where the name lies in memory
 abbrev pub standing_of : StandingCode → Standing
@@ -229,13 +230,21 @@ TellsConflict k bad text = IsConflictOf k.session (profile_kept k.facts) bad k.p
 abbrev pub HasReason : Kept → Placed → Type 0
 HasReason k bad = (reason : List ℕ) × Contains k.contradictions (record { bad = bad; reason = reason })
 
+-- all that was accepted says these facts, and they refuse it
+abbrev pub IsRefused : Kept → List Fact → Placed → Type 0
+IsRefused k facts bad = lines_in bad.response < 2 ^ 64 → AreHeld (profile_kept k.facts) (facts ++ told (profile_kept k.facts) bad) (held_by k.facts bad)
+
 -- the text is its reason, whether or not the answers that it conflicts with are looked for
-abbrev pub TellsContradiction : Bool → Kept → Placed → List ℕ → Type 0
-TellsContradiction looked_for k bad text = IsContradiction looked_for (HasReason k bad) k.session (profile_kept k.facts) bad k.placed k.cited text
+abbrev pub TellsContradiction : Bool → Kept → List Fact → Placed → List ℕ → Type 0
+TellsContradiction looked_for k facts bad text = IsContradiction looked_for (HasReason k bad) k.session (profile_kept k.facts) facts bad k.placed k.cited text
 
 -- the same of one that comes next, by how many are bad before it
-abbrev pub TellsNext : Kept → Placed → List ℕ → Type 0
-TellsNext k bad text = TellsContradiction (are_looked_for k.bad (length k.placed)) k bad text
+abbrev pub TellsNext : Kept → List Fact → Placed → List ℕ → Type 0
+TellsNext k facts bad text = TellsContradiction (are_looked_for k.bad (length k.placed)) k facts bad text
+
+-- the text tells that it conflicts with some of the accepted answers
+abbrev pub TellsSome : Kept → List Fact → Placed → List ℕ → Type 0
+TellsSome k facts bad text = IsConflictWithSome k.session (profile_kept k.facts) facts bad k.placed k.cited text
 
 -- the reason of this answer is kept too, or no further one
 abbrev pub AddsReason : Placed → List ToldContradiction → List ToldContradiction → Type 0

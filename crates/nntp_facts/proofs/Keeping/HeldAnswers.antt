@@ -8,7 +8,7 @@ use Rattle.nntp_theory.specs.{Conflict.{Placed, SomeHas, IsCore, IsEndOfCore, Is
 use Rattle.nntp_theory.{specs.Inner.{Conflict.{HasLast}, Given.{size}, Together.{Together}}, proofs.Conflicts.{told_together, with_told, from_below}}
 use Rattle.nntp_theory.proofs.{Given.FirstBadAnswer.{size-append}, Members.{In, all_at, in_front, in_back, in_cases, in_contains, contains_in}}
 use Rattle.nntp_facts.specs.Inner.{Kept.{Kept, IsKept}, Points.{Answers, AreHeld, with_numbers}, Told.{AreToldWith, PlacesTold}}
-use Rattle.nntp_facts.proofs.Keeping.{CoresFound.{nothing_together}, ToldAnswers.{told_size, with_place, fits_at}}
+use Rattle.nntp_facts.proofs.{Keeping.{CoresFound.{nothing_together}, ToldAnswers.{told_size, with_place, fits_at}}, PointsFound.PointsChained.{none_at_all}}
 
 -- ---- the last place
 
@@ -104,7 +104,7 @@ module _ (profile : Profile) (bad : Placed) (answers : List Placed) (fits : AllB
 
   -- of a bad answer that conflicts with itself
   pub held_alone : (SomeHas profile (told_with profile bad answers []) → ⊥) → lines_in bad.response < 2 ^ 64 → (held : Answers) → held.profile ≡ profile → IsKept [] held.kept
-      → held.last ≡ with_numbers bad → AreHeld profile bad answers [] held
+      → held.last ≡ with_numbers bad → AreHeld profile (told_with profile bad answers []) held
   held_alone conflict few held judged kept listed = record {
     judged = judged;
     last = bad;
@@ -114,7 +114,7 @@ module _ (profile : Profile) (bad : Placed) (answers : List Placed) (fits : AllB
     kept = kept;
     together = nothing_together profile;
     whole = sym (append-nil (told profile bad));
-    conflict = λ together. conflict (had [] small together);
+    conflict = λ formed none. conflict (had [] small (none_at_all profile bad answers [] fits formed none));
   }
     where
       small : size (told_with profile bad answers []) < 2 ^ 210
@@ -125,7 +125,7 @@ module _ (profile : Profile) (bad : Placed) (answers : List Placed) (fits : AllB
   -- of one that conflicts with others
   pub held_behind : (front : List ℕ) (k : ℕ) → (SomeHas profile (told_with profile bad answers (front ++ k ∷ [])) → ⊥) → (last : Placed) → slice_get answers k ≡ Some last
       → lines_in last.response < 2 ^ 64 → length front < 2 ^ 66 → (held : Answers) → held.profile ≡ profile → AreToldWith profile bad answers front held.kept → held.last ≡ with_numbers last
-      → AreHeld profile bad answers (front ++ k ∷ []) held
+      → AreHeld profile (told_with profile bad answers (front ++ k ∷ [])) held
   held_behind front k conflict last at few short held judged told_front listed = record {
     judged = judged;
     last = last;
@@ -135,7 +135,7 @@ module _ (profile : Profile) (bad : Placed) (answers : List Placed) (fits : AllB
     kept = told_front.kept;
     together = told_front.together;
     whole = whole;
-    conflict = λ together. conflict (had (front ++ k ∷ []) small together);
+    conflict = λ formed none. conflict (had (front ++ k ∷ []) small (none_at_all profile bad answers (front ++ k ∷ []) fits formed none));
   }
     where
       whole : told_with profile bad answers front ++ told profile last ≡ told_with profile bad answers (front ++ k ∷ [])

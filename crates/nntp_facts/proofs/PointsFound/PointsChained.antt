@@ -2,6 +2,7 @@
 use Rattle.std.proofs.Common.{zero, suc, get_or, ◌≡◌, ℕ, ◌+◌, ◌<◌, ◌≤◌, arith, List, [], ◌∷◌, Option, None, Some, inl, inr, refl, sym, subst}
 use Rattle.std.{proofs.lemmas.Bool.{cases_lt}, specs.{List.{AllByRecursion}, Prelude.{option_map}}}
 use Rattle.nntp_article.specs.declared.session.profile.Profile.{Profile}
+use Rattle.nntp_wire.specs.declared.marks.Marks.TheVariants.{Lenient}
 use Rattle.nntp_said.specs.Facts.{Fact}
 use Rattle.nntp_theory.specs.{Inner.{Together.{IsWellFormed, Together}, Conflict.{FitsThere}}, Conflict.{Placed, told, told_with, Point, Step, Group, Number}}
 use Rattle.nntp_theory.{specs.Conflict.{Count, First, IdOf, PlaceOf, Article, HeadOf, BodyOf, rank, ConflictAt, IsFirstPoint}, proofs.Members.{all_at}}
@@ -23,19 +24,20 @@ ranks : (point : Point) → rank point < 10
 ranks (Step name) = omega arith
 ranks point = omega arith
 
--- where facts that answers tell conflict at no point they stand together
+-- where they conflict at no point of all kinds, they do nowhere
+pub nowhere : (facts : List Fact) (i : ℕ) → 10 ≤ i → NoneBefore facts i → (point : Point) → ConflictAt facts point → ⊥
+nowhere facts i end none point c = let r = ranks point in none point (omega (arith, r, end)) c
+
+-- where facts that answers tell conflict nowhere they stand together
 pub none_at_all : (profile : Profile) (bad : Placed) (answers : List Placed) (places : List ℕ) → AllByRecursion (FitsThere profile) (bad ∷ answers)
     → AllByRecursion IsWellFormed (told_with profile bad answers places)
-    → (i : ℕ) → 10 ≤ i → NoneBefore (told_with profile bad answers places) i → Together (told_with profile bad answers places)
-none_at_all profile bad answers places fits formed i end none = elim (stand_or_conflict profile (told_with profile bad answers places)
+    → ((point : Point) → ConflictAt (told_with profile bad answers places) point → ⊥) → Together (told_with profile bad answers places)
+none_at_all profile bad answers places fits formed none = elim (stand_or_conflict profile Lenient (told_with profile bad answers places)
     (all_from _ (told_with profile bad answers places) (λ fact j. let s = (with_told profile bad answers places fits.0 fits.1).source fact j in all_at _ fact (told profile s.0)
     (told_fitting profile s.0 s.1) s.2))
     (all_from _ (told_with profile bad answers places) (λ fact j. let s = (with_told profile bad answers places fits.0 fits.1).source fact j in
     all_at _ fact (told profile s.0) (told_placed profile (told_with profile bad answers places) s.0 s.3) s.2))
-    formed) [
-      | inl c ↦ absurd (let r = ranks c.0 in none c.0 (omega (arith, r, end)) c.1.conflict)
-      | inr together ↦ together
-    ]
+    formed) [ inl c ↦ absurd (none c.0 c.1.conflict) | inr together ↦ together ]
 
 -- a point that is given is the first
 pub point_given : (facts : List Fact) (k i : ℕ) (o : Option CodePoint) (point : CodePoint) → o ≡ Some point → k ≡ i → NoneBefore facts i → IsPointOf facts k (option_map point_of o)
@@ -75,12 +77,11 @@ kind_ranked (suc (suc (suc (suc (suc (suc (suc (suc zero)))))))) d l = refl
 kind_ranked (suc (suc (suc (suc (suc (suc (suc (suc (suc zero))))))))) d l = refl
 kind_ranked (suc (suc (suc (suc (suc (suc (suc (suc (suc (suc n)))))))))) d l = absurd (omega (arith, l))
 
-module _ (profile : Profile) (bad : Placed) (answers : List Placed) (places : List ℕ) (held : Answers) (h : AreHeld profile bad answers places held) (t : Statement)
-    (tells : TellsAlone profile t (told profile h.last)) where
+module _ (profile : Profile) (all : List Fact) (held : Answers) (h : AreHeld profile all held) (t : Statement) (tells : TellsAlone profile t (told profile h.last)) where
   -- the last answer beside the others
   pub beside : IsBeside profile h.facts held.kept t (told profile h.last)
   beside = record { kept = h.kept; together = h.together; tells = tells }
 
   -- what they tell is well formed
-  pub all_formed : AllByRecursion IsWellFormed (told_with profile bad answers places)
+  pub all_formed : AllByRecursion IsWellFormed all
   all_formed = subst (AllByRecursion IsWellFormed) h.whole (all_both IsWellFormed h.facts (told profile h.last) h.together.well_formed tells.formed)

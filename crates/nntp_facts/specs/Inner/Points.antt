@@ -5,9 +5,9 @@ use Rattle.nntp_article.specs.{Article.Parts.{Id}, Session.{Spool.{Name}, Machin
 use Rattle.nntp_article.specs.Inner.Misfit.{numbers_of}
 use Rattle.nntp_wire.specs.{Decided.{matches_name}, Listing.{ActiveValue}}
 use Rattle.nntp_said.specs.{Asks.{Ask, Bounds}, Facts.{Fact, group_of}}
-use Rattle.nntp_theory.specs.{Inner.{Together.{IsWellFormed, AgreeWithin, Together}, Conflict.{FitsThere}}, Conflict.{Placed, told, told_with, with_group}}
+use Rattle.nntp_theory.specs.{Inner.{Together.{IsWellFormed, AgreeWithin, Together}, Conflict.{FitsThere}}, Conflict.{Placed, told, with_group}}
 use Rattle.nntp_theory.specs.Conflict.{Point, Number, Count, First, rank, ConflictAt}
-use Rattle.nntp_facts.specs.Inner.{Kept.{id_of, place_of, Kept, IsKept}, ListedGroups.{is_listed}, Saying.{Saying, Tells}}
+use Rattle.nntp_facts.specs.Inner.{Kept.{id_of, place_of, Kept, IsKept}, ListedGroups.{is_listed}, Noted.{FactsKept, profile_kept}, Saying.{Saying, Tells}}
 
 -- ---- what the last answer of a conflict says
 
@@ -93,8 +93,8 @@ pub record Answers : Type 0 where
   pub kept : Kept
   pub last : Placed × List ℕ
 
--- this is held of the bad answer and those at the places: they conflict, and without the last one they stand together
-pub record AreHeld (profile : Profile) (bad : Placed) (answers : List Placed) (places : List ℕ) (held : Answers) : Type 0 where
+-- this is held of facts: what is kept of some, and an answer that tells the others and fits; they conflict at some point, where all are well formed
+pub record AreHeld (profile : Profile) (all : List Fact) (held : Answers) : Type 0 where
   pub judged : held.profile ≡ profile
   pub last : Placed
   pub listed : held.last ≡ with_numbers last
@@ -102,5 +102,9 @@ pub record AreHeld (profile : Profile) (bad : Placed) (answers : List Placed) (p
   pub facts : List Fact
   pub kept : IsKept facts held.kept
   pub together : Together facts
-  pub whole : facts ++ told profile last ≡ told_with profile bad answers places
-  pub conflict : Together (told_with profile bad answers places) → ⊥
+  pub whole : facts ++ told profile last ≡ all
+  pub conflict : AllByRecursion IsWellFormed all → ((point : Point) → ConflictAt all point → ⊥) → ⊥
+
+-- what is held of an answer beside facts that are kept
+abbrev pub held_by : FactsKept → Placed → Answers
+held_by facts bad = record { profile = profile_kept facts; kept = facts.kept; last = with_numbers bad }

@@ -1,7 +1,7 @@
 -- What the values of src/points mean.
 use Rattle.std.specs.Prelude.{List, ℕ, option_map}
 use Rattle.nntp_theory.specs.Conflict.{Placed}
-use Rattle.nntp_facts.specs.declared.points.{Listing.{Listing}, Conflict.{Conflict}, statement.Statement.{Statement}, NumbersKind.{NumbersKind}}
+use Rattle.nntp_facts.specs.declared.points.{Listing.{Listing}, Conflict.{Conflict}, Refusal.{Refusal}, statement.Statement.{Statement}, NumbersKind.{NumbersKind}}
 use Rattle.nntp_facts.specs.declared.points.{NumbersKind.TheVariants.{Number, Count, First}, Kind.{Kind, TheVariants.{Step, Group, Numbers, IdOf, PlaceOf}}}
 use Rattle.nntp_facts.specs.{declared.points.Kind.TheVariants.{Article, HeadOf, BodyOf}, Inner.SayingView.{saying_of}}
 use Rattle.nntp_article.specs.Session.Limit.{profile_of}
@@ -35,3 +35,6 @@ statement_of t = record { group = option_map (λ name. name.now) t.group; saying
 -- what is held of answers that conflict
 abbrev pub held_of : {A : Type 0} → Conflict A → points.Answers
 held_of c = record { profile = profile_of c.limit c.marks; kept = c.kept; last = listing_of c.last }
+
+abbrev pub held_of_refusal : {A : Type 0} → Refusal A → points.Answers
+held_of_refusal r = record { profile = profile_of r.limit r.marks; kept = r.kept.now; last = listing_of r.last }

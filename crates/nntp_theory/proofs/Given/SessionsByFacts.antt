@@ -33,7 +33,7 @@ permits_each profile S (s ∷ more) f h =
 -- ---- what sessions that fit say
 
 -- it fits
-all_fitting : (profile : Profile) (sessions : List Answered) → FitEach profile sessions → AllByRecursion (IsFitting profile) (facts_of_all profile.marks sessions)
+pub all_fitting : (profile : Profile) (sessions : List Answered) → FitEach profile sessions → AllByRecursion (IsFitting profile) (facts_of_all profile.marks sessions)
 all_fitting profile [] f = tt
 all_fitting profile (s ∷ more) f = grind (arith, all_both, session_fitting, all_fitting profile more f.1)
 
@@ -46,7 +46,7 @@ among_placed profile all (s ∷ more) f h =
     let rest = facts_of_all profile.marks more in
     search (arith, all_both, placed_among, all_front, all_back, among_placed profile all more f.1 (all_back (Among all) own rest h))
 
-all_placed : (profile : Profile) (sessions : List Answered) → FitEach profile sessions
+pub all_placed : (profile : Profile) (sessions : List Answered) → FitEach profile sessions
     → AllByRecursion (Placed profile.marks (facts_of_all profile.marks sessions)) (facts_of_all profile.marks sessions)
 all_placed profile sessions f = let all = facts_of_all profile.marks sessions in among_placed profile all sessions f (all_from (Among all) all (λ fact i. i))
 

@@ -90,7 +90,11 @@ few_sizes : (how : Marks) (earlier : List (List Paired)) → AllByRecursion AreF
 few_sizes how [] f = omega arith
 few_sizes how (pairs ∷ earlier) f = grind (arith, size-append, few_size, few_sizes how earlier f.1)
 
--- what few sessions say is small
+-- what few sessions say is small, and there is room for more
+pub room_behind : (how : Marks) (earlier : List (List Paired)) (past : List Paired) → length earlier < 2 ^ 64 → AllByRecursion AreFew earlier → AreFew past
+    → size (facts_of_all how (map exchanged earlier ++ exchanged past ∷ [])) < 2 ^ 209
+room_behind how earlier past count f g = grind (arith, facts_behind, size-append, few_size, few_sizes)
+
 pub small_behind : (how : Marks) (earlier : List (List Paired)) (past : List Paired) → length earlier < 2 ^ 64 → AllByRecursion AreFew earlier → AreFew past
     → size (facts_of_all how (map exchanged earlier ++ exchanged past ∷ [])) < 2 ^ 210
-small_behind how earlier past count f g = grind (arith, facts_behind, size-append, few_size, few_sizes)
+small_behind how earlier past count f g = let room = room_behind how earlier past count f g in omega (arith, room)

@@ -7,19 +7,19 @@ use Rattle.nntp_explain.proofs.explainer.put_point_of.Goals as goal
 
 pub returns-in-Some : goal.returns-in-Some
 returns-in-Some g c =
-    on_ok c.put_conflict.result (λ put profile answers told how these those fit held.
+    on_ok c.put_conflict.result (λ put profile answers told how these those held.
     let bad = c.args.bad.now in
     let core = c.args.core.now in
     let text = c.args.text.now.items in
     let first = subst (λ o. MatchOption o ⊥ (λ point. IsFirstPoint (told_with profile bad answers (places_of core)) (point_of point))) c.in-Some.is
-    (c.in_ok-point.ensures profile bad answers (places_of core) fit held) in
+    (c.in_ok-point.ensures profile (told_with profile bad answers (places_of core)) held) in
     let lines = ap (λ (q : Marks × List Placed × List Cited). text ++ conflict_lines c.args.here q.0 (point_of c.in-Some.point) bad q.1 q.2 core) (λ i. (how i, these i, those i)) in
     tells c.args.here profile bad answers told core (point_of c.in-Some.point) text c.put_conflict.new.text.items first (put ∙ lines))
     c.put_conflict.ensures
 
 pub returns-in-None : goal.returns-in-None
-returns-in-None g c profile answers told how these those fit held =
+returns-in-None g c profile answers told how these those held =
     let bad = c.args.bad.now in
     let places = places_of c.args.core.now in
     absurd (subst (λ o. MatchOption o ⊥ (λ point. IsFirstPoint (told_with profile bad answers places) (point_of point))) c.in-None.is
-    (c.in_ok-point.ensures profile bad answers places fit held))
+    (c.in_ok-point.ensures profile (told_with profile bad answers places) held))

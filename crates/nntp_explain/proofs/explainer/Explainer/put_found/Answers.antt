@@ -30,11 +30,11 @@ returns g c =
     let bad = c.args.bad.now in
     let core = c.in_ok-core.core in
     let found = subst (λ (q : Front). IsFound q.0 bad q.1 core) (given_kept g (goal.at.returns g c).After-deref) c.in_ok-core.ensures.found in
-    let held = subst (λ (q : Front). AllByRecursion (FitsThere q.0) (bad ∷ q.1) → IsFound q.0 bad q.1 core → HasLast core → AreHeld q.0 bad q.1 (places_of core) (held_of c.in_ok-conflict.conflict))
+    let held = subst (λ (q : Front). AllByRecursion (FitsThere q.0) (bad ∷ q.1) → IsFound q.0 bad q.1 core → HasLast core → AreHeld q.0 (told_with q.0 bad q.1 (places_of core)) (held_of c.in_ok-conflict.conflict))
     (λ i. (profile_of (c.limit-limit.ensures i) (c.marks-marks.ensures i), c.deref-2.ensures.value i)) c.in_ok-conflict.ensures in
     on_ok c.put_point_of.result
     (λ told.
     let goes = told (profile_kept self.facts) self.placed.items (map cited_of self.cited.items) c.marks-marks.ensures c.deref-3.ensures.value (ap (map cited_of) c.deref-4.ensures.value)
-    c.requires.fit (held c.requires.fit found (some_found core c.in_ok-core.ensures.most)) in
+    (held c.requires.fit found (some_found core c.in_ok-core.ensures.most)) in
     (goes.0, goes.1, (core, found, c.in_ok-core.ensures.most, goes.2)))
     c.put_point_of.ensures

@@ -1,9 +1,10 @@
 use Rattle.std.{proofs.Common.{rules, ◌≡◌, ◌∙◌, ◌++◌, sym, ap, subst, refl, inl, append-nil, Bool, true, false, ℕ, length, List, [], Option}, specs.Option.{option_map}}
 use Rattle.nntp_article.specs.Session.Spool.{Name}
+use Rattle.nntp_said.specs.Facts.{Fact}
 use Rattle.nntp_theory.specs.Conflict.{Placed}
 use Rattle.nntp_facts.specs.Inner.Noted.{profile_kept}
 use Rattle.nntp_pair.specs.{declared.class.Class.TheVariants.{Contradiction}, Pairing.{asked_at}}
-use Rattle.nntp_explain.specs.{Explaining.{are_looked_for, front_lines, place_lines}, Inner.{Explaining.{ToldContradiction}, ExplainingView.{AddsReason, Kept, AreReasons, Contradicts, Fits, TellsNext}}}
+use Rattle.nntp_explain.specs.{Explaining.{are_looked_for, front_lines, place_lines}, Inner.{Explaining.{ToldContradiction}, ExplainingView.{AddsReason, Kept, AreReasons, Contradicts, Fits, IsRefused, TellsNext}}}
 use Rattle.nntp_explain.specs.Inner.ExplainingView.{TellsContradiction, refuses}
 use Rattle.nntp_explain.{specs.Inner.ExplainingView.{kept_of, standing_of, placed_here, title_of}, proofs.{AnswerLemmas.{told_reason}, ExplainLemmas.{on_ok}}}
 use Rattle.nntp_explain.proofs.explainer.Explainer.refuse_contradiction.Goals.{After-new-bad}
@@ -36,7 +37,7 @@ returns-then-not-branch-clause-reasons g c =
     subst (AreReasons (profile_kept c.args.self.now.facts) old) (sym (same_told old (kept_of c.put_bad.new.self) c.in_ok-put_bad.ensures.kept)) c.requires.reasons
 
 pub returns-then-not-branch-clause-text : goal.returns-then-not-branch-clause-text
-returns-then-not-branch-clause-text g c =
+returns-then-not-branch-clause-text g c facts refused =
     let pair = c.args.exchange in
     let stands = option_map standing_of c.args.self.now.standing in
     let old = c.args.self.now.text.items ++ title_of (kept_of c.args.self.now) in
@@ -92,13 +93,15 @@ returns-clause-text g c =
     (λ i. (c.index.ensures.value i, c.line-line.ensures i, c.initial.ensures i)) in
     let count : c.len.result ≡ length self.placed.items = search rules in
     let looked_for : c.are_looked_for-looked_for.result ≡ are_looked_for self.bad (length self.placed.items) = c.are_looked_for-looked_for.ensures ∙ ap (are_looked_for self.bad) count in
-    let conflict = λ (more : List ℕ) (is : TellsContradiction c.are_looked_for-looked_for.result (kept_of c.put_bad.new.self) c.new-bad.result more).
-        subst (λ (q : Bool × Kept × Placed). TellsContradiction q.0 q.1 q.2 more)
+    let conflict = λ (more : List ℕ) (facts : List Fact) (is : TellsContradiction c.are_looked_for-looked_for.result (kept_of c.put_bad.new.self) facts c.new-bad.result more).
+        subst (λ (q : Bool × Kept × Placed). TellsContradiction q.0 q.1 facts q.2 more)
         (λ i. (looked_for i, (before g (goal.at.returns-clause-text g c).After-new-bad i).0, (before g (goal.at.returns-clause-text g c).After-new-bad i).1)) is in
     on_ok c.tell_conflict.result c.tell_conflict.ensures.text c.tell_conflict.ensures.text
-    (λ goes _. told_reason self.bad stands pair.index Contradiction pair.line pair.initial
-    (TellsNext (kept_of self) bad)
+    (λ tells _ facts refused.
+    let goes = tells facts (subst (λ (q : Kept × Placed). IsRefused q.0 facts q.1) (sym (before g (goal.at.returns-clause-text g c).After-new-bad)) refused) in
+    told_reason self.bad stands pair.index Contradiction pair.line pair.initial
+    (TellsNext (kept_of self) facts bad)
     old c.tell_conflict.new.self.text.items goes.0 true
     (sym c.if-not-branch.false ∙ c.in_ok-put_bad.ensures.told)
     (goes.1 ∙ ap (λ t. t ++ goes.0) (c.in_ok-put_bad.ensures.text ∙ lines))
-    (conflict goes.0 goes.2))
+    (conflict goes.0 facts goes.2))

@@ -23,10 +23,10 @@ returns-in-Some-clause-text g c =
     let told = subst (λ o. MatchOption o ⊤ (λ reason. Contains c.deref.result.now (record { bad = c.args.bad; reason = reason.now }))) c.in-Some.is c.reason_of.ensures in
     let there = subst (λ (cs : List ToldContradiction). Contains cs here) c.deref.ensures.value told in
     on_ok c.extend_from_slice.result
-    (λ put. (
+    (λ put facts refused. (
       c.in-Some.reason.now,
       put,
-      told_again (HasReason (kept_of self) c.args.bad) self.session (profile_kept self.facts) c.args.bad self.placed.items (map cited_of self.cited.items) c.in-Some.reason.now c.args.looked_for
+      told_again (HasReason (kept_of self) c.args.bad) self.session (profile_kept self.facts) facts c.args.bad self.placed.items (map cited_of self.cited.items) c.in-Some.reason.now c.args.looked_for
           (all_at (λ (t : ToldContradiction). TellsConflict (kept_of self) t.bad t.reason) here self.contradictions.items c.requires.reasons
           (in_contains here self.contradictions.items there)) (c.in-Some.reason.now, there),
     ))
@@ -45,25 +45,26 @@ returns-clause-reasons g c =
 pub returns-then-branch-clause-text : goal.returns-then-branch-clause-text
 returns-then-branch-clause-text g c =
     let self = c.args.self.now in
-    let answers = map cited_of self.cited.items in
-    let count : c.len.result ≡ length self.placed.items = search rules in
-    let cited : map cited_of c.deref-then-branch.result.now ≡ answers = ap (map cited_of) c.deref-then-branch.ensures.value in
-    on_ok c.put_rest.result
-    (λ is. (
-      rest_line self.session answers (Some (length self.placed.items)),
-      is ∙ ap (λ (q : List Cited × ℕ). self.text.items ++ rest_line self.session q.0 (Some q.1)) (λ i. (cited i, count i)),
-      told_short (HasReason (kept_of self) c.args.bad) self.session (profile_kept self.facts) c.args.bad self.placed.items answers _ c.args.looked_for
-          (c.in_ok-is_cut_short.ensures.short c.if-branch.true) refl,
+    let short = c.in_ok-is_cut_short.ensures.short c.if-branch.true in
+    on_ok c.extend_from_slice-then-branch.result
+    (λ put facts refused.
+    let goes = c.in_ok-put_some.ensures facts refused short.1 in
+    let whole = c.deref-then-branch.ensures.value ∙ goes.1 ∙ ap (λ t. t ++ goes.0) c.new-reason.ensures.items in (
+      goes.0,
+      put ∙ ap (λ t. self.text.items ++ t) whole,
+      told_short (HasReason (kept_of self) c.args.bad) self.session (profile_kept self.facts) facts c.args.bad self.placed.items (map cited_of self.cited.items) goes.0 c.args.looked_for
+          short.0 goes.2,
     ))
-    c.put_rest.ensures
+    (extended c.extend_from_slice-then-branch.result c.extend_from_slice-then-branch.new.self.items self.text.items c.deref-then-branch.result.now
+    c.extend_from_slice-then-branch.ensures.items)
 
 pub returns-clause-text : goal.returns-clause-text
-returns-clause-text g c =
+returns-clause-text g c facts refused =
     let self = c.args.self.now in
     let goes = c.in_ok-put_found.ensures in
     let whole = c.deref-2.ensures.value ∙ goes.1 ∙ ap (λ t. t ++ goes.0) c.new-reason.ensures.items in (
       goes.0,
       c.in_ok-extend_from_slice.ensures.items ∙ ap (λ t. self.text.items ++ t) whole,
-      told_whole (HasReason (kept_of self) c.args.bad) self.session (profile_kept self.facts) c.args.bad self.placed.items (map cited_of self.cited.items) goes.0 c.args.looked_for
+      told_whole (HasReason (kept_of self) c.args.bad) self.session (profile_kept self.facts) facts c.args.bad self.placed.items (map cited_of self.cited.items) goes.0 c.args.looked_for
           (c.in_ok-is_cut_short.ensures.whole c.if-branch.false) goes.2,
     )

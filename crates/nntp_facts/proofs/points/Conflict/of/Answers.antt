@@ -16,7 +16,7 @@ returns-in_default g c =
     if_two c.with_last.result
     (λ conflict is few fits found last.
     let held = held_of conflict in
-    subst (λ places. AreHeld profile bad answers places held) (sym places)
+    subst (λ places. AreHeld profile (told_with profile bad answers places) held) (sym places)
     (held_alone profile bad answers fits (subst (λ places. SomeHas profile (told_with profile bad answers places) → ⊥) places (core_conflicts profile bad answers core found))
     few held (ap (λ (h : Answers). h.profile) is) (subst (IsKept []) (sym (ap (λ (h : Answers). h.kept) is)) c.new-kept.ensures) (ap (λ (h : Answers). h.last) is)))
     c.with_last.ensures.held c.with_last.ensures.few
@@ -43,7 +43,7 @@ returns g c =
     let here = slice_get-get_or answers k bad there ∙ ap (λ a. Some a) (sym c.answer_or-last.ensures) in
     let told = told_front profile bad answers front c.tell_all.new.kept c.in_ok-tell_all.field-0 (others_stand profile bad answers core front k found last parts)
     (c.in_ok-tell_all.ensures c.new-kept.ensures fits) in
-    subst (λ places. AreHeld profile bad answers places held) (sym parts)
+    subst (λ places. AreHeld profile (told_with profile bad answers places) held) (sym parts)
     (held_behind profile bad answers fits front k (subst (λ places. SomeHas profile (told_with profile bad answers places) → ⊥) parts (core_conflicts profile bad answers core found))
     last-answer here few fewer held (ap (λ (h : Answers). h.profile) is) (subst (AreToldWith profile bad answers front) (sym (ap (λ (h : Answers). h.kept) is)) told)
     (ap (λ (h : Answers). h.last) is)))

@@ -1,0 +1,149 @@
+-- A contradiction conflicts with what the accepted answers of all sessions say.
+use Rattle.std.proofs.Common.{◌≡◌, ◌<◌, ◌^◌, IsTrue, List, [], ◌∷◌, ◌++◌, Option, None, Some, map, refl, sym, ap, subst, ◌∙◌, arith, append_assoc}
+use Rattle.std.{proofs.Common.{inl, inr}, specs.List.{AllByRecursion}}
+use Rattle.nntp_wire.specs.{Answer.{Asked, Response}, declared.marks.Marks.{Marks}}
+use Rattle.nntp_article.specs.{Session.{Spool.{Name}, Machine.{Visible, start, fits}}, declared.session.profile.Profile.{Profile}}
+use Rattle.nntp_pair.specs.{Pairing.{Paired, asked_at, asked_of, responses_of}, Inner.Pairing.{lines_in}}
+use Rattle.nntp_said.specs.{Facts.{Fact, Holds, ThereIs, Asks, IdAt, facts_of, group_of}, Inner.Facts.{FitsAll}}
+use Rattle.nntp_theory.specs.{declared.noted.Noted.TheVariants.{Contradiction}, Answered.{Answered, facts_of_all}, Inner.{Answered.{FitEach}, Given.{size}}}
+use Rattle.nntp_theory.specs.{Inner.{Exchanged.{said_by, said_behind}, Together.{Together, IsWellFormed}}, Classes.{visible_from}, Permitted.{exchanged, ArePermittedBehind}}
+use Rattle.nntp_theory.specs.{Conflict.{Placed, placed_behind, said as said_there, told, the_group}, Given.{facts_of_session}}
+use Rattle.nntp_theory.proofs.{Conflicts.{there_said, group_fitting}, PointsOfConflict.{stand_or_conflict}, Members.{In, all_from, all_at, all_both, all_front, all_back, in_front, in_back}}
+use Rattle.nntp_theory.proofs.{Members.{in_cases}, Given.{GivenPermits.{said}, GivenHasFacts.{given_of_facts, given_has}, ConstructedSpool.{made}, FirstBadAnswer.{size-append}}}
+use Rattle.nntp_theory.proofs.Given.{SessionsByFacts.{stand_each, permits_each, all_fitting, all_placed}, SessionsGoOn.{facts_behind, room_behind}}
+use Rattle.nntp_theory.proofs.Session.{LaterPrompts.{next_behind, run_longer, visible_longer}, OneMoreAnswer.{as_few, fitting_grows}, FittingFacts.{IsFitting}}
+use Rattle.nntp_theory.proofs.Session.{PairsGoOn.{Runs, as_many, ends, facts_next}, NumbersOfShownGroups.{Placed as IsPlaced, IsSelectable}}
+use Rattle.nntp_facts.specs.Inner.{Noted.{FactsKept, HasNotedBehind, IsDue, IsNotedBehind}, Points.{AreHeld, held_by}}
+use Rattle.nntp_facts.proofs.Keeping.{NotedExchange.{stand_together}, ToldAnswers.{told_size}}
+
+-- what is placed among facts is placed among more
+wider : (how : Marks) (facts more : List Fact) → ((fact : Fact) → In fact facts → In fact more) → (fact : Fact) → IsPlaced how facts fact → IsPlaced how more fact
+wider how facts more sub (ThereIs name) p = record { marks = p.marks; there = sub _ p.there; estimated = sub _ p.estimated }
+wider how facts more sub (Asks name ask) p = record { marks = p.marks; there = sub _ p.there; estimated = sub _ p.estimated }
+wider how facts more sub (IdAt name n id) p = record { marks = p.marks; there = sub _ p.there; estimated = sub _ p.estimated }
+wider how facts more sub fact p = tt
+
+-- the group of which placed facts speak is one that a 211 selected
+group_selectable : (how : Marks) (all own : List Fact) → AllByRecursion (IsPlaced how all) own → (name : Name) → group_of own ≡ Some name → IsSelectable how all name
+group_selectable how all [] placed name e = cc
+group_selectable how all (ThereIs g ∷ own) placed name e = subst (IsSelectable how all) (cc) placed.0
+group_selectable how all (Asks g ask ∷ own) placed name e = subst (IsSelectable how all) (cc) placed.0
+group_selectable how all (IdAt g n id ∷ own) placed name e = subst (IsSelectable how all) (cc) placed.0
+group_selectable how all (fact ∷ own) placed name e = group_selectable how all own placed.1 name e
+
+-- so that there is such a group is placed
+group_placed : (profile : Profile) (how : Marks) (all : List Fact) (group : Option Name) → ((name : Name) → group ≡ Some name → IsSelectable how all name)
+    → AllByRecursion (IsPlaced how all) (the_group profile group)
+group_placed profile how all None h = tt
+group_placed profile how all (Some name) h = let g = h name refl in (g, (g, tt))
+
+module _ (profile : Profile) (facts : FactsKept) (earlier : List (List Paired)) (past : List Paired) (pair : Paired) (s : HasNotedBehind profile facts earlier past) where
+  abbrev bad : Placed
+  bad = placed_behind past pair
+
+  abbrev before : List Answered
+  before = map exchanged earlier
+
+  -- the sessions with it
+  abbrev sessions : List Answered
+  sessions = before ++ exchanged (past ++ pair ∷ []) ∷ []
+
+  abbrev Fits : Answered → Type 0
+  Fits s = FitsAll profile start.visible s.prompts s.answers
+
+  -- what all sessions say with it
+  pub said_with : facts_of_all profile.marks sessions ≡ said_behind profile.marks earlier past ++ said_there profile.marks bad
+  said_with =
+      let here = visible_from start.visible (asked_of past) (responses_of past) in
+      let all = facts_of_all profile.marks before in
+      facts_behind profile.marks before (exchanged (past ++ pair ∷ []))
+      ∙ ap (λ own. all ++ own)
+      (ap (λ (q : List Asked × List Response). facts_of_session profile.marks q.0 q.1) (ends past pair)
+      ∙ facts_next profile.marks (asked_of past) (responses_of past) (asked_at pair.line) pair.response (as_many past)
+      ∙ ap (λ new. said_by profile.marks past ++ new) (there_said profile.marks bad here refl))
+      ∙ sym (append_assoc all (said_by profile.marks past) (said_there profile.marks bad))
+
+  module _ (due : IsDue facts pair) (noted : IsNotedBehind profile earlier past pair facts facts Contradiction) where
+    -- they fit with it
+    pub fit_with : FitEach profile sessions
+    fit_with =
+        let ps = asked_of past in
+        let own = responses_of past in
+        let asked = asked_at pair.line in
+        let seen = visible_longer start.visible ps (asked ∷ []) own (as_few past) in
+        let run = (all_back (Runs profile s.permitted.0) before (exchanged past ∷ []) s.permitted.2).0 in
+        let fit = (said profile s.permitted.0 (ps ++ asked ∷ []) own (run_longer profile s.permitted.0 start ps (asked ∷ []) own run)).0 in
+        let others = (stand_each profile s.permitted.0 (before ++ exchanged past ∷ []) s.permitted.1 s.permitted.2).0 in
+        all_both Fits before (exchanged (past ++ pair ∷ []) ∷ []) (all_front Fits before (exchanged past ∷ []) others)
+        (subst (λ (q : List Asked × List Response). FitsAll profile start.visible q.0 q.1) (sym (ends past pair))
+        ((fitting_grows profile start.visible (ps ++ asked ∷ []) own asked pair.response (next_behind ps [] asked own (as_many past))).1 (
+          fit,
+          ap (λ (v : Visible). v.closed) (seen ∙ sym s.visible) ∙ due.is_open,
+          subst (λ v. IsTrue (fits profile v asked pair.response)) (s.visible ∙ sym seen) noted.0,
+        )), tt)
+
+    -- it is held beside what they say without it
+    pub held_refused : lines_in pair.response < 2 ^ 64 → AreHeld profile (said_behind profile.marks earlier past ++ told profile bad) (held_by facts bad)
+    held_refused few = record {
+      judged = s.profile_is;
+      last = bad;
+      listed = refl;
+      fits = (facts.visible, ap (λ v. v.selected) s.visible, noted.0);
+      facts = kept;
+      kept = s.kept;
+      together = stand_together profile facts earlier past s;
+      whole = refl;
+      conflict = λ formed none. elim (stand_or_conflict profile profile.marks all fitting placed formed) [
+        | inl c ↦ none c.0 c.1.conflict
+        | inr together ↦ noted.1 (permitted together)
+      ];
+    }
+      where
+        kept : List Fact
+        kept = said_behind profile.marks earlier past
+
+        own : List Fact
+        own = said_there profile.marks bad
+
+        group : List Fact
+        group = the_group profile (group_of own)
+
+        all : List Fact
+        all = kept ++ (group ++ own)
+
+        -- what all say is among it
+        among : (fact : Fact) → In fact (kept ++ own) → In fact all
+        among fact i = elim (in_cases fact kept own i) [
+          | inl j ↦ in_front fact kept (group ++ own) j
+          | inr j ↦ in_back fact kept (group ++ own) (in_back fact group own j)
+        ]
+
+        fitting : AllByRecursion (IsFitting profile) all
+        fitting =
+            let whole = subst (AllByRecursion (IsFitting profile)) said_with (all_fitting profile sessions fit_with) in
+            all_both (IsFitting profile) kept (group ++ own) (all_front (IsFitting profile) kept own whole)
+            (all_both (IsFitting profile) group own (group_fitting profile (group_of own)) (all_back (IsFitting profile) kept own whole))
+
+        placed : AllByRecursion (IsPlaced profile.marks all) all
+        placed =
+            let whole = subst (λ facts. AllByRecursion (IsPlaced profile.marks facts) facts) said_with (all_placed profile sessions fit_with) in
+            let more = all_from (IsPlaced profile.marks all) (kept ++ own)
+                (λ fact i. wider profile.marks (kept ++ own) all among fact (all_at (IsPlaced profile.marks (kept ++ own)) fact (kept ++ own) whole i)) in
+            let last = all_back (IsPlaced profile.marks all) kept own more in
+            all_both (IsPlaced profile.marks all) kept (group ++ own) (all_front (IsPlaced profile.marks all) kept own more)
+            (all_both (IsPlaced profile.marks all) group own (group_placed profile profile.marks all (group_of own) (group_selectable profile.marks all own last)) last)
+
+        small : size all < 2 ^ 210
+        small =
+            let room = subst (λ facts. size facts < 2 ^ 209) (facts_behind profile.marks before (exchanged past))
+                (room_behind profile.marks earlier past s.sessions s.earlier_few (record { lines = s.lines; few = s.few })) in
+            let both = size-append kept (group ++ own) in
+            let one = told_size profile bad few in
+            omega (arith, room, both, one)
+
+        permitted : Together all → ArePermittedBehind profile earlier (past ++ pair ∷ [])
+        permitted together =
+            let G = made profile.limit (10 ^ 64) all in
+            let has = given_has profile profile.marks G all fitting placed together small (given_of_facts profile profile.marks all fitting placed small) in
+            let holds = all_from (Holds G) (kept ++ own) (λ fact i. all_at (Holds G) fact all has.1 (among fact i)) in
+            (G, has.0, permits_each profile G sessions fit_with (subst (AllByRecursion (Holds G)) (sym said_with) holds))

@@ -1,0 +1,10 @@
+use Rattle.std.proofs.Common.{List}
+use Rattle.nntp_article.specs.{Session.Limit.{profile_of}, declared.session.profile.Profile.{Profile}}
+use Rattle.nntp_said.specs.Facts.{Fact}
+use Rattle.nntp_facts.specs.Inner.{Points.{AreHeld, NoneBefore}, StatementView.{listing_of}}
+use Rattle.nntp_facts.proofs.points.first_point.Given as goal
+
+-- at no point of the kinds so far the facts conflict
+abbrev pub invariant-loop-kind : goal.invariant-loop-kind
+invariant-loop-kind g l = (profile : Profile) (all : List Fact)
+    → AreHeld profile all (record { profile = profile_of l.limit l.fn.marks; kept = l.kept; last = listing_of l.last }) → NoneBefore all l.kind-index
