@@ -1,10 +1,12 @@
 -- What is told of a core.
-use Rattle.std.proofs.Common.{◌≡◌, ◌≤◌, ◌⊎◌, refl, sym, subst, inl, inr, arith, length, append-nil, ℕ, Bool, true, false, List, [], ◌∷◌, ◌++◌, Option, None, Some}
-use Rattle.std.{proofs.{Common.{MatchOption, is_some}, lemmas.Bool.{true≢false}}}
+use Rattle.std.proofs.Common.{◌≡◌, ◌≤◌, ◌⊎◌, refl, sym, subst, inl, inr, arith, length, append-nil, ℕ, Bool, true, false, List, [], ◌∷◌, ◌++◌, Option, None}
+use Rattle.std.proofs.{Common.{Some, MatchOption, is_some}, lemmas.Bool.{true≢false}}
 use Rattle.nntp_article.specs.declared.session.profile.Profile.{Profile}
 use Rattle.nntp_said.specs.Facts.{Fact}
-use Rattle.nntp_theory.specs.{Conflict.{Placed, Point, Core, IsCore, IsEndOfCore, IsFound, IsFirstPoint, SomeHas, told, told_with, places_of}, Inner.Conflict.{HasLast}}
-use Rattle.nntp_explain.specs.{Explaining.{TellsCore, IsConflictOf, IsConflictWithSome, IsContradiction}, Inner.ExplainingView.{GoesOn}, Says.{conflict_lines}, Standing.{Cited}}
+use Rattle.nntp_theory.specs.Conflict.{Placed, Point, Core, IsCore, IsEndOfCore, IsFound, IsFirstPoint, SomeHas, told, told_with, places_of}
+use Rattle.nntp_theory.specs.Inner.Conflict.{HasLast}
+use Rattle.nntp_explain.specs.{Explaining.{TellsCore, IsConflictOf, IsConflictWithSome, IsContradiction}, Inner.ExplainingView.{GoesOn}, Says.{conflict_lines}}
+use Rattle.nntp_explain.specs.Standing.{Cited}
 
 -- where the core is cut short, some of it was found
 pub some_found : (core : Core) → MatchOption core.rest (length core.places ≤ 4) (λ bound. length core.places ≡ 4) → HasLast core

@@ -1,24 +1,22 @@
 -- How an explanation goes through the answers of two streams, behind those of earlier sessions.
 use Rattle.std.proofs.Common.{◌≡◌, ◌≢◌, ◌∙◌, sym, subst, refl, ap, ℕ, ◌+◌, ◌-◌, ◌≤◌, List, [], ◌∷◌, ◌++◌, Option, None, Some, MatchOption, length, arith}
-use Rattle.std.{proofs.Common.{append-nil, append_assoc, length-append, inl, inr, Bool, true, false, Result, Ok, Err}, specs.{Prelude.{OnOk, IfOk}, List.{AllByRecursion, flat_map}}}
-use Rattle.std.specs.Option.{option_map_or}
+use Rattle.std.{proofs.Common.{append-nil, append_assoc, length-append, inl, inr, Bool, true, false, Result, Ok, Err}, specs.Prelude.{OnOk, IfOk}}
+use Rattle.std.specs.{List.{AllByRecursion, flat_map}, Option.{option_map_or}}
 use Rattle.nntp_wire.specs.{Answer.{Asked}, Misspelling.{misspelling}, declared.misspelling.Misspelling.{Misspelling, TheVariants.{WrongBlock}}}
 use Rattle.nntp_article.specs.{declared.session.profile.Profile.{Profile}, Session.{Machine.{Visible}, Misfit.{misfit}}}
 use Rattle.nntp_pair.specs.{Pairing.{Paired, Unpaired, IsNext, IsPassedOver, asked_at, streams}, declared.class.Class.{Class, TheVariants.{Malformed}}}
 use Rattle.nntp_pair.{specs.declared.class.Class.TheVariants.{OutOfPlace, Contradiction}, proofs.PassedLemmas.{passed-reason}}
-use Rattle.nntp_theory.specs.{Conflict.{Placed, placed_of, placed_behind, SomeHas, told_with, below}, Inner.Conflict.{FitsThere}, Permitted.{ArePermittedBehind}}
-use Rattle.nntp_theory.specs.{Reading.{Judged, Accepted, Refused, Unspelled, accepted_of, accepted_with, class_behind, IsJudged}, declared.noted.Noted.{Noted}}
-use Rattle.nntp_theory.proofs.{Members.{all_at, all_both, all_from, in_contains}, Reading.JudgedSession.{accepted_one_more}}
-use Rattle.nntp_facts.{specs.Inner.Noted.{FactsKept, HasNotedBehind, IsNotedBehind, IsDue, profile_kept}, proofs.Reading.NotedAsJudged.{unfit_refused}}
-use Rattle.nntp_facts.proofs.Reading.NotedAsJudged.{contradiction_refused}
+use Rattle.nntp_theory.specs.{Conflict.{Placed, placed_of, placed_behind, SomeHas, told_with, below, told}, Inner.Conflict.{FitsThere}}
+use Rattle.nntp_theory.specs.{Inner.Exchanged.{said_behind}, Permitted.{ArePermittedBehind}, Reading.{Judged, Accepted, Refused, Unspelled, accepted_of}}
+use Rattle.nntp_theory.{specs.{Reading.{accepted_with, class_behind, IsJudged}, declared.noted.Noted.{Noted}}, proofs.Members.{all_at, all_both, all_from}}
+use Rattle.nntp_theory.proofs.{Members.{in_contains}, Reading.JudgedSession.{accepted_one_more}}
+use Rattle.nntp_facts.specs.Inner.{Noted.{FactsKept, HasNotedBehind, IsNotedBehind, IsDue, profile_kept}, Points.{AreHeld, held_by}}
+use Rattle.nntp_facts.proofs.{Reading.NotedAsJudged.{unfit_refused, contradiction_refused}, Keeping.RefusedAnswers.{held_refused}}
 use Rattle.nntp_said.specs.{Facts.{Fact}, declared.position.Position.{Position}}
-use Rattle.nntp_theory.specs.{Conflict.{told}, Inner.Exchanged.{said_behind}}
-use Rattle.nntp_facts.{specs.Inner.Points.{AreHeld, held_by}, proofs.Keeping.RefusedAnswers.{held_refused}}
 use Rattle.nntp_several.{specs.Conflict.{placed_of_all}, proofs.ConflictsOfSessions.{accepted_fit_behind, noted_conflicts_behind, placed_next_behind}}
 use Rattle.nntp_printing.specs.Title.{title_line}
-use Rattle.nntp_explain.specs.{Explaining.{IsTold, IsConflictOf, IsReason, IsExplained, AreExplained, count_bad}, Inner.Explaining.{ToldContradiction}}
-use Rattle.nntp_explain.specs.Explaining.{IsContradiction, WasRefused, are_looked_for, bad_behind}
-use Rattle.nntp_explain.specs.Inner.ExplainingView.{AddsReason, HasReason, IsRefused, TellsNext}
+use Rattle.nntp_explain.specs.Explaining.{IsTold, IsConflictOf, IsReason, IsExplained, AreExplained, count_bad, IsContradiction, WasRefused, are_looked_for}
+use Rattle.nntp_explain.specs.{Explaining.{bad_behind}, Inner.{Explaining.{ToldContradiction}, ExplainingView.{AddsReason, HasReason, IsRefused, TellsNext}}}
 use Rattle.nntp_explain.specs.Inner.ExplainingView.{Kept, Before, begins, placed_at, keeps, refuses, title_of, title_told, untold, unfitting_told, AreKept}
 use Rattle.nntp_explain.specs.{Inner.ExplainingView.{AreReasons, AreTold, GoesOn, unspelled_lines}, Reasons.{unfitting_lines, misspelling_line}}
 use Rattle.nntp_explain.specs.Standing.{Standing, Cited, standing, standing_after, cited, cited_at, cited_each, number_behind, cited_of_all, closing_after}
@@ -297,7 +295,7 @@ told_contradiction profile b client server kept text left behind pair more contr
     let placed = placed_there past kept.stands kept.facts.position pair t.stands_there t.noted.position in
     let before = bad_before profile b client server kept text left t pair.index next.index in
     let told : HasReason kept bad → WasRefused t.answers bad =
-        λ h. all_at (λ (c : ToldContradiction). WasRefused t.answers c.bad) (record { bad = bad; reason = h.0 }) kept.contradictions t.refused (in_contains _ kept.contradictions h.1) in
+    λ h. all_at (λ (c : ToldContradiction). WasRefused t.answers c.bad) (record { bad = bad; reason = h.0 }) kept.contradictions t.refused (in_contains _ kept.contradictions h.1) in
     told_bad profile b client server kept text more left behind (Refused pair) contradictions t judged.0 refl
     (refused_explained profile b.earlier b.bad t.answers pair Contradiction more judged.1
     (told_as (bad_behind b.bad t.answers pair.index) (standing past) pair.index Contradiction pair.line pair.initial _

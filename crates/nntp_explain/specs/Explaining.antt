@@ -4,9 +4,9 @@ use Rattle.std.specs.{Prelude.{count_by, is_some, map, Option, Some, MatchOption
 use Rattle.nntp_wire.specs.{Lines.{lines_of_stream}, declared.{limit.Limit.{Limit}, marks.Marks.{Marks}}, Misspelling.{misspelling}}
 use Rattle.nntp_article.specs.{Session.{Machine.{Visible, start}, Limit.{profile_of}, Misfit.{misfit}}, declared.session.profile.Profile.{Profile}}
 use Rattle.nntp_said.specs.Facts.{Fact}
-use Rattle.nntp_theory.specs.{Answered.{facts_in, facts_of_all}, Permitted.{exchanged}}
-use Rattle.nntp_theory.specs.{Classes.{visible_from}, Conflict.{Placed, placed_of, placed_behind, Core, IsFound, places_of, told, told_with, Point, IsFirstPoint, SomeHas}}
-use Rattle.nntp_theory.specs.Reading.{Judged, Accepted, Refused, Unspelled, accepted_of, class_behind, IsReading}
+use Rattle.nntp_theory.specs.{Answered.{facts_in, facts_of_all}, Permitted.{exchanged}, Classes.{visible_from}, Conflict.{Placed, placed_of, placed_behind}}
+use Rattle.nntp_theory.specs.{Conflict.{Core, IsFound, places_of, told, told_with, Point, IsFirstPoint, SomeHas}, Reading.{Judged, Accepted, Refused}}
+use Rattle.nntp_theory.specs.Reading.{Unspelled, accepted_of, class_behind, IsReading}
 use Rattle.nntp_pair.specs.{Classes.{class_of}, declared.class.{Class.{Class, TheVariants.{Malformed, OutOfPlace, Contradiction}}, PairClass.{PairClass}}}
 use Rattle.nntp_pair.specs.{declared.class.PairClass.TheVariants.{Surplus as PairSurplus, Cut as PairCut, Malformed as PairMalformed}, Pairing.{Paired}}
 use Rattle.nntp_pair.specs.Pairing.{Unpaired, Ending, end, bad as ends_at, line_ahead, asked_at, asked_of, responses_of}

@@ -32,13 +32,13 @@ impl<A: Allocator> Model for Core<A> {
 }
 
 impl<A: Allocator> Core<A> {
-    /// Returns the core of which no place was looked for: all are below the bound.
-    pub fn below(alloc: A, bound: usize) -> Core<A>
-        ensures { result ≡ record { places = []; rest = Some bound } }
+    /// Returns the core of which no place was looked for: those of so many answers are below the bound.
+    pub fn below(alloc: A, count: usize) -> Core<A>
+        ensures { result ≡ record { places = []; rest = Some count } }
     {
         Core {
             places: Vec::new(alloc),
-            rest: Some(bound),
+            rest: Some(count),
         }
     }
 

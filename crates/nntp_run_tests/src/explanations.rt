@@ -4,6 +4,7 @@ mod endings;
 mod kinds;
 mod misfits;
 mod misspellings;
+mod searched;
 mod several;
 
 use crate::reported::Reported;

@@ -1,9 +1,9 @@
 -- What the values of src/standing.rt and src/explainer.rt mean.
-use Rattle.std.specs.{Prelude.{◌≡◌, ℕ, zero, suc, ◌+◌, ◌≤◌, ◌<◌, ◌^◌, ◌⊎◌, Bool, List, [], ◌∷◌, ◌++◌, length, map, drop, Option, None, Contains}, List.{AllByRecursion, flat_map}}
-use Rattle.std.specs.Option.{option_copied, option_map, option_map_or}
+use Rattle.std.specs.Prelude.{◌≡◌, ℕ, zero, suc, ◌+◌, ◌≤◌, ◌<◌, ◌^◌, ◌⊎◌, Bool, List, [], ◌∷◌, ◌++◌, length, map, drop, Option, None, Contains}
+use Rattle.std.specs.{List.{AllByRecursion, flat_map}, Option.{option_copied, option_map, option_map_or}}
 use Rattle.nntp_wire.specs.{Answer.{Asked}, Misspelling.{misspelling}}
 use Rattle.nntp_article.specs.{Session.Misfit.{misfit}, declared.session.profile.Profile.{Profile}}
-use Rattle.nntp_pair.specs.{Pairing.{Paired, Unpaired, asked_at, streams}, declared.class.Class.{Class}}
+use Rattle.nntp_pair.specs.{Pairing.{Paired, Unpaired, asked_at, streams}, declared.class.Class.{Class}, Inner.Pairing.{lines_in}}
 use Rattle.nntp_theory.specs.{Conflict.{Placed, placed_of, SomeHas, told, told_with, below}, Inner.Conflict.{FitsThere}, Permitted.{ArePermittedBehind}}
 use Rattle.nntp_theory.specs.Reading.{Judged, accepted_of, AreJudged, IsReadingBy}
 use Rattle.nntp_facts.specs.Inner.{Noted.{FactsKept, HasNotedBehind, begun, profile_kept}, Points.{AreHeld, held_by}}
@@ -12,10 +12,9 @@ use Rattle.nntp_printing.specs.Title.{title_line}
 use Rattle.nntp_explain.specs.declared.{standing.{Standing.{Standing as StandingCode}, Cited.{Cited as CitedCode}}, explainer.Explainer.{Explainer}}
 use Rattle.nntp_explain.specs.Standing.{Standing, Cited, standing, standing_after, cited_at, cited_each, number_behind, cited_of_all, closing}
 use Rattle.nntp_explain.specs.{Inner.Explaining.{ToldContradiction}, Explaining.{IsTold, IsConflictOf, AreExplained, count_bad, IsSessionExplained, Counts}}
-use Rattle.nntp_explain.specs.Explaining.{IsConflictWithSome, IsContradiction, WasRefused, are_looked_for}
-use Rattle.nntp_explain.specs.{Explaining.{counts_of, titled, none_counted, AreSessionsExplained}, Reasons.{unfitting_lines, misspelling_line}}
+use Rattle.nntp_explain.specs.Explaining.{IsConflictWithSome, IsContradiction, WasRefused, are_looked_for, counts_of, titled, none_counted}
+use Rattle.nntp_explain.specs.{Explaining.{AreSessionsExplained}, Reasons.{unfitting_lines, misspelling_line}}
 use Rattle.nntp_said.specs.{Facts.{Fact}, declared.position.Position.{Position}}
-use Rattle.nntp_pair.specs.Inner.Pairing.{lines_in}
 
 -- where a session stands, without where the name lies in memory
 abbrev pub standing_of : StandingCode → Standing

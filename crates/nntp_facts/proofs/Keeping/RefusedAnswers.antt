@@ -1,18 +1,19 @@
 -- A contradiction conflicts with what the accepted answers of all sessions say.
-use Rattle.std.proofs.Common.{◌≡◌, ◌<◌, ◌^◌, IsTrue, List, [], ◌∷◌, ◌++◌, Option, None, Some, map, refl, sym, ap, subst, ◌∙◌, arith, append_assoc}
-use Rattle.std.{proofs.Common.{inl, inr}, specs.List.{AllByRecursion}}
+use Rattle.std.proofs.Common.{◌≡◌, ◌<◌, ◌^◌, IsTrue, List, [], ◌∷◌, ◌++◌, Option, None, Some, map, refl, sym, ap, subst, ◌∙◌, arith, append_assoc, inl, inr}
+use Rattle.std.specs.List.{AllByRecursion}
 use Rattle.nntp_wire.specs.{Answer.{Asked, Response}, declared.marks.Marks.{Marks}}
 use Rattle.nntp_article.specs.{Session.{Spool.{Name}, Machine.{Visible, start, fits}}, declared.session.profile.Profile.{Profile}}
 use Rattle.nntp_pair.specs.{Pairing.{Paired, asked_at, asked_of, responses_of}, Inner.Pairing.{lines_in}}
-use Rattle.nntp_said.specs.{Facts.{Fact, Holds, ThereIs, Asks, IdAt, facts_of, group_of}, Inner.Facts.{FitsAll}}
+use Rattle.nntp_said.specs.{Facts.{Fact, Holds, ThereIs, Asks, IdAt, group_of}, Inner.Facts.{FitsAll}}
 use Rattle.nntp_theory.specs.{declared.noted.Noted.TheVariants.{Contradiction}, Answered.{Answered, facts_of_all}, Inner.{Answered.{FitEach}, Given.{size}}}
-use Rattle.nntp_theory.specs.{Inner.{Exchanged.{said_by, said_behind}, Together.{Together, IsWellFormed}}, Classes.{visible_from}, Permitted.{exchanged, ArePermittedBehind}}
-use Rattle.nntp_theory.specs.{Conflict.{Placed, placed_behind, said as said_there, told, the_group}, Given.{facts_of_session}}
-use Rattle.nntp_theory.proofs.{Conflicts.{there_said, group_fitting}, PointsOfConflict.{stand_or_conflict}, Members.{In, all_from, all_at, all_both, all_front, all_back, in_front, in_back}}
-use Rattle.nntp_theory.proofs.{Members.{in_cases}, Given.{GivenPermits.{said}, GivenHasFacts.{given_of_facts, given_has}, ConstructedSpool.{made}, FirstBadAnswer.{size-append}}}
-use Rattle.nntp_theory.proofs.Given.{SessionsByFacts.{stand_each, permits_each, all_fitting, all_placed}, SessionsGoOn.{facts_behind, room_behind}}
-use Rattle.nntp_theory.proofs.Session.{LaterPrompts.{next_behind, run_longer, visible_longer}, OneMoreAnswer.{as_few, fitting_grows}, FittingFacts.{IsFitting}}
-use Rattle.nntp_theory.proofs.Session.{PairsGoOn.{Runs, as_many, ends, facts_next}, NumbersOfShownGroups.{Placed as IsPlaced, IsSelectable}}
+use Rattle.nntp_theory.specs.{Inner.{Exchanged.{said_by, said_behind}, Together.{Together}}, Classes.{visible_from}, Permitted.{exchanged, ArePermittedBehind}}
+use Rattle.nntp_theory.{specs.{Conflict.{Placed, placed_behind, said as said_there, told, the_group}, Given.{facts_of_session}}, proofs.Conflicts.{there_said}}
+use Rattle.nntp_theory.proofs.{Conflicts.{group_fitting}, PointsOfConflict.{stand_or_conflict}, Members.{In, all_from, all_at, all_both, all_front, all_back}}
+use Rattle.nntp_theory.proofs.{Members.{in_front, in_back, in_cases}, Given.{GivenPermits.{said}, GivenHasFacts.{given_of_facts, given_has}}}
+use Rattle.nntp_theory.proofs.Given.{ConstructedSpool.{made}, FirstBadAnswer.{size-append}, SessionsByFacts.{stand_each, permits_each, all_fitting, all_placed}}
+use Rattle.nntp_theory.proofs.{Given.SessionsGoOn.{facts_behind, room_behind}, Session.LaterPrompts.{next_behind, run_longer, visible_longer}}
+use Rattle.nntp_theory.proofs.Session.{OneMoreAnswer.{as_few, fitting_grows}, FittingFacts.{IsFitting}, PairsGoOn.{Runs, as_many, ends, facts_next}}
+use Rattle.nntp_theory.proofs.Session.NumbersOfShownGroups.{Placed as IsPlaced, IsSelectable}
 use Rattle.nntp_facts.specs.Inner.{Noted.{FactsKept, HasNotedBehind, IsDue, IsNotedBehind}, Points.{AreHeld, held_by}}
 use Rattle.nntp_facts.proofs.Keeping.{NotedExchange.{stand_together}, ToldAnswers.{told_size}}
 
@@ -74,13 +75,15 @@ module _ (profile : Profile) (facts : FactsKept) (earlier : List (List Paired)) 
         let run = (all_back (Runs profile s.permitted.0) before (exchanged past ∷ []) s.permitted.2).0 in
         let fit = (said profile s.permitted.0 (ps ++ asked ∷ []) own (run_longer profile s.permitted.0 start ps (asked ∷ []) own run)).0 in
         let others = (stand_each profile s.permitted.0 (before ++ exchanged past ∷ []) s.permitted.1 s.permitted.2).0 in
-        all_both Fits before (exchanged (past ++ pair ∷ []) ∷ []) (all_front Fits before (exchanged past ∷ []) others)
-        (subst (λ (q : List Asked × List Response). FitsAll profile start.visible q.0 q.1) (sym (ends past pair))
-        ((fitting_grows profile start.visible (ps ++ asked ∷ []) own asked pair.response (next_behind ps [] asked own (as_many past))).1 (
-          fit,
-          ap (λ (v : Visible). v.closed) (seen ∙ sym s.visible) ∙ due.is_open,
-          subst (λ v. IsTrue (fits profile v asked pair.response)) (s.visible ∙ sym seen) noted.0,
-        )), tt)
+        all_both Fits before (exchanged (past ++ pair ∷ []) ∷ []) (all_front Fits before (exchanged past ∷ []) others) (
+          subst (λ (q : List Asked × List Response). FitsAll profile start.visible q.0 q.1) (sym (ends past pair))
+              ((fitting_grows profile start.visible (ps ++ asked ∷ []) own asked pair.response (next_behind ps [] asked own (as_many past))).1 (
+                fit,
+                ap (λ (v : Visible). v.closed) (seen ∙ sym s.visible) ∙ due.is_open,
+                subst (λ v. IsTrue (fits profile v asked pair.response)) (s.visible ∙ sym seen) noted.0,
+              )),
+          tt,
+        )
 
     -- it is held beside what they say without it
     pub held_refused : lines_in pair.response < 2 ^ 64 → AreHeld profile (said_behind profile.marks earlier past ++ told profile bad) (held_by facts bad)
@@ -128,7 +131,7 @@ module _ (profile : Profile) (facts : FactsKept) (earlier : List (List Paired)) 
         placed =
             let whole = subst (λ facts. AllByRecursion (IsPlaced profile.marks facts) facts) said_with (all_placed profile sessions fit_with) in
             let more = all_from (IsPlaced profile.marks all) (kept ++ own)
-                (λ fact i. wider profile.marks (kept ++ own) all among fact (all_at (IsPlaced profile.marks (kept ++ own)) fact (kept ++ own) whole i)) in
+            (λ fact i. wider profile.marks (kept ++ own) all among fact (all_at (IsPlaced profile.marks (kept ++ own)) fact (kept ++ own) whole i)) in
             let last = all_back (IsPlaced profile.marks all) kept own more in
             all_both (IsPlaced profile.marks all) kept (group ++ own) (all_front (IsPlaced profile.marks all) kept own more)
             (all_both (IsPlaced profile.marks all) group own (group_placed profile profile.marks all (group_of own) (group_selectable profile.marks all own last)) last)
@@ -136,7 +139,7 @@ module _ (profile : Profile) (facts : FactsKept) (earlier : List (List Paired)) 
         small : size all < 2 ^ 210
         small =
             let room = subst (λ facts. size facts < 2 ^ 209) (facts_behind profile.marks before (exchanged past))
-                (room_behind profile.marks earlier past s.sessions s.earlier_few (record { lines = s.lines; few = s.few })) in
+            (room_behind profile.marks earlier past s.sessions s.earlier_few (record { lines = s.lines; few = s.few })) in
             let both = size-append kept (group ++ own) in
             let one = told_size profile bad few in
             omega (arith, room, both, one)

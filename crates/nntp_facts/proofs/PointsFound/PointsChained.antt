@@ -4,9 +4,9 @@ use Rattle.std.{proofs.lemmas.Bool.{cases_lt}, specs.{List.{AllByRecursion}, Pre
 use Rattle.nntp_article.specs.declared.session.profile.Profile.{Profile}
 use Rattle.nntp_wire.specs.declared.marks.Marks.TheVariants.{Lenient}
 use Rattle.nntp_said.specs.Facts.{Fact}
-use Rattle.nntp_theory.specs.{Inner.{Together.{IsWellFormed, Together}, Conflict.{FitsThere}}, Conflict.{Placed, told, told_with, Point, Step, Group, Number}}
-use Rattle.nntp_theory.{specs.Conflict.{Count, First, IdOf, PlaceOf, Article, HeadOf, BodyOf, rank, ConflictAt, IsFirstPoint}, proofs.Members.{all_at}}
-use Rattle.nntp_theory.proofs.{Members.{all_from, all_both}, Conflicts.{with_told, told_fitting, told_placed}, PointsOfConflict.{stand_or_conflict}}
+use Rattle.nntp_theory.specs.{Inner.{Together.{IsWellFormed, Together}, Conflict.{FitsThere}}, Conflict.{Placed, told, told_with, Point, Step, rank}}
+use Rattle.nntp_theory.{specs.Conflict.{ConflictAt, IsFirstPoint}, proofs.{Members.{all_at, all_from, all_both}, Conflicts.{with_told, told_fitting}}}
+use Rattle.nntp_theory.proofs.{Conflicts.{told_placed}, PointsOfConflict.{stand_or_conflict}}
 use Rattle.nntp_facts.specs.Inner.{Points.{Answers, AreHeld, Statement, TellsAlone, IsBeside, IsPointOf, NoneBefore}, PointView.{point_of}}
 use Rattle.nntp_facts.specs.{Inner.StatementView.{rank_of}, declared.{point.Point.{Point as CodePoint}, points.Kind.{Kind}}}
 use Rattle.nntp_facts.specs.declared.points.Kind.TheVariants as kind

@@ -5,8 +5,8 @@ use Rattle.nntp_article.specs.{Article.Parts.{Id}, Session.{Spool.{Name}, Machin
 use Rattle.nntp_article.specs.Inner.Misfit.{numbers_of}
 use Rattle.nntp_wire.specs.{Decided.{matches_name}, Listing.{ActiveValue}}
 use Rattle.nntp_said.specs.{Asks.{Ask, Bounds}, Facts.{Fact, group_of}}
-use Rattle.nntp_theory.specs.{Inner.{Together.{IsWellFormed, AgreeWithin, Together}, Conflict.{FitsThere}}, Conflict.{Placed, told, with_group}}
-use Rattle.nntp_theory.specs.Conflict.{Point, Number, Count, First, rank, ConflictAt}
+use Rattle.nntp_theory.specs.{Inner.{Together.{IsWellFormed, AgreeWithin, Together}, Conflict.{FitsThere}}, Conflict.{Placed, told, with_group, Point, Number}}
+use Rattle.nntp_theory.specs.Conflict.{Count, First, rank, ConflictAt}
 use Rattle.nntp_facts.specs.Inner.{Kept.{id_of, place_of, Kept, IsKept}, ListedGroups.{is_listed}, Noted.{FactsKept, profile_kept}, Saying.{Saying, Tells}}
 
 -- ---- what the last answer of a conflict says

@@ -1,9 +1,9 @@
 -- What the values of src/points mean.
 use Rattle.std.specs.Prelude.{List, ℕ, option_map}
 use Rattle.nntp_theory.specs.Conflict.{Placed}
-use Rattle.nntp_facts.specs.declared.points.{Listing.{Listing}, Conflict.{Conflict}, Refusal.{Refusal}, statement.Statement.{Statement}, NumbersKind.{NumbersKind}}
-use Rattle.nntp_facts.specs.declared.points.{NumbersKind.TheVariants.{Number, Count, First}, Kind.{Kind, TheVariants.{Step, Group, Numbers, IdOf, PlaceOf}}}
-use Rattle.nntp_facts.specs.{declared.points.Kind.TheVariants.{Article, HeadOf, BodyOf}, Inner.SayingView.{saying_of}}
+use Rattle.nntp_facts.specs.declared.points.{Listing.{Listing}, Conflict.{Conflict}, Refusal.{Refusal}, statement.Statement.{Statement}}
+use Rattle.nntp_facts.specs.declared.points.{NumbersKind.{NumbersKind, TheVariants.{Number, Count, First}}, Kind.{Kind, TheVariants.{Step, Group, Numbers}}}
+use Rattle.nntp_facts.specs.{declared.points.Kind.TheVariants.{IdOf, PlaceOf, Article, HeadOf, BodyOf}, Inner.SayingView.{saying_of}}
 use Rattle.nntp_article.specs.Session.Limit.{profile_of}
 use Rattle.nntp_facts.specs.Inner.Points as points
 

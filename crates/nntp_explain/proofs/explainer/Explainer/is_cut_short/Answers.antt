@@ -1,9 +1,8 @@
-use Rattle.std.{proofs.Common.{rules, ◌≡◌, ◌∙◌, ◌∷◌, inl, inr, is_some, sym, subst, List, length}, specs.List.{AllByRecursion}}
+use Rattle.std.{proofs.Common.{rules, ◌≡◌, ◌∙◌, ◌∷◌, inr, is_some, sym, subst, List, length}, specs.List.{AllByRecursion}}
 use Rattle.nntp_article.specs.{Session.Limit.{profile_of}, declared.session.profile.Profile.{Profile}}
 use Rattle.nntp_theory.specs.{Conflict.{Placed, SomeHas, told, told_with, below}, Inner.Conflict.{FitsThere}}
 use Rattle.nntp_facts.specs.Inner.Noted.{profile_kept}
-use Rattle.nntp_explain.proofs.ConflictLemmas.{alone_by}
-use Rattle.nntp_explain.proofs.explainer.Explainer.is_cut_short.Goals.{After-deref}
+use Rattle.nntp_explain.proofs.{ConflictLemmas.{alone_by}, explainer.Explainer.is_cut_short.Goals.{After-deref}}
 use Rattle.nntp_explain.proofs.explainer.Explainer.is_cut_short.Given as given
 use Rattle.nntp_explain.proofs.explainer.Explainer.is_cut_short.Goals as goal
 

@@ -2,7 +2,8 @@ use Rattle.std.{proofs.Common.{rules, ◌≡◌, ◌++◌, ◌∙◌, [], ap, sy
 use Rattle.nntp_wire.specs.declared.marks.Marks.{Marks}
 use Rattle.nntp_theory.specs.Conflict.{Placed, Core, IsFirstPoint, told}
 use Rattle.nntp_facts.specs.Inner.{Noted.{profile_kept}, Points.{AreHeld}, PointView.{point_of}}
-use Rattle.nntp_explain.{specs.{Inner.ExplainingView.{cited_of}, Says.{conflict_lines}, Standing.{Cited}}, proofs.{ConflictLemmas.{some_told}, SaysLemmas.{on_ok}}}
+use Rattle.nntp_explain.{specs.{Inner.ExplainingView.{cited_of}, Says.{conflict_lines}, Standing.{Cited}}, proofs.ConflictLemmas.{some_told}}
+use Rattle.nntp_explain.proofs.SaysLemmas.{on_ok}
 use Rattle.nntp_explain.proofs.explainer.Explainer.put_some.Goals as goal
 
 pub returns-in-Some : goal.returns-in-Some

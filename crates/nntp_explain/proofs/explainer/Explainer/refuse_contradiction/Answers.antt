@@ -1,12 +1,13 @@
-use Rattle.std.{proofs.Common.{rules, ◌≡◌, ◌∙◌, ◌++◌, sym, ap, subst, refl, inl, append-nil, Bool, true, false, ℕ, length, List, [], Option}, specs.Option.{option_map}}
+use Rattle.std.proofs.Common.{rules, ◌≡◌, ◌∙◌, ◌++◌, sym, ap, subst, refl, inl, append-nil, Bool, true, false, ℕ, length, List, [], Option}
+use Rattle.std.specs.Option.{option_map}
 use Rattle.nntp_article.specs.Session.Spool.{Name}
 use Rattle.nntp_said.specs.Facts.{Fact}
 use Rattle.nntp_theory.specs.Conflict.{Placed}
 use Rattle.nntp_facts.specs.Inner.Noted.{profile_kept}
 use Rattle.nntp_pair.specs.{declared.class.Class.TheVariants.{Contradiction}, Pairing.{asked_at}}
-use Rattle.nntp_explain.specs.{Explaining.{are_looked_for, front_lines, place_lines}, Inner.{Explaining.{ToldContradiction}, ExplainingView.{AddsReason, Kept, AreReasons, Contradicts, Fits, IsRefused, TellsNext}}}
-use Rattle.nntp_explain.specs.Inner.ExplainingView.{TellsContradiction, refuses}
-use Rattle.nntp_explain.{specs.Inner.ExplainingView.{kept_of, standing_of, placed_here, title_of}, proofs.{AnswerLemmas.{told_reason}, ExplainLemmas.{on_ok}}}
+use Rattle.nntp_explain.specs.{Explaining.{are_looked_for, front_lines, place_lines}, Inner.{Explaining.{ToldContradiction}, ExplainingView.{AddsReason, Kept}}}
+use Rattle.nntp_explain.specs.Inner.ExplainingView.{AreReasons, Contradicts, Fits, IsRefused, TellsNext, TellsContradiction, refuses, kept_of, standing_of}
+use Rattle.nntp_explain.{specs.Inner.ExplainingView.{placed_here, title_of}, proofs.{AnswerLemmas.{told_reason}, ExplainLemmas.{on_ok}}}
 use Rattle.nntp_explain.proofs.explainer.Explainer.refuse_contradiction.Goals.{After-new-bad}
 use Rattle.nntp_explain.proofs.explainer.Explainer.refuse_contradiction.Given as given
 use Rattle.nntp_explain.proofs.explainer.Explainer.refuse_contradiction.Goals as goal
@@ -94,8 +95,8 @@ returns-clause-text g c =
     let count : c.len.result ≡ length self.placed.items = search rules in
     let looked_for : c.are_looked_for-looked_for.result ≡ are_looked_for self.bad (length self.placed.items) = c.are_looked_for-looked_for.ensures ∙ ap (are_looked_for self.bad) count in
     let conflict = λ (more : List ℕ) (facts : List Fact) (is : TellsContradiction c.are_looked_for-looked_for.result (kept_of c.put_bad.new.self) facts c.new-bad.result more).
-        subst (λ (q : Bool × Kept × Placed). TellsContradiction q.0 q.1 facts q.2 more)
-        (λ i. (looked_for i, (before g (goal.at.returns-clause-text g c).After-new-bad i).0, (before g (goal.at.returns-clause-text g c).After-new-bad i).1)) is in
+    subst (λ (q : Bool × Kept × Placed). TellsContradiction q.0 q.1 facts q.2 more)
+    (λ i. (looked_for i, (before g (goal.at.returns-clause-text g c).After-new-bad i).0, (before g (goal.at.returns-clause-text g c).After-new-bad i).1)) is in
     on_ok c.tell_conflict.result c.tell_conflict.ensures.text c.tell_conflict.ensures.text
     (λ tells _ facts refused.
     let goes = tells facts (subst (λ (q : Kept × Placed). IsRefused q.0 facts q.1) (sym (before g (goal.at.returns-clause-text g c).After-new-bad)) refused) in

@@ -1,10 +1,8 @@
-use Rattle.std.{proofs.Common.{rules, ◌≡◌, ◌∙◌, ◌++◌, ◌∷◌, [], refl, ap, subst, sym, inl, map, ℕ, List, Some, length}, specs.Prelude.{⊤, Contains, MatchOption}}
+use Rattle.std.{proofs.Common.{◌∙◌, ◌++◌, ◌∷◌, [], refl, ap, subst, sym, inl, map, List}, specs.Prelude.{⊤, Contains, MatchOption}}
 use Rattle.nntp_facts.specs.Inner.Noted.{profile_kept}
 use Rattle.nntp_theory.proofs.Members.{all_at, all_both, in_contains}
-use Rattle.nntp_explain.{specs.Inner.{Explaining.{ToldContradiction}, ExplainingView.{AreReasons, HasReason, TellsConflict, cited_of, kept_of}}, proofs.ReasonsGoOn.{in_any_case}}
-use Rattle.nntp_explain.specs.{Reasons.{rest_line}, Standing.{Cited}}
-use Rattle.nntp_explain.proofs.ConflictLemmas.{told_again, told_short, told_whole}
-use Rattle.nntp_explain.proofs.{ReasonsGoOn.{extended}, SaysLemmas.{on_ok}}
+use Rattle.nntp_explain.specs.Inner.{Explaining.{ToldContradiction}, ExplainingView.{AreReasons, HasReason, TellsConflict, cited_of, kept_of}}
+use Rattle.nntp_explain.proofs.{ReasonsGoOn.{in_any_case, extended}, ConflictLemmas.{told_again, told_short, told_whole}, SaysLemmas.{on_ok}}
 use Rattle.nntp_explain.proofs.explainer.Explainer.tell_conflict.Goals as goal
 
 pub returns-in-Some-clause-kept : goal.returns-in-Some-clause-kept
