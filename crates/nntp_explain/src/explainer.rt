@@ -16,7 +16,8 @@ ghost use Rattle.nntp_printing.specs.BadAnswer.{IsFirstLine};
 ghost use Rattle.nntp_explain.specs.Explaining.{are_looked_for, front_lines, place_lines, IsEndReason, TellsCore};
 ghost use Rattle.nntp_explain.specs.Inner.ExplainingView.{Before, begins, cited_of, kept_of, keeps, placed_here, refuses, standing_of, title_of};
 ghost use Rattle.nntp_explain.specs.Inner.ExplainingView.{unfitting_told, unspelled_lines, AreReasons, Contradicts, Fits, GoesOn, HasReadNone, HasTold};
-ghost use Rattle.nntp_explain.specs.Inner.ExplainingView.{AddsReason, IsRefused, StandsAlone, TellsBad, TellsConflict, TellsContradiction, TellsNext, TellsSome};
+ghost use Rattle.nntp_explain.specs.Inner.ExplainingView.{AddsReason, IsRefused, StandsAlone, TellsBad, TellsConflict};
+ghost use Rattle.nntp_explain.specs.Inner.ExplainingView.{TellsContradiction, TellsNext, TellsSome};
 ghost use Rattle.nntp_explain.specs.Standing.{Cited as CitedValue};
 
 use crate::conflict::put_conflict;
@@ -197,7 +198,8 @@ impl<'a, A: Allocator + Copy> Explainer<'a, A> {
         requires reasons { AreReasons (profile_kept self.old.facts) (kept_of self.old) self.old.contradictions.items }
         ensures kept { OnOk result (kept_of self.new ≡ record (refuses (kept_of self.old)) { contradictions = self.new.contradictions.items }) }
         ensures reasons { OnOk result (AreReasons (profile_kept self.old.facts) (kept_of self.old) self.new.contradictions.items) }
-        ensures adds { OnOk result (AddsReason (placed_here (kept_of self.old) position exchange.entry) self.old.contradictions.items self.new.contradictions.items) }
+        ensures adds { OnOk result (AddsReason (placed_here (kept_of self.old) position exchange.entry)
+            self.old.contradictions.items self.new.contradictions.items) }
         ensures text { OnOk result ((facts : List Fact) → IsRefused (kept_of self.old) facts (placed_here (kept_of self.old) position exchange.entry)
             → TellsBad (kept_of self.old) exchange.entry.index Contradiction exchange.entry.line exchange.entry.initial
             (TellsNext (kept_of self.old) facts (placed_here (kept_of self.old) position exchange.entry)) self.old.text.items self.new.text.items) }

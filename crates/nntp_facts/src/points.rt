@@ -92,7 +92,8 @@ impl<'a, A: Allocator + Copy> Conflict<'a, A> {
     ) -> Result<Conflict<'a, A>, AllocError>
         ensures { IfOk result (λ conflict. AllByRecursion (FitsThere (profile_of limit marks)) (bad.now ∷ answers.now)
             → IsFound (profile_of limit marks) bad.now answers.now core.now
-            → HasLast core.now → AreHeld (profile_of limit marks) (told_with (profile_of limit marks) bad.now answers.now (places_of core.now)) (held_of conflict)) }
+            → HasLast core.now
+            → AreHeld (profile_of limit marks) (told_with (profile_of limit marks) bad.now answers.now (places_of core.now)) (held_of conflict)) }
     {
         let places = core.all_places(alloc)?;
         let mut kept = Kept::new(alloc);
@@ -159,7 +160,8 @@ impl<'a, A: Allocator + Copy> Refusal<'a, A> {
         kept: &'a Kept<A>,
         bad: &'a Placed<'a>,
     ) -> Result<Refusal<'a, A>, AllocError>
-        ensures held { IfOk result (λ refusal. held_of_refusal refusal ≡ record { profile = profile_of limit marks; kept = kept.now; last = with_numbers bad.now }) }
+        ensures held { IfOk result (λ refusal. held_of_refusal refusal
+            ≡ record { profile = profile_of limit marks; kept = kept.now; last = with_numbers bad.now }) }
         ensures few { IfOk result (λ refusal. lines_in bad.now.response < 2 ^ 64) }
     {
         let last = Listing::of(alloc, bad)?;

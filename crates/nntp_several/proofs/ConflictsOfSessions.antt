@@ -72,7 +72,8 @@ noted_conflicts_behind profile facts earlier past pair s due noted = (
         let all = told_of_all profile S earlier (all_front (Holds S) first second both) in
         let own = session_told profile S start.visible Nowhere (asked_of past) (responses_of past) (all_back (Holds S) first second both) in
         let last = told_own profile S new (all_front (Holds S) (told profile bad) others holds) in
-        let whole = all_both (Holds S) (said_behind profile.marks earlier past) new (all_both (Holds S) (facts_of_all profile.marks (map exchanged earlier)) (said_by profile.marks past) all own) last in (
+        let before = all_both (Holds S) (facts_of_all profile.marks (map exchanged earlier)) (said_by profile.marks past) all own in
+        let whole = all_both (Holds S) (said_behind profile.marks earlier past) new before last in (
           S,
           spool,
           permits_each profile S (map exchanged earlier ++ exchanged (past ++ pair ∷ []) ∷ []) (fit_with profile facts earlier past pair s due noted)

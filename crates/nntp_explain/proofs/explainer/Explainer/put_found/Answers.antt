@@ -30,7 +30,8 @@ returns g c =
     let bad = c.args.bad.now in
     let core = c.in_ok-core.core in
     let found = subst (λ (q : Front). IsFound q.0 bad q.1 core) (given_kept g (goal.at.returns g c).After-deref) c.in_ok-core.ensures.found in
-    let held = subst (λ (q : Front). AllByRecursion (FitsThere q.0) (bad ∷ q.1) → IsFound q.0 bad q.1 core → HasLast core → AreHeld q.0 (told_with q.0 bad q.1 (places_of core)) (held_of c.in_ok-conflict.conflict))
+    let held = subst (λ (q : Front). AllByRecursion (FitsThere q.0) (bad ∷ q.1) → IsFound q.0 bad q.1 core → HasLast core
+    → AreHeld q.0 (told_with q.0 bad q.1 (places_of core)) (held_of c.in_ok-conflict.conflict))
     (λ i. (profile_of (c.limit-limit.ensures i) (c.marks-marks.ensures i), c.deref-2.ensures.value i)) c.in_ok-conflict.ensures in
     on_ok c.put_point_of.result
     (λ told.
