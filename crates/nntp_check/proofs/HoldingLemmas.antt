@@ -3,6 +3,7 @@ use Rattle.std.proofs.Common.{◌≡◌, ◌∙◌, ℕ, ◌+◌, ◌≤◌, fal
 use Rattle.std.{proofs.{Common.{flat_map}, lemmas.{Bool.{cases_Bool}, List.{append-nil}}}, specs.Prelude.{fold}}
 use Rattle.nntp_check.specs.Capture.{Part, Held, Captured, word_of, spelled, nothing, with_octets, has_session, at_piece, continued, with_piece, captured_by}
 use Rattle.nntp_check.specs.{Capture.{AreCapture}, Inner.Capture.{IsAlone}, declared.source.Source.{Source, TheVariants.{Client, Server, Spool, Session}}}
+use Rattle.nntp_wire.specs.Session.{taken}
 
 -- one step more
 fold-snoc : {A B : Type 0} (f : B → A → B) (a : B) (xs : List A) (x : A) → fold f a (xs ++ x ∷ []) ≡ f (fold f a xs) x
@@ -17,8 +18,18 @@ captured-snoc parts p = fold-snoc with_piece (record { held = nothing; is_severa
 
 -- no octets
 pub no-octets : (source : Source) (h : Held) → with_octets source [] h ≡ h
-no-octets Client h = λ k. record h { last = record h.last { session = record { client = append-nil h.last.session.client k; server = append-nil h.last.session.server k } } }
-no-octets Server h = λ k. record h { last = record h.last { session = record { client = append-nil h.last.session.client k; server = append-nil h.last.session.server k } } }
+no-octets Client h = λ k. record h {
+  last = record h.last {
+    session = record
+        { client = taken h.last.session.client.overviews (append-nil h.last.session.client.octets k); server = append-nil h.last.session.server k };
+  };
+}
+no-octets Server h = λ k. record h {
+  last = record h.last {
+    session = record
+        { client = taken h.last.session.client.overviews (append-nil h.last.session.client.octets k); server = append-nil h.last.session.server k };
+  };
+}
 no-octets Spool h = λ k. record h { spool = append-nil h.spool k }
 no-octets Session h = λ k. record h { last = record h.last { name = append-nil h.last.name k } }
 
@@ -27,7 +38,7 @@ pub more-octets : (source : Source) (xs ys : List ℕ) (h : Held) → with_octet
 more-octets Client xs ys h = λ k. record h {
   last = record h.last {
     session = record {
-      client = append_assoc h.last.session.client xs ys k;
+      client = taken h.last.session.client.overviews (append_assoc h.last.session.client.octets xs ys k);
       server = append-nil (h.last.session.server ++ []) k;
     };
   };
@@ -35,7 +46,7 @@ more-octets Client xs ys h = λ k. record h {
 more-octets Server xs ys h = λ k. record h {
   last = record h.last {
     session = record {
-      client = append-nil (h.last.session.client ++ []) k;
+      client = taken h.last.session.client.overviews (append-nil (h.last.session.client.octets ++ []) k);
       server = append_assoc h.last.session.server xs ys k;
     };
   };
@@ -58,7 +69,7 @@ piece-begins c p source is none =
 
 -- the octets of both streams of the session that goes on
 abbrev pub last_octets : Captured → ℕ
-last_octets c = length c.held.last.session.client + length c.held.last.session.server
+last_octets c = length c.held.last.session.client.octets + length c.held.last.session.server
 
 -- a piece adds no more than it has
 piece-few : (c : Captured) (p : Part) → last_octets (with_piece c p) ≤ last_octets c + length (spelled p)

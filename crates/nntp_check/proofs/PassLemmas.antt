@@ -20,7 +20,7 @@ begun-few (places.Digits source many value) octets begun at = rw at.1 (omega ari
 begun-few (places.Octets source left) octets begun at = rw (at.begun_is, at.whole) (simp append-nil (omega arith))
 
 -- both streams of the session that goes on have no more octets than came
-streams-few : (reader : CaptureReader) (came : List ℕ) (held : Held) → HasRead reader came held → length held.last.session.client + length held.last.session.server ≤ length came
+streams-few : (reader : CaptureReader) (came : List ℕ) (held : Held) → HasRead reader came held → length held.last.session.client.octets + length held.last.session.server ≤ length came
 streams-few reader came held r =
     let h = r.come in
     let begun = begun-few reader.place h.octets h.begun h.at in

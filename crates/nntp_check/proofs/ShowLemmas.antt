@@ -43,11 +43,11 @@ at-octets fed text shown named class p ends index at of is more =
 
 -- where there is room for octets, none but want of memory keeps a feed from taking them
 pub untaken-memory : (error : PairError) (side : Side) (octets : List ℕ) (before after : Fed) (text : List ℕ) (session : Recorded) → IsShown before text session
-    → length session.client + length session.server + length octets < 2 ^ 64 → IsUntaken error side octets before after → error ≡ errors.Memory
+    → length session.client.octets + length session.server + length octets < 2 ^ 64 → IsUntaken error side octets before after → error ≡ errors.Memory
 untaken-memory errors.Memory side octets before after text session p room is = refl
 untaken-memory errors.Failed side octets before after text session p room is = absurd (true≢false (sym is.0 ∙ p.works))
 untaken-memory errors.TooLong Client octets before after text session p room is =
-    let count : before.counts.client ≡ length session.client = p.fed_is.client_came in
+    let count : before.counts.client ≡ length session.client.octets = p.fed_is.client_came in
     let many : 2 ^ 64 ≤ before.counts.client + length octets = is.1 in
     absurd (omega arith)
 untaken-memory errors.TooLong Server octets before after text session p room is =

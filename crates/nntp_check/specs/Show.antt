@@ -1,7 +1,7 @@
 -- What `show` prints of sessions: their exchanges, and how their pairings end.
 use Rattle.std.specs.Prelude.{◌≡◌, ℕ, ◌+◌, ⊤, Bool, true, false, ◌==◌, ◌||◌, if◌then◌else◌, List, [], ◌∷◌, ◌++◌, length, Option, None, Some, codes, decimal}
 use Rattle.std.specs.List.{flat_map, list_all, list_any}
-use Rattle.nntp_wire.specs.Answer.{Response, group_is, numbers_are, sends, active_are, plain}
+use Rattle.nntp_wire.specs.Answer.{Response, group_is, numbers_are, sends, active_are, plain, overviews_are}
 use Rattle.nntp_pair.specs.{Pairing.{Paired, Ending, IsPairing, end, bad}, Classes.{class_of}}
 use Rattle.nntp_several.specs.Sessions.{Named}
 use Rattle.nntp_article.specs.Article.{Parts.{Line, is_empty, is_head, head_part}, Control.{ControlValue, cancel, new_group, rm_group, other, controls_of}}
@@ -16,7 +16,7 @@ prompt_text (Some line) = escaped line
 
 -- the line of an exchange: its index, what is answered, and the initial line
 abbrev pub exchange_line : Paired → List ℕ
-exchange_line pair = decimal pair.index ++ codes " " ++ prompt_text pair.line ++ codes " -> " ++ escaped pair.initial ++ codes "\n"
+exchange_line pair = decimal pair.index ++ codes " " ++ prompt_text pair.place.line ++ codes " -> " ++ escaped pair.initial ++ codes "\n"
 
 -- the line of a group that an answer names
 abbrev pub group_line : List ℕ → List ℕ
@@ -83,6 +83,7 @@ under (group_is marks name) = group_line name
 under (numbers_are marks name lines) = group_line name
 under (sends success) = under_block success.code success.block
 under (active_are lines) = []
+under (overviews_are lines) = []
 under (plain code) = []
 
 -- ---- the report

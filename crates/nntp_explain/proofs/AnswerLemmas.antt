@@ -1,7 +1,7 @@
 -- One answer more: where it leaves a session, and what is told of it.
 use Rattle.std.proofs.Common.{◌≡◌, ◌∙◌, sym, subst, refl, ap, ℕ, ◌+◌, ◌-◌, ◌≤◌, Bool, true, false, List, [], ◌∷◌, ◌++◌, Option, None, Some, length, arith}
 use Rattle.std.{proofs.Common.{append_assoc, append-nil, length-append}, specs.{Prelude.{nat_lt, cond, codes, decimal}, Option.{option_map}}}
-use Rattle.nntp_wire.specs.Answer.{Asked, Response, group_is, numbers_are, sends, active_are, plain}
+use Rattle.nntp_wire.specs.Answer.{Asked, Response, group_is, numbers_are, sends, active_are, plain, overviews_are}
 use Rattle.nntp_article.specs.{declared.session.profile.Profile.{Profile}, Session.{Machine.{Visible, start, visible_after}, Spool.{Name}}}
 use Rattle.nntp_pair.specs.{Pairing.{Paired, asked_at, asked_of, responses_of}, declared.class.Class.{Class}}
 use Rattle.nntp_theory.specs.{Classes.{visible_from, position_from}, Conflict.{placed_behind}, Reading.{Judged, Accepted, Refused, Unspelled, accepted_of}}
@@ -61,19 +61,20 @@ name_after (group_is m name) asked pair s v e = refl
 name_after (numbers_are m name lines) asked pair s v e = refl
 name_after (sends sent) asked pair s v e = same_group pair s ∙ e
 name_after (active_are lines) asked pair s v e = same_group pair s ∙ e
+name_after (overviews_are lines) asked pair s v e = same_group pair s ∙ e
 name_after (plain code) asked pair s v e = same_group pair s ∙ e
 
 name_from : (s : Option Standing) (v : Visible) (pairs : List Paired) → name_in s ≡ v.selected → name_in (standing_from s pairs) ≡ (visible_from v (asked_of pairs) (responses_of pairs)).selected
 name_from s v [] e = e
 name_from s v (pair ∷ pairs) e =
-    name_from (standing_after s pair) (visible_after v (asked_at pair.line) pair.response) pairs (name_after pair.response (asked_at pair.line) pair s v e)
+    name_from (standing_after s pair) (visible_after v (asked_at pair.place) pair.response) pairs (name_after pair.response (asked_at pair.place) pair s v e)
 
 -- an answer is placed behind the accepted ones, where it is placed by what is kept of them
 pub placed_there : (accepted : List Paired) (stands : Option Standing) (position : Position) (pair : Paired) → stands ≡ standing accepted
     → position ≡ position_from Nowhere (asked_of accepted) (responses_of accepted) → placed_at stands position pair ≡ placed_behind accepted pair
 placed_there accepted stands position pair stands-is position-is =
     let name : name_in stands ≡ (visible_from start.visible (asked_of accepted) (responses_of accepted)).selected = ap name_in stands-is ∙ name_from None start.visible accepted refl in
-    λ i. record { selected = name i; position = position-is i; asked = asked_at pair.line; response = pair.response }
+    λ i. record { selected = name i; position = position-is i; asked = asked_at pair.place; response = pair.response }
 
 -- ---- one answer more
 

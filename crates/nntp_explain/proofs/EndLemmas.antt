@@ -2,9 +2,9 @@
 use Rattle.std.proofs.Common.{◌≡◌, ◌≢◌, ◌∙◌, sym, subst, refl, ap, ℕ, ◌+◌, ◌<◌, ◌≤◌, ◌^◌, ◌==◌, Bool, List, [], ◌∷◌, ◌++◌, Option, None, Some, length, take}
 use Rattle.std.proofs.{Common.{drop, get_or, arith, append_assoc, append-nil, length-append}, lemmas.List.{take_more, take_all, length-take-le}}
 use Rattle.std.specs.Prelude.{count_by, is_some, codes, decimal}
-use Rattle.nntp_wire.specs.declared.{limit.Limit.{Limit}, marks.Marks.{Marks}}
+use Rattle.nntp_wire.specs.{declared.{limit.Limit.{Limit}, marks.Marks.{Marks}}, Session.{ClientStream}}
 use Rattle.nntp_article.specs.{declared.session.profile.Profile.{Profile}, Session.Limit.{profile_of}}
-use Rattle.nntp_pair.specs.{Pairing.{Paired, Unpaired, end, bad as ends_at, Ends, line_ahead, streams}, declared.class.PairClass.{PairClass}}
+use Rattle.nntp_pair.specs.{Pairing.{Paired, Unpaired, end, bad as ends_at, Ends, line_ahead, streams, has_line}, declared.class.PairClass.{PairClass}}
 use Rattle.nntp_pair.specs.{declared.class.PairClass.TheVariants.{Malformed as PairMalformed}, Classes.{class_of}}
 use Rattle.nntp_theory.specs.{Permitted.{ArePermittedBehind}, Reading.{accepted_of, IsReadingBy}}
 use Rattle.nntp_facts.{specs.Inner.Noted.{HasNoted}, proofs.Keeping.NotedSessions.{session_begins}}
@@ -19,7 +19,7 @@ use Rattle.nntp_explain.proofs.{SessionLemmas.{placed_with, behind_push, text_gr
 -- ---- one session ends
 
 -- where no octet is left
-pub read_at_end : (profile : Profile) (b : Before) (client server : List ℕ) (kept : Kept) (text : List ℕ) (left : Unpaired) (unanswered : ℕ)
+pub read_at_end : (profile : Profile) (b : Before) (client : ClientStream) (server : List ℕ) (kept : Kept) (text : List ℕ) (left : Unpaired) (unanswered : ℕ)
     → AreTold profile b client server kept text left → Ends left (end unanswered) → IsRead profile b client server kept text unanswered
 read_at_end profile b client server kept text left unanswered t ends =
     record {
@@ -38,10 +38,10 @@ read_at_end profile b client server kept text left unanswered t ends =
     }
 
 -- at octets that answer nothing
-pub read_at_octets : (profile : Profile) (b : Before) (client server : List ℕ) (kept new : Kept) (text after : List ℕ) (left : Unpaired)
+pub read_at_octets : (profile : Profile) (b : Before) (client : ClientStream) (server : List ℕ) (kept new : Kept) (text after : List ℕ) (left : Unpaired)
     (index : ℕ) (class : PairClass) (line : Option (List ℕ)) (octets : List ℕ) (unanswered : ℕ)
     → AreTold profile b client server kept text left → Ends left (ends_at class) → class ≢ PairMalformed → index ≡ left.index
-    → line ≡ line_ahead left.places → octets ≡ left.server → unanswered ≡ count_by is_some (drop 1 left.places) → new ≡ refuses kept
+    → line ≡ line_ahead left.places → octets ≡ left.server → unanswered ≡ count_by has_line (drop 1 left.places) → new ≡ refuses kept
     → ((first : List ℕ) × IsFirstLine octets first × GoesOn (IsTold kept.bad kept.stands index (class_of class) line first (IsEndReason kept.session class kept.closing octets)) (text
     ++ title_of kept) after)
     → IsRead profile b client server new after unanswered
@@ -108,7 +108,7 @@ kept_first profile kept h placed-is cited-is session-is =
     }
 
 -- of one more
-kept_next : (profile : Profile) (b : Before) (client server : List ℕ) (kept : Kept) (text : List ℕ) (unanswered : ℕ) (r : IsRead profile b client server kept text unanswered)
+kept_next : (profile : Profile) (b : Before) (client : ClientStream) (server : List ℕ) (kept : Kept) (text : List ℕ) (unanswered : ℕ) (r : IsRead profile b client server kept text unanswered)
     → length b.earlier + 1 < 2 ^ 64 → AreKept profile (b.earlier ++ accepted_of r.read.answers ∷ []) kept
 kept_next profile b client server kept text unanswered r few =
     let past = accepted_of r.read.answers in
@@ -253,7 +253,8 @@ number_small profile sessions i kept text unanswered h within few =
 -- ---- a session begins
 
 -- behind those that were read
-pub begun_told : (profile : Profile) (earlier : List (List Paired)) (kept new : Kept) (title : Option (List ℕ)) (text after client server : List ℕ) → AreKept profile earlier kept
+pub begun_told : (profile : Profile) (earlier : List (List Paired)) (kept new : Kept) (title : Option (List ℕ)) (text after : List ℕ) (client : ClientStream) (server : List ℕ)
+    → AreKept profile earlier kept
     → kept.bad ≤ length text → new ≡ begins title kept → after ≡ text
     → AreTold profile (record { earlier = earlier; bad = kept.bad; text = text; title = title }) client server new after (streams client server)
 begun_told profile earlier kept new title text after client server k few new-is after-is =
@@ -264,7 +265,8 @@ begun_told profile earlier kept new title text after client server k few new-is 
 abbrev pub alone : Before
 alone = record { earlier = []; bad = 0; text = []; title = None }
 
-pub told_alone : (profile : Profile) (kept new : Kept) (text after client server : List ℕ) → AreKept profile [] kept → kept.bad ≡ 0 → text ≡ [] → new ≡ begins None kept → after ≡ text
+pub told_alone : (profile : Profile) (kept new : Kept) (text after : List ℕ) (client : ClientStream) (server : List ℕ) → AreKept profile [] kept → kept.bad ≡ 0 → text ≡ [] → new ≡ begins None kept
+    → after ≡ text
     → AreTold profile alone client server new after (streams client server)
 told_alone profile kept new text after client server k bad-is text-is new-is after-is =
     subst (λ (q : ℕ × List ℕ). AreTold profile (record { earlier = []; bad = q.0; text = q.1; title = None }) client server new after (streams client server)) (λ i. (bad-is i, text-is i))
@@ -278,7 +280,7 @@ counts_are : (answers bad unanswered : ℕ) (c : Counts) → answers ≡ c.answe
 counts_are answers bad unanswered c a b u = λ i. counts_text (record { answers = a i; bad = b i; unanswered = u i })
 
 -- that of one session
-pub explained_alone : (limit : Limit) (marks : Marks) (client server : List ℕ) (kept : Kept) (text label whole : List ℕ) (answers bad unanswered printed : ℕ) (good : Bool)
+pub explained_alone : (limit : Limit) (marks : Marks) (client : ClientStream) (server : List ℕ) (kept : Kept) (text label whole : List ℕ) (answers bad unanswered printed : ℕ) (good : Bool)
     → IsRead (profile_of limit marks) alone client server kept text unanswered
     → answers ≡ length kept.cited → bad ≡ kept.bad → printed ≡ unanswered → label ≡ text ++ codes "end "
     → whole ≡ label ++ counts_text (record { answers = answers + bad; bad = bad; unanswered = printed }) → good ≡ (bad == 0)

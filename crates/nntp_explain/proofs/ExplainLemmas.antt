@@ -3,8 +3,9 @@ use Rattle.std.proofs.Common.{◌≡◌, ◌≢◌, ◌∙◌, sym, subst, refl,
 use Rattle.std.{proofs.Common.{append-nil, append_assoc, length-append, inl, inr, Bool, true, false, Result, Ok, Err}, specs.Prelude.{OnOk, IfOk}}
 use Rattle.std.specs.{List.{AllByRecursion, flat_map}, Option.{option_map_or}}
 use Rattle.nntp_wire.specs.{Answer.{Asked}, Misspelling.{misspelling}, declared.misspelling.Misspelling.{Misspelling, TheVariants.{WrongBlock}}}
+use Rattle.nntp_wire.specs.Session.{ClientStream}
 use Rattle.nntp_article.specs.{declared.session.profile.Profile.{Profile}, Session.{Machine.{Visible}, Misfit.{misfit}}}
-use Rattle.nntp_pair.specs.{Pairing.{Paired, Unpaired, IsNext, IsPassedOver, asked_at, streams}, declared.class.Class.{Class, TheVariants.{Malformed}}}
+use Rattle.nntp_pair.specs.{Pairing.{Paired, Unpaired, IsNext, IsPassedOver, asked_at, streams, Place}, declared.class.Class.{Class, TheVariants.{Malformed}}}
 use Rattle.nntp_pair.{specs.declared.class.Class.TheVariants.{OutOfPlace, Contradiction}, proofs.PassedLemmas.{passed-reason}}
 use Rattle.nntp_theory.specs.{Conflict.{Placed, placed_of, placed_behind, SomeHas, told_with, below, told}, Inner.Conflict.{FitsThere}}
 use Rattle.nntp_theory.specs.{Inner.Exchanged.{said_behind}, Permitted.{ArePermittedBehind}, Reading.{Judged, Accepted, Refused, Unspelled, accepted_of}}
@@ -28,7 +29,7 @@ use Rattle.nntp_theory.specs.declared.noted.Noted.TheVariants as kinds
 -- ---- how it goes on
 
 -- a session begins behind sessions that were read whole, and nothing is told of it yet
-pub told_first : (profile : Profile) (earlier : List (List Paired)) (kept : Kept) (title : Option (List ℕ)) (text client server : List ℕ) → AreKept profile earlier kept
+pub told_first : (profile : Profile) (earlier : List (List Paired)) (kept : Kept) (title : Option (List ℕ)) (text : List ℕ) (client : ClientStream) (server : List ℕ) → AreKept profile earlier kept
     → kept.bad ≤ length text → AreTold profile (record { earlier = earlier; bad = kept.bad; text = text; title = title }) client server (begins title kept) text (streams client server)
 told_first profile earlier kept title text client server k few =
     record {
@@ -53,13 +54,13 @@ told_first profile earlier kept title text client server k few =
     }
 
 -- the next exchange is due
-pub told_due : (profile : Profile) (b : Before) (client server : List ℕ) (kept : Kept) (text : List ℕ) (left behind : Unpaired) (pair : Paired)
+pub told_due : (profile : Profile) (b : Before) (client : ClientStream) (server : List ℕ) (kept : Kept) (text : List ℕ) (left behind : Unpaired) (pair : Paired)
     → AreTold profile b client server kept text left → IsNext left pair behind → IsDue kept.facts pair
 told_due profile b client server kept text left behind pair t next =
     due_behind (ArePermittedBehind profile b.earlier) profile b.earlier client server t.answers left behind pair kept.facts t.judged t.noted next
 
 -- the answers of its session are behind those of others
-pub others_placed : (profile : Profile) (b : Before) (client server : List ℕ) (kept : Kept) (text : List ℕ) (left : Unpaired) → AreTold profile b client server kept text left
+pub others_placed : (profile : Profile) (b : Before) (client : ClientStream) (server : List ℕ) (kept : Kept) (text : List ℕ) (left : Unpaired) → AreTold profile b client server kept text left
     → kept.others ≤ length kept.placed
 others_placed profile b client server kept text left t =
     let count = t.others_are in
@@ -67,7 +68,7 @@ others_placed profile b client server kept text left t =
     let both = length-append (flat_map placed_of b.earlier) (placed_of (accepted_of t.answers)) in
     omega (arith, count, all, both)
 
-pub others_cited : (profile : Profile) (b : Before) (client server : List ℕ) (kept : Kept) (text : List ℕ) (left : Unpaired) → AreTold profile b client server kept text left
+pub others_cited : (profile : Profile) (b : Before) (client : ClientStream) (server : List ℕ) (kept : Kept) (text : List ℕ) (left : Unpaired) → AreTold profile b client server kept text left
     → kept.others ≤ length kept.cited
 others_cited profile b client server kept text left t =
     let count = t.others_are in
@@ -77,7 +78,8 @@ others_cited profile b client server kept text left t =
     omega (arith, count, same, all, both)
 
 -- the reasons of contradictions stay what they are behind a further accepted answer
-reasons_behind : (profile : Profile) (b : Before) (client server : List ℕ) (kept : Kept) (text : List ℕ) (left : Unpaired) → AreTold profile b client server kept text left → (p : Placed) (c : Cited)
+reasons_behind : (profile : Profile) (b : Before) (client : ClientStream) (server : List ℕ) (kept : Kept) (text : List ℕ) (left : Unpaired) → AreTold profile b client server kept text left
+    → (p : Placed) (c : Cited)
     → AreReasons profile (record kept { placed = kept.placed ++ p ∷ []; cited = kept.cited ++ c ∷ [] }) kept.contradictions
 reasons_behind profile b client server kept text left t p c =
     let same = ap length t.placed_are ∙ as_many_of_all b.earlier (accepted_of t.answers) ∙ sym (ap length t.cited_are) in
@@ -107,7 +109,7 @@ refused_after answers pair bad old new placed all adds =
     ]
 
 -- an exchange that some spool permits
-told_good : (profile : Profile) (b : Before) (client server : List ℕ) (kept : Kept) (new : FactsKept) (text : List ℕ) (left behind : Unpaired) (pair : Paired)
+told_good : (profile : Profile) (b : Before) (client : ClientStream) (server : List ℕ) (kept : Kept) (new : FactsKept) (text : List ℕ) (left behind : Unpaired) (pair : Paired)
     → AreTold profile b client server kept text left → IsNext left pair behind
     → ((past : List Paired) → HasNotedBehind profile kept.facts b.earlier past → IsNotedBehind profile b.earlier past pair kept.facts new kinds.Consistent)
     → AreTold profile b client server (record (keeps kept.facts.position pair kept) { facts = new; closing = closing_after kept.session kept.closing kept.stands pair }) text behind
@@ -141,7 +143,7 @@ told_good profile b client server kept new text left behind pair t next notes =
     }
 
 -- the title that is still to be told
-pub title_left : (profile : Profile) (b : Before) (client server : List ℕ) (kept : Kept) (text : List ℕ) (left : Unpaired) (t : AreTold profile b client server kept text left)
+pub title_left : (profile : Profile) (b : Before) (client : ClientStream) (server : List ℕ) (kept : Kept) (text : List ℕ) (left : Unpaired) (t : AreTold profile b client server kept text left)
     → title_of kept ≡ option_map_or (title_line (number_behind b.earlier)) (untold b.title (count_bad t.answers)) []
 title_left profile b client server kept text left t = ap (λ (q : ℕ × Option (List ℕ)). option_map_or (title_line q.0) q.1 []) (λ i. (t.session_is i, t.title_is i))
 
@@ -153,7 +155,8 @@ few_more bad text line more few some =
     omega (arith, few, some, both, all)
 
 -- an answer that is bad is passed over
-told_bad : (profile : Profile) (b : Before) (client server : List ℕ) (kept : Kept) (text more : List ℕ) (left behind : Unpaired) (answer : Judged) (contradictions : List ToldContradiction)
+told_bad : (profile : Profile) (b : Before) (client : ClientStream) (server : List ℕ) (kept : Kept) (text more : List ℕ) (left behind : Unpaired) (answer : Judged)
+    (contradictions : List ToldContradiction)
     → (t : AreTold profile b client server kept text left) → IsJudged (ArePermittedBehind profile b.earlier) (accepted_of t.answers) left answer behind
     → accepted_with (accepted_of t.answers) answer ≡ accepted_of t.answers → IsExplained profile b.earlier b.bad t.answers answer more → 1 ≤ length more
     → AreReasons profile kept contradictions → AllByRecursion (λ c. WasRefused (t.answers ++ answer ∷ []) c.bad) contradictions
@@ -193,13 +196,14 @@ told_bad profile b client server kept text more left behind answer contradiction
     some-bad n e = omega (arith, e)
 
 -- so many answers are bad before the next one
-bad_before : (profile : Profile) (b : Before) (client server : List ℕ) (kept : Kept) (text : List ℕ) (left : Unpaired) (t : AreTold profile b client server kept text left) (index : ℕ)
+bad_before : (profile : Profile) (b : Before) (client : ClientStream) (server : List ℕ) (kept : Kept) (text : List ℕ) (left : Unpaired) (t : AreTold profile b client server kept text left) (index : ℕ)
     → index ≡ left.index → kept.bad ≡ b.bad + (index - length (accepted_of t.answers))
 bad_before profile b client server kept text left t index at =
     t.bad_are ∙ ap (λ n. b.bad + (n - length (accepted_of t.answers))) (sym (at ∙ index_behind (ArePermittedBehind profile b.earlier) client server t.answers left t.judged))
 
 -- what is told by what is kept is told by the accepted answers
-told_behind : (profile : Profile) (b : Before) (client server : List ℕ) (kept : Kept) (text : List ℕ) (left : Unpaired) (t : AreTold profile b client server kept text left) (index : ℕ) → index
+told_behind : (profile : Profile) (b : Before) (client : ClientStream) (server : List ℕ) (kept : Kept) (text : List ℕ) (left : Unpaired) (t : AreTold profile b client server kept text left)
+    (index : ℕ) → index
     ≡ left.index
     → (class : Class) (line : Option (List ℕ)) (initial : List ℕ) (Reason : List ℕ → Type 0) (more : List ℕ) → IsTold kept.bad kept.stands index class line initial Reason more
     → IsTold (b.bad + (index - length (accepted_of t.answers))) (standing (accepted_of t.answers)) index class line initial Reason more
@@ -207,51 +211,51 @@ told_behind profile b client server kept text left t index at class line initial
     subst (λ (q : ℕ × Option Standing). IsTold q.0 q.1 index class line initial Reason more) (λ i. (bad_before profile b client server kept text left t index at i, t.stands_there i)) is
 
 -- what is told of it explains it, since there is one
-unspelled_explained : (profile : Profile) (earlier : List (List Paired)) (before : ℕ) (past : List Judged) (left behind : Unpaired) (index : ℕ) (line : Option (List ℕ)) (initial : List ℕ)
-    (block : Option (List ℕ)) (text : List ℕ) → IsPassedOver left line initial block behind
-    → IsTold (bad_behind before past index) (standing (accepted_of past)) index Malformed line initial (λ reason. reason ≡ unspelled_lines (asked_at line) initial block) text
-    → IsExplained profile earlier before past (Unspelled index line initial block) text
-unspelled_explained profile earlier before past left behind index line initial block text passed is =
-    by (misspelling (asked_at line) initial block) (passed-reason left behind line initial block passed) is
+unspelled_explained : (profile : Profile) (earlier : List (List Paired)) (before : ℕ) (past : List Judged) (left behind : Unpaired) (index : ℕ) (place : Place) (initial : List ℕ)
+    (block : Option (List ℕ)) (text : List ℕ) → IsPassedOver left place initial block behind
+    → IsTold (bad_behind before past index) (standing (accepted_of past)) index Malformed place.line initial (λ reason. reason ≡ unspelled_lines (asked_at place) initial block) text
+    → IsExplained profile earlier before past (Unspelled index place initial block) text
+unspelled_explained profile earlier before past left behind index place initial block text passed is =
+    by (misspelling (asked_at place) initial block) (passed-reason left behind place initial block passed) is
   where
     by : (o : Option Misspelling) → MatchOption o ⊥ (λ why. why ≢ WrongBlock)
-        → IsTold (bad_behind before past index) (standing (accepted_of past)) index Malformed line initial (λ reason. reason ≡ option_map_or misspelling_line o []) text
-        → MatchOption o ⊥ (λ why. IsTold (bad_behind before past index) (standing (accepted_of past)) index Malformed line initial (λ reason. reason ≡ misspelling_line why) text)
+        → IsTold (bad_behind before past index) (standing (accepted_of past)) index Malformed place.line initial (λ reason. reason ≡ option_map_or misspelling_line o []) text
+        → MatchOption o ⊥ (λ why. IsTold (bad_behind before past index) (standing (accepted_of past)) index Malformed place.line initial (λ reason. reason ≡ misspelling_line why) text)
     by None none is = none
     by (Some why) some is = is
 
 -- a frame that spells nothing
-pub told_unspelled : (profile : Profile) (b : Before) (client server : List ℕ) (kept new : Kept) (text after : List ℕ)
-    (left behind : Unpaired) (index : ℕ) (asked : Asked) (line : Option (List ℕ)) (initial : List ℕ)
-    (block : Option (List ℕ)) → new ≡ refuses kept → asked ≡ asked_at line
-    → GoesOn (IsTold kept.bad kept.stands index Malformed line initial
+pub told_unspelled : (profile : Profile) (b : Before) (client : ClientStream) (server : List ℕ) (kept new : Kept) (text after : List ℕ)
+    (left behind : Unpaired) (index : ℕ) (asked : Asked) (place : Place) (initial : List ℕ)
+    (block : Option (List ℕ)) → new ≡ refuses kept → asked ≡ asked_at place
+    → GoesOn (IsTold kept.bad kept.stands index Malformed place.line initial
     (λ reason. reason ≡ unspelled_lines asked initial block)) (text ++ title_of kept) after
-    → AreTold profile b client server kept text left → index ≡ left.index → IsPassedOver left line initial block behind → AreTold profile b client server new after behind
-told_unspelled profile b client server kept new text after left behind index asked line initial block new-is asked-is (more, after-is, told) t at passed =
-    let here = subst (λ asked. IsTold kept.bad kept.stands index Malformed line initial (λ reason. reason ≡ unspelled_lines asked initial block) more) asked-is told in
+    → AreTold profile b client server kept text left → index ≡ left.index → IsPassedOver left place initial block behind → AreTold profile b client server new after behind
+told_unspelled profile b client server kept new text after left behind index asked place initial block new-is asked-is (more, after-is, told) t at passed =
+    let here = subst (λ asked. IsTold kept.bad kept.stands index Malformed place.line initial (λ reason. reason ≡ unspelled_lines asked initial block) more) asked-is told in
     subst (λ (q : Kept × List ℕ). AreTold profile b client server q.0 q.1 behind) (λ i. (sym new-is i, sym after-is i))
-    (told_bad profile b client server kept text more left behind (Unspelled index line initial block) kept.contradictions t (at, passed) refl
-    (unspelled_explained profile b.earlier b.bad t.answers left behind index line initial block more passed
-    (told_behind profile b client server kept text left t index at Malformed line initial (λ reason. reason ≡ unspelled_lines (asked_at line) initial block) more here))
-    (told_long kept.bad kept.stands index Malformed line initial (λ reason. reason ≡ unspelled_lines asked initial block) more told)
-    t.reasons (refused_still t.answers (Unspelled index line initial block) kept.contradictions t.refused))
+    (told_bad profile b client server kept text more left behind (Unspelled index place initial block) kept.contradictions t (at, passed) refl
+    (unspelled_explained profile b.earlier b.bad t.answers left behind index place initial block more passed
+    (told_behind profile b client server kept text left t index at Malformed place.line initial (λ reason. reason ≡ unspelled_lines (asked_at place) initial block) more here))
+    (told_long kept.bad kept.stands index Malformed place.line initial (λ reason. reason ≡ unspelled_lines asked initial block) more told)
+    t.reasons (refused_still t.answers (Unspelled index place initial block) kept.contradictions t.refused))
 
 -- what is told of a refused answer of this class explains it
 refused_explained : (profile : Profile) (earlier : List (List Paired)) (before : ℕ) (past : List Judged) (pair : Paired) (class : Class) (text : List ℕ)
     → class_behind profile (accepted_of past) (Refused pair) ≡ Some class
-    → IsTold (bad_behind before past pair.index) (standing (accepted_of past)) pair.index class pair.line pair.initial
+    → IsTold (bad_behind before past pair.index) (standing (accepted_of past)) pair.index class pair.place.line pair.initial
     (IsReason profile earlier (bad_behind before past pair.index) past pair class) text
     → IsExplained profile earlier before past (Refused pair) text
 refused_explained profile earlier before past pair class text class-is is =
     subst (λ o. MatchOption o ⊥ (λ class. IsTold (bad_behind before past pair.index)
-    (standing (accepted_of past)) pair.index class pair.line pair.initial (IsReason profile earlier (bad_behind before past pair.index) past pair class) text))
+    (standing (accepted_of past)) pair.index class pair.place.line pair.initial (IsReason profile earlier (bad_behind before past pair.index) past pair class) text))
     (sym class-is) is
 
 -- an exchange that doesn't fit
-told_unfitting : (profile : Profile) (b : Before) (client server : List ℕ) (kept : Kept) (text : List ℕ) (left behind : Unpaired) (pair : Paired) (more : List ℕ)
+told_unfitting : (profile : Profile) (b : Before) (client : ClientStream) (server : List ℕ) (kept : Kept) (text : List ℕ) (left behind : Unpaired) (pair : Paired) (more : List ℕ)
     → AreTold profile b client server kept text left → IsNext left pair behind
     → ((past : List Paired) → HasNotedBehind profile kept.facts b.earlier past → IsNotedBehind profile b.earlier past pair kept.facts kept.facts kinds.OutOfPlace)
-    → IsTold kept.bad kept.stands pair.index OutOfPlace pair.line pair.initial
+    → IsTold kept.bad kept.stands pair.index OutOfPlace pair.place.line pair.initial
     (λ reason. reason ≡ unfitting_told kept pair) more
     → AreTold profile b client server (record (refuses kept) { closing = closing_after kept.session kept.closing kept.stands pair }) ((text ++ title_of kept) ++ more) behind
 told_unfitting profile b client server kept text left behind pair more t next notes is =
@@ -262,12 +266,12 @@ told_unfitting profile b client server kept text left behind pair more t next no
     let told = own_part kept.others kept.cited (cited_each 1 b.earlier) (cited number past) (t.others_are ∙ sym (as_many_cited 1 b.earlier)) t.cited_are in
     told_bad profile b client server kept text more left behind (Refused pair) kept.contradictions t judged.0 refl
     (refused_explained profile b.earlier b.bad t.answers pair OutOfPlace more judged.1
-    (told_as (bad_behind b.bad t.answers pair.index) (standing past) pair.index OutOfPlace pair.line pair.initial _
+    (told_as (bad_behind b.bad t.answers pair.index) (standing past) pair.index OutOfPlace pair.place.line pair.initial _
     (IsReason profile b.earlier (bad_behind b.bad t.answers pair.index) t.answers pair OutOfPlace) more
-    (λ reason is. is ∙ ap (λ (q : Profile × Visible × ℕ × List Placed × List Cited). option_map_or (unfitting_lines q.2 q.3 q.4 pair.response) (misfit q.0 q.1 (asked_at pair.line) pair.response) [])
+    (λ reason is. is ∙ ap (λ (q : Profile × Visible × ℕ × List Placed × List Cited). option_map_or (unfitting_lines q.2 q.3 q.4 pair.response) (misfit q.0 q.1 (asked_at pair.place) pair.response) [])
     (λ i. (t.noted.profile_is i, t.noted.visible i, t.session_is i, placed i, told i)))
-    (told_behind profile b client server kept text left t pair.index next.index OutOfPlace pair.line pair.initial _ more is)))
-    (told_long kept.bad kept.stands pair.index OutOfPlace pair.line pair.initial (λ reason. reason ≡ unfitting_told kept pair) more is)
+    (told_behind profile b client server kept text left t pair.index next.index OutOfPlace pair.place.line pair.initial _ more is)))
+    (told_long kept.bad kept.stands pair.index OutOfPlace pair.place.line pair.initial (λ reason. reason ≡ unfitting_told kept pair) more is)
     t.reasons (refused_still t.answers (Refused pair) kept.contradictions t.refused)
 
 -- the reason of a contradiction, by what follows from that one was told before
@@ -279,10 +283,10 @@ told_before false P Q here profile facts bad answers told text f (inl (conflict,
 told_before false P Q here profile facts bad answers told text f (inr some) = inr some
 
 -- an exchange that contradicts those that were accepted
-told_contradiction : (profile : Profile) (b : Before) (client server : List ℕ) (kept : Kept) (text : List ℕ) (left behind : Unpaired) (pair : Paired) (more : List ℕ)
+told_contradiction : (profile : Profile) (b : Before) (client : ClientStream) (server : List ℕ) (kept : Kept) (text : List ℕ) (left behind : Unpaired) (pair : Paired) (more : List ℕ)
     (contradictions : List ToldContradiction) → (t : AreTold profile b client server kept text left) → IsNext left pair behind
     → ((past : List Paired) → HasNotedBehind profile kept.facts b.earlier past → IsNotedBehind profile b.earlier past pair kept.facts kept.facts kinds.Contradiction)
-    → IsTold kept.bad kept.stands pair.index Contradiction pair.line pair.initial
+    → IsTold kept.bad kept.stands pair.index Contradiction pair.place.line pair.initial
     (TellsNext kept (said_behind profile.marks b.earlier (accepted_of t.answers)) (placed_at kept.stands kept.facts.position pair)) more
     → AreReasons profile kept contradictions → AddsReason (placed_at kept.stands kept.facts.position pair) kept.contradictions contradictions
     → AreTold profile b client server (record (refuses kept) { closing = closing_after kept.session kept.closing kept.stands pair; contradictions = contradictions })
@@ -298,19 +302,19 @@ told_contradiction profile b client server kept text left behind pair more contr
     λ h. all_at (λ (c : ToldContradiction). WasRefused t.answers c.bad) (record { bad = bad; reason = h.0 }) kept.contradictions t.refused (in_contains _ kept.contradictions h.1) in
     told_bad profile b client server kept text more left behind (Refused pair) contradictions t judged.0 refl
     (refused_explained profile b.earlier b.bad t.answers pair Contradiction more judged.1
-    (told_as (bad_behind b.bad t.answers pair.index) (standing past) pair.index Contradiction pair.line pair.initial _
+    (told_as (bad_behind b.bad t.answers pair.index) (standing past) pair.index Contradiction pair.place.line pair.initial _
     (IsReason profile b.earlier (bad_behind b.bad t.answers pair.index) t.answers pair Contradiction) more
     (λ reason is. subst (λ (q : ℕ × ℕ × Profile × Placed × List Placed × List Cited).
     IsContradiction (are_looked_for q.0 (length q.4)) (WasRefused t.answers q.3) q.1 q.2 facts q.3 q.4 q.5 reason)
     (λ i. (before i, t.session_is i, t.noted.profile_is i, placed i, t.placed_are i, t.cited_are i))
     (told_before (are_looked_for kept.bad (length kept.placed)) (HasReason kept bad) (WasRefused t.answers bad) kept.session (profile_kept kept.facts) facts bad kept.placed
     kept.cited reason told is))
-    (told_behind profile b client server kept text left t pair.index next.index Contradiction pair.line pair.initial _ more is)))
-    (told_long kept.bad kept.stands pair.index Contradiction pair.line pair.initial (TellsNext kept facts bad) more is)
+    (told_behind profile b client server kept text left t pair.index next.index Contradiction pair.place.line pair.initial _ more is)))
+    (told_long kept.bad kept.stands pair.index Contradiction pair.place.line pair.initial (TellsNext kept facts bad) more is)
     reasons (refused_after t.answers pair bad kept.contradictions contradictions (sym placed) t.refused adds)
 
 -- what the search for its reasons asks for
-contradiction_due : (profile : Profile) (b : Before) (client server : List ℕ) (kept : Kept) (text : List ℕ) (left behind : Unpaired) (pair : Paired)
+contradiction_due : (profile : Profile) (b : Before) (client : ClientStream) (server : List ℕ) (kept : Kept) (text : List ℕ) (left behind : Unpaired) (pair : Paired)
     → profile_kept kept.facts ≡ profile → AreTold profile b client server kept text left → IsNext left pair behind
     → ((past : List Paired) → HasNotedBehind profile kept.facts b.earlier past → IsNotedBehind profile b.earlier past pair kept.facts kept.facts kinds.Contradiction)
     → AllByRecursion (FitsThere (profile_kept kept.facts)) (placed_at kept.stands kept.facts.position pair ∷ kept.placed)
@@ -339,7 +343,7 @@ pub if_ok : {T E : Type 0} {P Q R : T → Type 0} (r : Result T E) → IfOk r P 
 if_ok (Ok x) p q f = f x p q
 if_ok (Err e) p q f = tt
 
-pub noted_consistent : (profile : Profile) (b : Before) (client server : List ℕ) (kept new : Kept) (facts : FactsKept) (noted : Noted)
+pub noted_consistent : (profile : Profile) (b : Before) (client : ClientStream) (server : List ℕ) (kept new : Kept) (facts : FactsKept) (noted : Noted)
     (position : Position) (closing : Option Cited) (text after : List ℕ) (left behind : Unpaired) (pair : Paired)
     → noted ≡ kinds.Consistent → position ≡ kept.facts.position → closing ≡ closing_after kept.session kept.closing kept.stands pair
     → ((past : List Paired) → HasNotedBehind profile kept.facts b.earlier past → IsNotedBehind profile b.earlier past pair kept.facts facts noted)
@@ -350,12 +354,12 @@ noted_consistent profile b client server kept new facts noted position closing t
     (λ i. (sym (new-is ∙ ap (λ (q : Position × Option Cited). keeps q.0 pair (record kept { facts = facts; closing = q.1 })) (λ i. (position-is i, closing-is i))) i, sym after-is i))
     (told_good profile b client server kept facts text left behind pair t next (λ past h. subst (IsNotedBehind profile b.earlier past pair kept.facts facts) is (notes past h)))
 
-pub noted_out_of_place : (profile : Profile) (b : Before) (client server : List ℕ) (kept new : Kept) (facts : FactsKept) (noted : Noted)
+pub noted_out_of_place : (profile : Profile) (b : Before) (client : ClientStream) (server : List ℕ) (kept new : Kept) (facts : FactsKept) (noted : Noted)
     (closing : Option Cited) (text after : List ℕ) (left behind : Unpaired) (pair : Paired)
     → noted ≡ kinds.OutOfPlace → closing ≡ closing_after kept.session kept.closing kept.stands pair
     → ((past : List Paired) → HasNotedBehind profile kept.facts b.earlier past → IsNotedBehind profile b.earlier past pair kept.facts facts noted)
     → new ≡ refuses (record kept { facts = facts; closing = closing })
-    → GoesOn (IsTold kept.bad kept.stands pair.index OutOfPlace pair.line pair.initial
+    → GoesOn (IsTold kept.bad kept.stands pair.index OutOfPlace pair.place.line pair.initial
     (λ reason. reason ≡ unfitting_told (record kept { facts = facts; closing = closing }) pair)) (text ++ title_of kept) after
     → AreTold profile b client server kept text left → IsNext left pair behind → AreTold profile b client server new after behind
 noted_out_of_place profile b client server kept new facts noted closing text after left behind pair is closing-is notes new-is (more, after-is, told) t next =
@@ -365,11 +369,11 @@ noted_out_of_place profile b client server kept new facts noted closing text aft
     (λ i. (sym (new-is ∙ ap (λ (q : FactsKept × Option Cited). refuses (record kept { facts = q.0; closing = q.1 })) (λ i. (same i, closing-is i))) i, sym after-is i))
     (told_unfitting profile b client server kept text left behind pair more t next
     (λ past h. subst (λ f. IsNotedBehind profile b.earlier past pair kept.facts f kinds.OutOfPlace) same (at past h))
-    (subst (λ (f : FactsKept). IsTold kept.bad kept.stands pair.index OutOfPlace pair.line pair.initial
+    (subst (λ (f : FactsKept). IsTold kept.bad kept.stands pair.index OutOfPlace pair.place.line pair.initial
     (λ reason. reason ≡ unfitting_told (record kept { facts = f }) pair) more) same told))
 
 -- what all that was accepted says refuses it
-refused_here : (profile : Profile) (b : Before) (client server : List ℕ) (kept : Kept) (facts : FactsKept) (noted : Noted) (position : Position) (text : List ℕ)
+refused_here : (profile : Profile) (b : Before) (client : ClientStream) (server : List ℕ) (kept : Kept) (facts : FactsKept) (noted : Noted) (position : Position) (text : List ℕ)
     (left behind : Unpaired) (pair : Paired) → noted ≡ kinds.Contradiction → position ≡ kept.facts.position
     → ((past : List Paired) → HasNotedBehind profile kept.facts b.earlier past → IsNotedBehind profile b.earlier past pair kept.facts facts noted)
     → (t : AreTold profile b client server kept text left) → IsNext left pair behind
@@ -385,14 +389,14 @@ refused_here profile b client server kept facts noted position text left behind 
     (held_refused profile kept.facts b.earlier past pair t.noted due (subst (λ f. IsNotedBehind profile b.earlier past pair kept.facts f kinds.Contradiction) same at) few)
 
 -- an exchange that contradicts those that were accepted, by what is noted of it
-pub noted_contradiction : (profile : Profile) (b : Before) (client server : List ℕ) (kept new : Kept) (facts : FactsKept) (noted : Noted)
+pub noted_contradiction : (profile : Profile) (b : Before) (client : ClientStream) (server : List ℕ) (kept new : Kept) (facts : FactsKept) (noted : Noted)
     (position : Position) (closing : Option Cited) (contradictions : List ToldContradiction) (text after : List ℕ) (left behind : Unpaired) (pair : Paired)
     → noted ≡ kinds.Contradiction → position ≡ kept.facts.position → closing ≡ closing_after kept.session kept.closing kept.stands pair
     → ((past : List Paired) → HasNotedBehind profile kept.facts b.earlier past → IsNotedBehind profile b.earlier past pair kept.facts facts noted)
     → new ≡ record (refuses (record kept { facts = facts; closing = closing })) { contradictions = contradictions } → AreReasons (profile_kept facts) kept contradictions
     → AddsReason (placed_at kept.stands position pair) kept.contradictions contradictions
     → ((said : List Fact) → IsRefused (record kept { facts = facts }) said (placed_at kept.stands position pair)
-    → GoesOn (IsTold kept.bad kept.stands pair.index Contradiction pair.line pair.initial
+    → GoesOn (IsTold kept.bad kept.stands pair.index Contradiction pair.place.line pair.initial
     (TellsNext (record kept { facts = facts }) said (placed_at kept.stands position pair))) (text ++ title_of kept) after)
     → AreTold profile b client server kept text left → IsNext left pair behind → AreTold profile b client server new after behind
 noted_contradiction profile b client server kept new facts noted position closing contradictions text after left behind pair is position-is closing-is notes new-is reasons adds
@@ -413,13 +417,13 @@ noted_contradiction profile b client server kept new facts noted position closin
     ))
     (told_contradiction profile b client server kept text left behind pair more contradictions t next
     (λ past h. subst (λ f. IsNotedBehind profile b.earlier past pair kept.facts f kinds.Contradiction) same (at past h))
-    (subst (λ (q : FactsKept × Position). IsTold kept.bad kept.stands pair.index Contradiction pair.line pair.initial
+    (subst (λ (q : FactsKept × Position). IsTold kept.bad kept.stands pair.index Contradiction pair.place.line pair.initial
     (TellsNext (record kept { facts = q.0 }) said (placed_at kept.stands q.1 pair)) more) (λ i. (same i, position-is i)) told)
     (subst (λ profile. AreReasons profile kept contradictions) (ap profile_kept same ∙ t.noted.profile_is) reasons)
     (subst (λ at. AddsReason (placed_at kept.stands at pair) kept.contradictions contradictions) position-is adds))
 
 -- and the reasons that are kept are those by what is noted
-pub noted_contradiction_reasons : (b : Before) (client server : List ℕ) (kept : Kept) (facts : FactsKept) (noted : Noted) (text : List ℕ) (left behind : Unpaired) (pair : Paired)
+pub noted_contradiction_reasons : (b : Before) (client : ClientStream) (server : List ℕ) (kept : Kept) (facts : FactsKept) (noted : Noted) (text : List ℕ) (left behind : Unpaired) (pair : Paired)
     → noted ≡ kinds.Contradiction
     → ((past : List Paired) → HasNotedBehind (profile_kept kept.facts) kept.facts b.earlier past → IsNotedBehind (profile_kept kept.facts) b.earlier past pair kept.facts facts noted)
     → AreTold (profile_kept kept.facts) b client server kept text left → AreReasons (profile_kept facts) kept kept.contradictions
@@ -429,7 +433,8 @@ noted_contradiction_reasons b client server kept facts noted text left behind pa
     subst (λ f. AreReasons (profile_kept f) kept kept.contradictions) (sym same) t.reasons
 
 -- what the search for its reasons asks for
-pub noted_contradiction_due : (b : Before) (client server : List ℕ) (kept : Kept) (facts : FactsKept) (noted : Noted) (position : Position) (text : List ℕ) (left behind : Unpaired) (pair : Paired)
+pub noted_contradiction_due : (b : Before) (client : ClientStream) (server : List ℕ) (kept : Kept) (facts : FactsKept) (noted : Noted) (position : Position) (text : List ℕ) (left behind : Unpaired)
+    (pair : Paired)
     → noted ≡ kinds.Contradiction → position ≡ kept.facts.position
     → ((past : List Paired) → HasNotedBehind (profile_kept kept.facts) kept.facts b.earlier past → IsNotedBehind (profile_kept kept.facts) b.earlier past pair kept.facts facts noted)
     → AreTold (profile_kept kept.facts) b client server kept text left → IsNext left pair behind

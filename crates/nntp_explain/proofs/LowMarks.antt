@@ -3,7 +3,8 @@ use Rattle.std.proofs.Common.{◌≡◌, ◌⊎◌, ◌∙◌, inl, inr, sym, ap
 use Rattle.std.{proofs.{Common.{Some, MatchOption, length}, lemmas.Bool.Decides.{nat_tests}}, specs.{Prelude.{◌&&◌, if◌then◌else◌}, Option.{option_map}}}
 use Rattle.std.specs.{FinMap.{FinMap, get, insert, get-insert, get-empty}, Ordering.{nat_cmp, eq_by_cmp}, Cmp.Lexicographic.{slice_cmp, same_text}}
 use Rattle.std.specs.Cmp.Lexicographic.{nat_list_cmp_total, texts_ties, bytes_decides}
-use Rattle.nntp_wire.specs.{Answer.{Asked, Response, group_is, numbers_are, sends, active_are, plain}, declared.water_marks.WaterMarks.{WaterMarks}}
+use Rattle.nntp_wire.specs.Answer.{Asked, Response, group_is, numbers_are, sends, active_are, plain, overviews_are}
+use Rattle.nntp_wire.specs.declared.water_marks.WaterMarks.{WaterMarks}
 use Rattle.nntp_article.specs.{Session.{Spool.{Name}, Machine.{Visible, visible_after, selects, are_zeros, is_same, start}}, Inner.Misfit.{IsAbove}}
 use Rattle.nntp_pair.specs.Pairing.{Paired, asked_of, responses_of}
 use Rattle.nntp_said.specs.{Asks.{position_after}, declared.position.Position.{Position, TheVariants.{Nowhere}}}
@@ -58,6 +59,7 @@ given_by v asked (group_is m g) name low e = kept_by_marks v m g name low e
 given_by v asked (numbers_are m g lines) name low e = kept_by_marks v m g name low e
 given_by v asked (sends sent) name low e = inl e
 given_by v asked (active_are lines) name low e = inl e
+given_by v asked (overviews_are lines) name low e = inl e
 given_by v asked (plain code) name low e = inl e
 
 -- so a low mark was there before the answers, or one of them gives it

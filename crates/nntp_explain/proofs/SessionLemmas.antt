@@ -13,23 +13,25 @@ use Rattle.nntp_printing.specs.Title.{title_line}
 use Rattle.nntp_explain.specs.{Explaining.{counts_behind}, Inner.ExplainingView.{untold, title_told, accepted_behind}, Standing.{Standing, standing}}
 use Rattle.nntp_explain.specs.Standing.{standing_after, cited, cited_at, cited_from, cited_each, number_behind, cited_of_all}
 use Rattle.nntp_explain.proofs.AnswerLemmas.{cited_push, few_accepted}
+use Rattle.nntp_wire.specs.Session.{ClientStream}
 
 -- ---- its answers, whatever decides which exchanges stand
 
 -- one answer more
-pub one_more_behind : (Stand : List Paired → Type 0) (client server : List ℕ) (answers : List Judged) (answer : Judged) (left after : Unpaired)
+pub one_more_behind : (Stand : List Paired → Type 0) (client : ClientStream) (server : List ℕ) (answers : List Judged) (answer : Judged) (left after : Unpaired)
     → AreJudged Stand [] (streams client server) answers left → IsJudged Stand (accepted_of answers) left answer after
     → AreJudged Stand [] (streams client server) (answers ++ answer ∷ []) after
 one_more_behind Stand client server answers answer left after judged is =
     judged_push Stand [] (streams client server) left after answers answer judged (subst (λ past. IsJudged Stand past left answer after) (sym (all_behind [] answers)) is)
 
 -- the index counts them
-pub index_behind : (Stand : List Paired → Type 0) (client server : List ℕ) (answers : List Judged) (left : Unpaired)
+pub index_behind : (Stand : List Paired → Type 0) (client : ClientStream) (server : List ℕ) (answers : List Judged) (left : Unpaired)
     → AreJudged Stand [] (streams client server) answers left → left.index ≡ length answers
 index_behind Stand client server answers left judged = let count = judged_count Stand [] (streams client server) left answers judged in omega (arith, count)
 
 -- the next pair may be noted
-pub due_behind : (Stand : List Paired → Type 0) (profile : Profile) (earlier : List (List Paired)) (client server : List ℕ) (answers : List Judged) (left after : Unpaired) (pair : Paired)
+pub due_behind : (Stand : List Paired → Type 0) (profile : Profile) (earlier : List (List Paired)) (client : ClientStream) (server : List ℕ) (answers : List Judged) (left after : Unpaired)
+    (pair : Paired)
     (facts : FactsKept)
     → AreJudged Stand [] (streams client server) answers left → HasNotedBehind profile facts earlier (accepted_of answers) → IsNext left pair after → IsDue facts pair
 due_behind Stand profile earlier client server answers left after pair facts judged noted next =
@@ -51,7 +53,7 @@ cited_count session s (pair ∷ pairs) = let rest = cited_count session (standin
 placed_count : (v : Visible) (at : Position) (pairs : List Paired) → length (placed_from v at (asked_of pairs) (responses_of pairs)) ≡ length pairs
 placed_count v at [] = refl
 placed_count v at (pair ∷ pairs) =
-    let rest = placed_count (visible_after v (asked_at pair.line) pair.response) (position_after at (asked_at pair.line) pair.response) pairs in
+    let rest = placed_count (visible_after v (asked_at pair.place) pair.response) (position_after at (asked_at pair.place) pair.response) pairs in
     omega (arith, rest)
 
 -- as many are cited as are placed

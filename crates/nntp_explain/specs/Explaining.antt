@@ -1,7 +1,7 @@
 -- What `explain` prints of sessions: each bad answer, where its session stands there, and why it is bad.
 use Rattle.std.specs.Prelude.{◌≡◌, ℕ, zero, suc, ◌+◌, ◌-◌, ◌*◌, ◌≤◌, ◌==◌, ◌||◌, ◌⊎◌, nat_lt, if◌then◌else◌, cond, Bool, List, [], ◌∷◌, ◌++◌, length, drop}
 use Rattle.std.specs.{Prelude.{count_by, is_some, map, Option, Some, MatchOption, codes, decimal}, Option.{option_map, option_map_or}}
-use Rattle.nntp_wire.specs.{Lines.{lines_of_stream}, declared.{limit.Limit.{Limit}, marks.Marks.{Marks}}, Misspelling.{misspelling}}
+use Rattle.nntp_wire.specs.{Lines.{lines_of_stream}, declared.{limit.Limit.{Limit}, marks.Marks.{Marks}}, Misspelling.{misspelling}, Session.{ClientStream}}
 use Rattle.nntp_article.specs.{Session.{Machine.{Visible, start}, Limit.{profile_of}, Misfit.{misfit}}, declared.session.profile.Profile.{Profile}}
 use Rattle.nntp_said.specs.Facts.{Fact}
 use Rattle.nntp_theory.specs.{Answered.{facts_in, facts_of_all}, Permitted.{exchanged}, Classes.{visible_from}, Conflict.{Placed, placed_of, placed_behind}}
@@ -9,7 +9,7 @@ use Rattle.nntp_theory.specs.{Conflict.{Core, IsFound, places_of, told, told_wit
 use Rattle.nntp_theory.specs.Reading.{Unspelled, accepted_of, class_behind, IsReading}
 use Rattle.nntp_pair.specs.{Classes.{class_of}, declared.class.{Class.{Class, TheVariants.{Malformed, OutOfPlace, Contradiction}}, PairClass.{PairClass}}}
 use Rattle.nntp_pair.specs.{declared.class.PairClass.TheVariants.{Surplus as PairSurplus, Cut as PairCut, Malformed as PairMalformed}, Pairing.{Paired}}
-use Rattle.nntp_pair.specs.Pairing.{Unpaired, Ending, end, bad as ends_at, line_ahead, asked_at, asked_of, responses_of}
+use Rattle.nntp_pair.specs.Pairing.{Unpaired, Ending, end, bad as ends_at, line_ahead, asked_at, asked_of, responses_of, has_line}
 use Rattle.nntp_printing.specs.{BadAnswer.{IsFirstLine, bad_lines, shown}, Title.{title_line}}
 use Rattle.nntp_several.specs.{Conflict.{placed_of_all}, Reading.{ReadSession, AreReadings, IsReadingOfAll}, Sessions.{Named, unnamed}}
 use Rattle.nntp_explain.specs.{Reasons.{standing_line, unfitting_lines, misspelling_line, cut_line, surplus_lines}, Says.{conflict_lines}, Standing.{Standing}}
@@ -76,7 +76,7 @@ abbrev pub IsReason : Profile → List (List Paired) → ℕ → List Judged →
 IsReason profile earlier before past pair OutOfPlace text =
     let here = number_behind earlier in
     let accepted = accepted_of past in
-    text ≡ option_map_or (unfitting_lines here (placed_of accepted) (cited here accepted) pair.response) (misfit profile (visible_left accepted) (asked_at pair.line) pair.response) []
+    text ≡ option_map_or (unfitting_lines here (placed_of accepted) (cited here accepted) pair.response) (misfit profile (visible_left accepted) (asked_at pair.place) pair.response) []
 IsReason profile earlier before past pair Contradiction text =
     let bad = placed_behind (accepted_of past) pair in
     let answers = placed_of_all earlier (accepted_of past) in
@@ -96,10 +96,10 @@ IsExplained profile earlier before past (Accepted pair) text = text ≡ []
 IsExplained profile earlier before past (Refused pair) text =
     let bad = bad_behind before past pair.index in
     MatchOption (class_behind profile (accepted_of past) (Refused pair)) ⊥
-    (λ class. IsTold bad (standing (accepted_of past)) pair.index class pair.line pair.initial (IsReason profile earlier bad past pair class) text)
-IsExplained profile earlier before past (Unspelled index line initial block) text =
-    MatchOption (misspelling (asked_at line) initial block) ⊥
-    (λ why. IsTold (bad_behind before past index) (standing (accepted_of past)) index Malformed line initial (λ reason. reason ≡ misspelling_line why) text)
+    (λ class. IsTold bad (standing (accepted_of past)) pair.index class pair.place.line pair.initial (IsReason profile earlier bad past pair class) text)
+IsExplained profile earlier before past (Unspelled index place initial block) text =
+    MatchOption (misspelling (asked_at place) initial block) ⊥
+    (λ why. IsTold (bad_behind before past index) (standing (accepted_of past)) index Malformed place.line initial (λ reason. reason ≡ misspelling_line why) text)
 
 -- the text is what is printed of answers behind these of their session, one after the other
 abbrev pub AreExplained : Profile → List (List Paired) → ℕ → List Judged → List Judged → List ℕ → Type 0
@@ -145,7 +145,7 @@ pub record Counts : Type 0 where
 -- those of a session as it is read: octets that are left are one more answer, and the lines behind its place have none
 abbrev pub counts_behind : List Judged → Unpaired → Ending → Counts
 counts_behind answers left (end unanswered) = record { answers = length answers; bad = count_bad answers; unanswered = unanswered }
-counts_behind answers left (ends_at class) = record { answers = length answers + 1; bad = count_bad answers + 1; unanswered = count_by is_some (drop 1 left.places) }
+counts_behind answers left (ends_at class) = record { answers = length answers + 1; bad = count_bad answers + 1; unanswered = count_by has_line (drop 1 left.places) }
 
 abbrev pub counts_of : ReadSession → Unpaired → Counts
 counts_of read left = counts_behind read.answers left read.ending
@@ -155,7 +155,7 @@ abbrev pub counts_text : Counts → List ℕ
 counts_text c = codes "answers=" ++ decimal c.answers ++ codes " bad=" ++ decimal c.bad ++ codes " unanswered=" ++ decimal c.unanswered ++ codes "\n"
 
 -- the text tells of both streams all that is bad, by the limit and the marks; and they are without fault, if no answer is bad
-pub record IsExplanation (limit : Limit) (marks : Marks) (client server text : List ℕ) (without_fault : Bool) : Type 0 where
+pub record IsExplanation (limit : Limit) (marks : Marks) (client : ClientStream) (server text : List ℕ) (without_fault : Bool) : Type 0 where
   pub read : ReadSession
   pub reading : IsReading (profile_of limit marks) client server read.answers read.ending
   pub lines : List ℕ

@@ -26,7 +26,7 @@ selected name index = record { name = name; selected_by = index; position = Firs
 -- the position in a group behind an answer
 abbrev pub moved : Paired → Standing → Standing
 moved pair s =
-    let position = position_after s.position (asked_at pair.line) pair.response in
+    let position = position_after s.position (asked_at pair.place) pair.response in
     record s { position = position; moved_by = mover s.position position s.moved_by pair.index }
 
 -- where an answer leaves the session
@@ -59,7 +59,7 @@ pub record Cited : Type 0 where
 
 -- an answer of a session, before which the session stands there
 abbrev pub cited_at : ℕ → Option Standing → Paired → Cited
-cited_at session s pair = record { session = session; index = pair.index; line = pair.line; initial = pair.initial; stands = s }
+cited_at session s pair = record { session = session; index = pair.index; line = pair.place.line; initial = pair.initial; stands = s }
 
 -- answers of a session from there on, one after the other
 abbrev pub cited_from : ℕ → Option Standing → List Paired → List Cited
@@ -87,7 +87,7 @@ cited_of_all earlier pairs = cited_each 1 earlier ++ cited (number_behind earlie
 
 -- this answer, before which the session stands there, if it closes the connection, and else the one that closed it before
 abbrev pub closing_after : ℕ → Option Cited → Option Standing → Paired → Option Cited
-closing_after session before s pair = if closes (asked_at pair.line) pair.response then Some (cited_at session s pair) else before
+closing_after session before s pair = if closes (asked_at pair.place) pair.response then Some (cited_at session s pair) else before
 
 -- the same of an answer that is judged: one that is refused closes the connection all the same, and a frame that spells nothing leaves it open
 abbrev pub closing_with : ℕ → Option Cited → Option Standing → Judged → Option Cited

@@ -19,6 +19,7 @@ ghost use Rattle.nntp_explain.specs.Inner.ExplainingView.{unfitting_told, unspel
 ghost use Rattle.nntp_explain.specs.Inner.ExplainingView.{AddsReason, IsRefused, StandsAlone, TellsBad, TellsConflict};
 ghost use Rattle.nntp_explain.specs.Inner.ExplainingView.{TellsContradiction, TellsNext, TellsSome};
 ghost use Rattle.nntp_explain.specs.Standing.{Cited as CitedValue};
+ghost use Rattle.nntp_wire.specs.Session.{ClientStream};
 
 use crate::conflict::put_conflict;
 use crate::contradiction::{ToldContradiction, reason_of};
@@ -115,9 +116,9 @@ impl<'a, A: Allocator + Copy> Explainer<'a, A> {
     /// Accepts the next exchange, if some spool permits it together with those that were accepted, and else tells that
     /// its answer is bad, and why.
     pub(crate) fn note(&mut self, exchange: Exchange<'a>) -> Result<(), AllocError>
-        requires told { (b : Before) × (client : List ℕ) × (server : List ℕ) × (left : Unpaired) × (behind : Unpaired)
+        requires told { (b : Before) × (client : ClientStream) × (server : List ℕ) × (left : Unpaired) × (behind : Unpaired)
             × HasTold (profile_kept self.old.facts) b client server self.old left × IsNext left exchange behind }
-        ensures { OnOk result ((profile : Profile) (b : Before) (client server : List ℕ) (left behind : Unpaired)
+        ensures { OnOk result ((profile : Profile) (b : Before) (client : ClientStream) (server : List ℕ) (left behind : Unpaired)
             → HasTold profile b client server self.old left → IsNext left exchange.entry behind → HasTold profile b client server self.new behind) }
     {
         let position = self.facts.position();
@@ -162,7 +163,7 @@ impl<'a, A: Allocator + Copy> Explainer<'a, A> {
         requires placed { self.old.others ≤ length self.old.placed.items }
         requires cited { self.old.others ≤ length self.old.cited.items }
         ensures kept { OnOk result (kept_of self.new ≡ refuses (kept_of self.old)) }
-        ensures text { OnOk result (TellsBad (kept_of self.old) exchange.now.index OutOfPlace exchange.now.line exchange.now.initial
+        ensures text { OnOk result (TellsBad (kept_of self.old) exchange.now.index OutOfPlace exchange.now.place.line exchange.now.initial
             (λ reason. reason ≡ unfitting_told (kept_of self.old) exchange.now) self.old.text.items self.new.text.items) }
     {
         let line = exchange.line();
@@ -201,7 +202,7 @@ impl<'a, A: Allocator + Copy> Explainer<'a, A> {
         ensures adds { OnOk result (AddsReason (placed_here (kept_of self.old) position exchange.entry)
             self.old.contradictions.items self.new.contradictions.items) }
         ensures text { OnOk result ((facts : List Fact) → IsRefused (kept_of self.old) facts (placed_here (kept_of self.old) position exchange.entry)
-            → TellsBad (kept_of self.old) exchange.entry.index Contradiction exchange.entry.line exchange.entry.initial
+            → TellsBad (kept_of self.old) exchange.entry.index Contradiction exchange.entry.place.line exchange.entry.initial
             (TellsNext (kept_of self.old) facts (placed_here (kept_of self.old) position exchange.entry)) self.old.text.items self.new.text.items) }
     {
         let line = exchange.line();
@@ -314,12 +315,12 @@ impl<'a, A: Allocator + Copy> Explainer<'a, A> {
     ) -> Result<(), AllocError>
         requires { self.old.bad ≤ length self.old.text.items }
         ensures kept { OnOk result (kept_of self.new ≡ refuses (kept_of self.old)) }
-        ensures text { OnOk result (TellsBad (kept_of self.old) index MalformedClass (option_copied malformed.now.line) malformed.now.frame.initial
+        ensures text { OnOk result (TellsBad (kept_of self.old) index MalformedClass malformed.now.place.line malformed.now.frame.initial
             (λ reason. reason ≡ unspelled_lines (asked malformed.now.prompt) malformed.now.frame.initial malformed.now.frame.block)
             self.old.text.items self.new.text.items) }
     {
         let initial = malformed.frame.initial();
-        if self.put_bad(index, Class::Malformed, malformed.line, initial)? {
+        if self.put_bad(index, Class::Malformed, malformed.place.line(), initial)? {
             put_unspelled(&mut self.text, malformed)?;
         }
         Ok(())

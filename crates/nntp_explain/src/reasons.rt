@@ -180,8 +180,9 @@ fn fault_word(fault: LineFault) -> &'static [u8]
     match fault {
         LineFault::BadOctet => b"octet",
         LineFault::SingleDot => b"dot",
-        LineFault::NoNumber => b"number",
+        LineFault::NoNumber | LineFault::NoArticleNumber => b"number",
         LineFault::NoGroup => b"group",
+        LineFault::NoMessageId => b"id",
         LineFault::NoVersions => b"versions",
     }
 }

@@ -5,6 +5,8 @@ ghost use Rattle.nntp_facts.specs.Inner.Noted.{profile_kept};
 ghost use Rattle.nntp_pair.specs.Pairing.{Paired};
 ghost use Rattle.nntp_explain.specs.Explaining.{counts_text, IsExplanation, IsExplanationOfAll};
 ghost use Rattle.nntp_explain.specs.Inner.ExplainingView.{Before, kept_of, AreKept, HasBegun, HasReadNone, HaveRead, IsRead};
+ghost use Rattle.nntp_wire.specs.Session.{taken};
+ghost use Rattle.nntp_wire.specs.declared.overviews.Overviews.TheVariants.{Opaque};
 
 use crate::ending::put_counts;
 use crate::explainer::Explainer;
@@ -35,7 +37,7 @@ pub fn explain<A: Allocator + Copy>(
     client: &[u8],
     server: &[u8],
 ) -> Result<Explanation<A>, AllocError>
-    ensures { IfOk result (λ told. IsExplanation limit marks client.now server.now told.text.items told.is_without_fault) }
+    ensures { IfOk result (λ told. IsExplanation limit marks (taken Opaque client.now) server.now told.text.items told.is_without_fault) }
 {
     let mut explainer = Explainer::new(alloc, limit, marks);
     let is_without_fault = explainer.tell_one(client, server)?;
@@ -71,7 +73,7 @@ impl<'a, A: Allocator + Copy> Explainer<'a, A> {
     /// Tells of one session, which has no title, and whether no answer of it is bad.
     fn tell_one(&mut self, client: &'a [u8], server: &'a [u8]) -> Result<bool, AllocError>
         requires { HasReadNone self.old }
-        ensures { IfOk result (λ good. IsExplanation self.old.facts.limit self.old.facts.marks client.now server.now self.new.text.items good) }
+        ensures { IfOk result (λ good. IsExplanation self.old.facts.limit self.old.facts.marks (taken Opaque client.now) server.now self.new.text.items good) }
     {
         self.begin(None);
         let unanswered = self.read(&Recorded { client, server })?;

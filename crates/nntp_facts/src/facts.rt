@@ -217,7 +217,7 @@ impl<A: Allocator + Copy> Facts<A> {
     ///
     /// If memory is refused.
     pub fn misfit<'a>(&self, exchange: &Exchange<'a>) -> Result<Option<Misfit<'a>>, AllocError>
-        ensures { IfOk result (λ reason. why_if reason ≡ misfit (profile_kept self.now) self.now.visible (asked_at exchange.now.line) exchange.now.response) }
+        ensures { IfOk result (λ reason. why_if reason ≡ misfit (profile_kept self.now) self.now.visible (asked_at exchange.now.place) exchange.now.response) }
     {
         self.visible
             .misfit(self.profile(), exchange.prompt(), exchange.answer())

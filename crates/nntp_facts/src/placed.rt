@@ -12,7 +12,7 @@ ghost use Rattle.nntp_theory.specs.Inner.Together.{IsWellFormed};
 ghost use Rattle.nntp_pair.specs.Pairing.{asked_at};
 ghost use Rattle.nntp_pair.specs.Inner.Pairing.{lines_in};
 
-use crate::same::{is_same_answer, is_same_line, is_same_name, is_same_position};
+use crate::same::{is_same_answer, is_same_name, is_same_position};
 use nntp_pair::Exchange;
 use nntp_said::{Position, SaidFacts, facts_of};
 use nntp_wire::{Answer, GroupName, Marks, Prompt};
@@ -33,7 +33,7 @@ impl<'a> Model for Placed<'a> {
 
     ghost Value = { PlacedValue };
 
-    ghost view = { λ p. record { selected = p.selected; position = p.position; asked = asked_at p.exchange.line; response = p.exchange.response } };
+    ghost view = { λ p. record { selected = p.selected; position = p.position; asked = asked_at p.exchange.place; response = p.exchange.response } };
 }
 
 impl<'a> Placed<'a> {
@@ -43,7 +43,12 @@ impl<'a> Placed<'a> {
         position: Position,
         exchange: Exchange<'a>,
     ) -> Placed<'a>
-        ensures { result ≡ record { selected = selected.entry; position = position; asked = asked_at exchange.entry.line; response = exchange.entry.response } }
+        ensures { result ≡ record {
+          selected = selected.entry;
+          position = position;
+          asked = asked_at exchange.entry.place;
+          response = exchange.entry.response;
+        } }
     {
         Placed {
             selected,
@@ -103,7 +108,7 @@ impl<'a> Placed<'a> {
     {
         is_same_name(&self.selected, &other.selected)
             && is_same_position(self.position, other.position)
-            && is_same_line(self.exchange.line(), other.exchange.line())
+            && self.exchange.place().is_same(other.exchange.place())
             && is_same_answer(self.exchange.answer(), other.exchange.answer())
     }
 

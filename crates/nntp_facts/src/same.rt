@@ -1,6 +1,5 @@
-//! Whether answers, their lines and the places where they stand are the same.
+//! Whether answers and the places where they stand are the same.
 ghost use Rattle.std.specs.Prelude.{◌≡◌, ◌↔◌, IsTrue};
-ghost use Rattle.std.specs.Option.{option_copied};
 ghost use Rattle.nntp_wire.specs.Inner.AnswerView.{response};
 
 use nntp_said::Position;
@@ -11,17 +10,6 @@ pub(crate) fn is_same_position(some: Position, other: Position) -> bool
     ensures { IsTrue result ↔ (some ≡ other) }
 {
     some == other
-}
-
-/// Tells whether both are the same line, or none is there.
-pub(crate) fn is_same_line(some: Option<&[u8]>, other: Option<&[u8]>) -> bool
-    ensures { IsTrue result ↔ (option_copied some.entry ≡ option_copied other.entry) }
-{
-    match (some, other) {
-        (Some(some), Some(other)) => some == other,
-        (None, None) => true,
-        _ => false,
-    }
 }
 
 /// Tells whether both are the same name, or none is there.

@@ -1,37 +1,47 @@
 -- At each place of a pairing a pair comes next, or the pairing ends.
-use Rattle.std.{proofs.Common.{◌≡◌, ◌⊎◌, ℕ, List, [], ◌∷◌, ◌++◌, Option, Bool, true, false, count_by, inl, inr, refl, sym, ◌∙◌, arith}, specs.Prelude.{is_some}}
-use Rattle.nntp_wire.{specs.Answer.{Response, Spells}, proofs.{SpellLemmas.{spelling-frame}, SpellsDecided.{dec_spelling}, FramesDecided.{dec_frame}}}
+use Rattle.std.proofs.Common.{◌≡◌, ◌⊎◌, ℕ, List, [], ◌∷◌, ◌++◌, Bool, true, false, count_by, inl, inr, refl, sym, ◌∙◌, subst}
+use Rattle.nntp_wire.{specs.{Answer.{Response, Spells}, Frame.{HasFrame, frame_octets}}, proofs.{SpellLemmas.{spelling-frame}, SpellsDecided.{dec_spelling}}}
+use Rattle.nntp_wire.proofs.FramesDecided.{dec_frame}
 use Rattle.nntp_pair.specs.{declared.class.PairClass.{PairClass, TheVariants.{Surplus, Cut, Malformed}}, Pairing.{Unpaired, IsAnswered, IsBad, Awaits, Ending}}
-use Rattle.nntp_pair.{specs.Pairing.{end, bad, Ends, asked_at, HasNext}, proofs.FeedLemmas.{next-of}}
+use Rattle.nntp_pair.{specs.Pairing.{end, bad, Ends, asked_at, HasNext, Place, has_line}, proofs.FeedLemmas.{next-of}}
 
 -- what a spelling at the front of the octets answers
-spelling-answers : (place : Option (List ℕ)) (server octets rest : List ℕ) (response : Response) → Spells (asked_at place) response octets → server ≡ octets ++ rest
+spelling-answers : (place : Place) (server octets rest : List ℕ) (response : Response) → Spells (asked_at place) response octets → server ≡ octets ++ rest
     → (initial : List ℕ) × IsAnswered place server initial response rest
 spelling-answers place server octets rest response spells whole =
-    let found = spelling-frame (asked_at place) response octets rest spells in
-    grind arith
+    let found = spelling-frame (asked_at place) response octets rest spells in (
+      found.0,
+      record {
+        block = found.1;
+        frame = subst (λ o. HasFrame (asked_at place) o found.0 found.1 rest) (sym whole) found.3;
+        spells = subst (Spells (asked_at place) response) (sym found.2) spells;
+      },
+    )
 
 -- where a place is awaited
-awaited-next : (a : Unpaired) (place : Option (List ℕ)) → Awaits a place → HasNext a ⊎ ((class : PairClass) × IsBad class a)
-awaited-next a place awaits =
-    elim (dec_spelling (asked_at place) a.server) [
-      | inl (response, octets, rest, spells, whole) ↦
-          let answers = spelling-answers place a.server octets rest response spells whole in
-          let next = next-of a place (record { index = a.index; line = place; initial = answers.0; response = response }) rest awaits refl refl answers.1 in
-          inl (record { index = a.index; line = place; initial = answers.0; response = response }, next.0, next.1)
-      | inr none ↦ elim (dec_frame (asked_at place) a.server) [
-        | inl (initial, block, rest, has) ↦ inr (
-          Malformed,
-          grind arith,
-        )
-        | inr no_frame ↦ inr (Cut, (place, awaits, λ initial block rest has. no_frame (initial, block, rest, has)))
-      ]
-    ]
+awaited-next : (a : Unpaired) (place : Place) → Awaits a place → HasNext a ⊎ ((class : PairClass) × IsBad class a)
+awaited-next a place awaits = elim (dec_spelling (asked_at place) a.server) [
+  | inl (response, octets, rest, spells, whole) ↦
+      let answers = spelling-answers place a.server octets rest response spells whole in
+      let next = next-of a place (record { index = a.index; place = place; initial = answers.0; response = response }) rest awaits refl refl answers.1 in
+      inl (record { index = a.index; place = place; initial = answers.0; response = response }, next.0, next.1)
+  | inr none ↦ elim (dec_frame (asked_at place) a.server) [
+    | inl (initial, block, rest, has) ↦ inr (
+      Malformed,
+      (
+        place,
+        awaits,
+        record { initial = initial; block = block; rest = rest; frame = has; nothing = λ response spells. none (response, frame_octets initial block, rest, spells, has.whole) },
+      ),
+    )
+    | inr no_frame ↦ inr (Cut, (place, awaits, λ initial block rest has. no_frame (initial, block, rest, has)))
+  ]
+]
 
 -- where octets are left
 octets-next : (a : Unpaired) → HasNext a ⊎ ((class : PairClass) × IsBad class a)
 octets-next a = by a.is_closed refl a.places refl where
-  by : (is_closed : Bool) → a.is_closed ≡ is_closed → (places : List (Option (List ℕ))) → a.places ≡ places → HasNext a ⊎ ((class : PairClass) × IsBad class a)
+  by : (is_closed : Bool) → a.is_closed ≡ is_closed → (places : List Place) → a.places ≡ places → HasNext a ⊎ ((class : PairClass) × IsBad class a)
   by true closed places first = inr (Surplus, inl closed)
   by false is_open [] first = inr (Surplus, inr first)
   by false is_open (place ∷ places) first = awaited-next a place (record { is_open = is_open; places = places; first = first })
@@ -40,7 +50,7 @@ octets-next a = by a.is_closed refl a.places refl where
 pub next-or-end : (a : Unpaired) → HasNext a ⊎ ((ending : Ending) × Ends a ending)
 next-or-end a = by a.server refl where
   by : (server : List ℕ) → a.server ≡ server → HasNext a ⊎ ((ending : Ending) × Ends a ending)
-  by [] none = inr (end (count_by is_some a.places), (none, refl))
+  by [] none = inr (end (count_by has_line a.places), (none, refl))
   by (octet ∷ server) whole = elim (octets-next a) [
     | inl next ↦ inl next
     | inr (class, is_bad) ↦ inr (bad class, ((λ none. let mixed : octet ∷ server ≡ [] = sym whole ∙ none in cc), is_bad))

@@ -4,20 +4,20 @@ ghost use Rattle.std.specs.Option.{option_copied};
 ghost use Rattle.nntp_wire.specs.Inner.AnswerView.{response};
 ghost use Rattle.nntp_wire.specs.Answer.{Spells};
 ghost use Rattle.nntp_wire.specs.Frame.{HasFrame, frame_octets};
-ghost use Rattle.nntp_wire.specs.Inner.Prompts.{prompt_kind};
 ghost use Rattle.nntp_wire.specs.Session.{closes};
 ghost use Rattle.nntp_wire.specs.Inner.View.{asked};
 ghost use Rattle.nntp_pair.specs.Pairing.{IsAnswered, asked_at};
 ghost use Rattle.nntp_pair.specs.Inner.Pairing.{IsSpelled, lines_in};
 
-use nntp_wire::{Answer, Command, Frame, Prompt, PromptKind};
+use crate::place::Place;
+use nntp_wire::{Answer, Frame, Prompt};
 use std::marker::Model;
 
 /// A response of the server with what it answers. Only `Pairs::next` and `Feed::peek` make one.
 #[derive(Drop)]
 pub struct Exchange<'a> {
     index: u64,
-    line: Option<&'a [u8]>,
+    place: Place<'a>,
     initial: &'a [u8],
     prompt: Prompt<'a>,
     answer: Answer<'a>,
@@ -25,7 +25,6 @@ pub struct Exchange<'a> {
 
 impl<'a> Model for Exchange<'a> {
     ghost use Rattle.std.specs.Prelude.{◌≡◌, ◌<◌, ◌^◌};
-    ghost use Rattle.std.specs.Option.{option_copied};
     ghost use Rattle.nntp_wire.specs.Inner.AnswerView.{response};
     ghost use Rattle.nntp_wire.specs.Inner.View.{asked};
     ghost use Rattle.nntp_pair.specs.Pairing.{Paired, asked_at};
@@ -33,53 +32,33 @@ impl<'a> Model for Exchange<'a> {
 
     ghost Value = { Paired };
 
-    ghost view = { λ x. record { index = x.index; line = option_copied x.line; initial = x.initial.now; response = response x.answer } };
+    ghost view = { λ x. record { index = x.index; place = x.place; initial = x.initial.now; response = response x.answer } };
 
-    ghost invariant = { λ x. (x.index < 2 ^ 63) × (asked x.prompt ≡ asked_at (option_copied x.line))
-        × IsSpelled (option_copied x.line) x.initial.now (response x.answer) × (lines_in (response x.answer) < 2 ^ 64) };
-}
-
-/// What is answered at a place.
-pub(crate) fn prompt_at<'a>(line: Option<&'a [u8]>) -> Prompt<'a>
-    ensures { asked result ≡ asked_at (option_copied line.entry) }
-{
-    match line {
-        Some(line) => Prompt::To(Command::parse(line)),
-        None => Prompt::Greeting,
-    }
-}
-
-/// The kind of what is answered at a place.
-pub(crate) fn kind_at(line: Option<&[u8]>) -> PromptKind
-    ensures { result ≡ prompt_kind (asked_at (option_copied line.entry)) }
-{
-    match line {
-        Some(line) => PromptKind::of_line(line),
-        None => PromptKind::Greeting,
-    }
+    ghost invariant = { λ x. (x.index < 2 ^ 63) × (asked x.prompt ≡ asked_at x.place)
+        × IsSpelled x.place x.initial.now (response x.answer) × (lines_in (response x.answer) < 2 ^ 64) };
 }
 
 impl<'a> Exchange<'a> {
     /// The exchange at a place, of which the response says this by its frame, at the front of the server's octets.
     pub(crate) fn new(
         index: u64,
-        line: Option<&'a [u8]>,
+        place: Place<'a>,
         prompt: Prompt<'a>,
         frame: &Frame<'a>,
         answer: Answer<'a>,
         server: &'a [u8],
     ) -> Exchange<'a>
         requires index { index < 2 ^ 63 }
-        requires prompt { asked prompt ≡ asked_at (option_copied line) }
-        requires frame { HasFrame (asked_at (option_copied line)) server.now frame.now.initial frame.now.block (drop frame.now.len server.now) }
+        requires prompt { asked prompt ≡ asked_at place }
+        requires frame { HasFrame (asked_at place) server.now frame.now.initial frame.now.block (drop frame.now.len server.now) }
         requires answer { Spells (asked prompt) (response answer) (frame_octets frame.now.initial frame.now.block) }
         ensures index { result.index ≡ index }
-        ensures line { result.line ≡ option_copied line.entry }
-        ensures answered { IsAnswered (option_copied line.entry) server.now result.initial result.response (drop frame.now.len server.now) }
+        ensures place { result.place ≡ place.entry }
+        ensures answered { IsAnswered place.entry server.now result.initial result.response (drop frame.now.len server.now) }
     {
         Exchange {
             index,
-            line,
+            place,
             initial: frame.initial(),
             prompt,
             answer,
@@ -97,9 +76,16 @@ impl<'a> Exchange<'a> {
 
     /// The line of the client that is answered, without its CRLF (RFC 3977, section 3.1). The greeting answers none.
     pub fn line(&self) -> Option<&'a [u8]>
-        ensures { option_copied result ≡ self.now.line }
+        ensures { option_copied result ≡ self.now.place.line }
     {
-        self.line
+        self.place.line()
+    }
+
+    /// The place that is answered.
+    pub fn place(&self) -> &Place<'a>
+        ensures { result.now ≡ self.now.place }
+    {
+        &self.place
     }
 
     /// The initial line of the response, without its CRLF.
@@ -111,7 +97,7 @@ impl<'a> Exchange<'a> {
 
     /// What is answered: the greeting's place, or the command of the line.
     pub fn prompt(&self) -> &Prompt<'a>
-        ensures { asked result.now ≡ asked_at self.now.line }
+        ensures { asked result.now ≡ asked_at self.now.place }
     {
         &self.prompt
     }
@@ -119,7 +105,7 @@ impl<'a> Exchange<'a> {
     /// What the response says (RFC 3977, section 3.2).
     pub fn answer(&self) -> &Answer<'a>
         ensures value { response result.now ≡ self.now.response }
-        ensures is_spelled { IsSpelled self.now.line self.now.initial self.now.response }
+        ensures is_spelled { IsSpelled self.now.place self.now.initial self.now.response }
         ensures few_lines { lines_in self.now.response < 2 ^ 64 }
         ensures low_index { self.now.index < 2 ^ 63 }
     {
@@ -128,7 +114,7 @@ impl<'a> Exchange<'a> {
 
     /// Whether the server closes the connection behind this response (RFC 3977, sections 3.2.1, 5.1 and 5.4).
     pub fn closes(&self) -> bool
-        ensures { result ≡ closes (asked_at self.now.line) self.now.response }
+        ensures { result ≡ closes (asked_at self.now.place) self.now.response }
     {
         self.answer.closes(&self.prompt)
     }

@@ -4,12 +4,14 @@ ghost use Rattle.std.specs.Option.{option_copied};
 ghost use Rattle.nntp_pair.specs.Pairing.{Paired, Unpaired, IsNext, line_ahead};
 ghost use Rattle.nntp_pair.specs.Inner.Feeding.{Fed, IsFed, IsTaken, IsUntaken, IsPeek, IsEnding, left_of, unfed, refused};
 ghost use Rattle.nntp_pair.specs.Pairing.{HasNext};
+ghost use Rattle.nntp_wire.specs.Session.{ClientStream, taken};
+ghost use Rattle.nntp_wire.specs.declared.overviews.Overviews.TheVariants.{Opaque};
 ghost use Rattle.nntp_pair.specs.declared.side.Side.TheVariants.{Client, Server};
 
 use crate::buffer::{Buffer, extend};
 use crate::class::PairClass;
 use crate::ending::Ending;
-use crate::exchange::{Exchange, prompt_at};
+use crate::exchange::Exchange;
 use crate::octet_counts::OctetCounts;
 use crate::pair_error::PairError;
 use crate::pairs::Ahead;
@@ -17,7 +19,7 @@ use crate::peek::Peek;
 use crate::places::count_lines;
 use crate::searches::Searches;
 use crate::side::Side;
-use nntp_wire::Answer;
+use nntp_wire::{Answer, Overviews};
 use std::alloc::{Allocator, Global};
 use std::marker::Model;
 
@@ -25,6 +27,8 @@ use std::marker::Model;
 /// [`advance`](Feed::advance) hasn't passed.
 #[derive(Drop)]
 pub struct Feed<A: Allocator = Global> {
+    /// How OVER and XOVER are taken.
+    overviews: Overviews,
     client: Buffer<A>,
     server: Buffer<A>,
     /// Of the next place.
@@ -36,6 +40,7 @@ pub struct Feed<A: Allocator = Global> {
 }
 
 impl<A: Allocator> Model for Feed<A> {
+    ghost use Rattle.nntp_wire.specs.Session.{taken};
     ghost use Rattle.nntp_pair.specs.Inner.Feeding.{Fed};
     ghost use Rattle.nntp_pair.specs.Inner.Searching.{IsInStep};
 
@@ -43,23 +48,32 @@ impl<A: Allocator> Model for Feed<A> {
 
     ghost view = { λ f. record {
       index = f.index;
-      client = f.client;
+      client = taken f.overviews f.client;
       server = f.server;
       is_closed = f.is_closed;
       counts = f.counts;
       has_failed = f.has_failed;
     } };
 
-    ghost invariant = { λ f. IsInStep f.index f.is_closed f.client f.server f.counts.server f.searches };
+    ghost invariant = { λ f. IsInStep f.index f.is_closed (taken f.overviews f.client) f.server f.counts.server f.searches };
 }
 
 impl<A: Allocator + Copy> Feed<A> {
-    /// A feed to which nothing has come.
+    /// A feed to which nothing has come, where OVER and XOVER are opaque.
     pub fn new(alloc: A) -> Feed<A>
-        ensures value { result ≡ unfed }
-        ensures fed { IsFed result [] [] [] }
+        ensures value { result ≡ unfed Opaque }
+        ensures fed { IsFed result (taken Opaque []) [] [] }
+    {
+        Feed::taking(alloc, Overviews::Opaque)
+    }
+
+    /// A feed to which nothing has come, where OVER and XOVER are taken so.
+    pub fn taking(alloc: A, overviews: Overviews) -> Feed<A>
+        ensures value { result ≡ unfed overviews }
+        ensures fed { IsFed result (taken overviews []) [] [] }
     {
         Feed {
+            overviews,
             client: Buffer::new(alloc),
             server: Buffer::new(alloc),
             index: 0,
@@ -69,7 +83,7 @@ impl<A: Allocator + Copy> Feed<A> {
                 server: 0,
             },
             has_failed: false,
-            searches: Searches::new(0, false, &[], &[]),
+            searches: Searches::new(0, false, overviews, &[], &[]),
         }
     }
 
@@ -95,8 +109,9 @@ impl<A: Allocator + Copy> Feed<A> {
         };
         self.counts = counts;
         let (client, server) = (self.client.as_slice(), self.server.as_slice());
+        let overviews = self.overviews;
         self.searches
-            .go_on(self.index, self.is_closed, client, server);
+            .go_on(self.index, self.is_closed, overviews, client, server);
         Ok(())
     }
 
@@ -138,7 +153,7 @@ impl<A: Allocator + Copy> Feed<A> {
                 false => Peek::Bad { index, class },
             };
         }
-        let Some((line, _)) = self.searches.split_place(index, client) else {
+        let Some((place, _)) = self.searches.split_place(index, self.overviews, client) else {
             return Peek::Nothing;
         };
         let Some(search) = self.searches.frame else {
@@ -147,12 +162,12 @@ impl<A: Allocator + Copy> Feed<A> {
         let Some(frame) = search.frame(server) else {
             return Peek::Nothing;
         };
-        let prompt = prompt_at(line);
+        let prompt = place.prompt();
         let Ok(answer) = Answer::parse(&prompt, &frame) else {
             let class = PairClass::Malformed;
             return Peek::Bad { index, class };
         };
-        Peek::Whole(Exchange::new(index, line, prompt, &frame, answer, server))
+        Peek::Whole(Exchange::new(index, place, prompt, &frame, answer, server))
     }
 
     /// Goes behind the exchange that waits, and gives its octets back. The caller has to know that one waits:
@@ -160,13 +175,14 @@ impl<A: Allocator + Copy> Feed<A> {
     pub fn advance(&mut self)
         requires { HasNext (left_of self.old) }
         ensures next { (pair : Paired) × IsNext (left_of self.old) pair (left_of self.new) }
-        ensures fed { (client server : List ℕ) (pairs : List Paired) (pair : Paired) (behind : Unpaired) → IsFed self.old client server pairs
+        ensures fed { (client : ClientStream) (server : List ℕ) (pairs : List Paired) (pair : Paired) (behind : Unpaired) → IsFed self.old client server pairs
             → IsNext (left_of self.old) pair behind → IsFed self.new client server (pairs ++ pair ∷ []) }
         ensures counts { self.new.counts ≡ self.old.counts }
         ensures has_failed { self.new.has_failed ≡ self.old.has_failed }
     {
         let (client, server) = (self.client.as_slice(), self.server.as_slice());
-        let Some((_, rest)) = self.searches.split_place(self.index, client) else {
+        let overviews = self.overviews;
+        let Some((_, rest)) = self.searches.split_place(self.index, overviews, client) else {
             unreachable!();
         };
         let Some(search) = self.searches.frame else {
@@ -181,7 +197,7 @@ impl<A: Allocator + Copy> Feed<A> {
         self.client.pass(line_len);
         self.server.pass(frame_len);
         let (client, server) = (self.client.as_slice(), self.server.as_slice());
-        self.searches = Searches::new(self.index, self.is_closed, client, server);
+        self.searches = Searches::new(self.index, self.is_closed, overviews, client, server);
     }
 
     /// How the pairing ends, if no more octets come.
@@ -222,7 +238,7 @@ impl<A: Allocator + Copy> Feed<A> {
         self.client.clear();
         self.server.clear();
         self.has_failed = true;
-        self.searches = Searches::new(self.index, self.is_closed, &[], &[]);
+        self.searches = Searches::new(self.index, self.is_closed, self.overviews, &[], &[]);
     }
 
     /// The client's line at the next place, and the octets of the server's stream behind the exchanges that have passed.
@@ -232,8 +248,11 @@ impl<A: Allocator + Copy> Feed<A> {
         ensures rest { result.rest.now ≡ self.now.server }
     {
         let client = self.client.as_slice();
-        let line = match self.searches.split_place(self.index, client) {
-            Some((line, _)) => line,
+        let line = match self
+            .searches
+            .split_place(self.index, self.overviews, client)
+        {
+            Some((place, _)) => place.line(),
             None => None,
         };
         Ahead {

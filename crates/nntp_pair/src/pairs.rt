@@ -1,17 +1,20 @@
 //! The pairing of both streams, one exchange at a time.
-ghost use Rattle.std.specs.Prelude.{◌≡◌, ◌<◌, ◌^◌, length, count_by, drop, is_some};
+ghost use Rattle.std.specs.Prelude.{◌≡◌, ◌<◌, ◌^◌, length, count_by, drop};
 ghost use Rattle.std.specs.Option.{option_copied};
 ghost use Rattle.nntp_wire.specs.Inner.View.{asked};
-ghost use Rattle.nntp_pair.specs.Pairing.{IsBad, IsPassedOver, asked_at, streams, line_ahead};
+ghost use Rattle.nntp_pair.specs.Pairing.{IsBad, IsPassedOver, asked_at, streams, line_ahead, has_line};
 ghost use Rattle.nntp_pair.specs.Inner.Step.{IsStep, OnExchange};
+ghost use Rattle.nntp_wire.specs.Session.{taken};
+ghost use Rattle.nntp_wire.specs.declared.overviews.Overviews.TheVariants.{Opaque};
 ghost use Rattle.nntp_pair.specs.declared.class.PairClass.TheVariants.{Malformed};
 ghost use Rattle.nntp_pair.specs.declared.step.Step.TheVariants.{Bad};
 
 use crate::class::PairClass;
-use crate::exchange::{Exchange, prompt_at};
+use crate::exchange::Exchange;
+use crate::place::Place;
 use crate::places::Places;
 use crate::step::Step;
-use nntp_wire::{Answer, Frame, Prompt, frame};
+use nntp_wire::{Answer, Frame, Overviews, Prompt, frame};
 use std::marker::Model;
 
 /// The pairing of both streams: what is left of it. It keeps nothing but slices of the streams, and takes no memory.
@@ -46,22 +49,29 @@ pub struct Ahead<'a> {
 /// A frame that spells no response, with what it answers.
 #[derive(Drop)]
 pub struct MalformedFrame<'a> {
-    /// The client's line, without its CRLF; none at the greeting's place.
-    pub line: Option<&'a [u8]>,
-    /// The greeting's place, or the command of the line.
+    /// The place that it answers.
+    pub place: Place<'a>,
+    /// The greeting, or the command of the place's line.
     pub prompt: Prompt<'a>,
     /// The octets, as they were cut for this prompt.
     pub frame: Frame<'a>,
 }
 
 impl<'a> Pairs<'a> {
-    /// The pairing from the greeting on.
+    /// The pairing from the greeting on, where OVER and XOVER are opaque.
     pub fn new(client: &'a [u8], server: &'a [u8]) -> Pairs<'a>
-        ensures { result ≡ streams client.now server.now }
+        ensures { result ≡ streams (taken Opaque client.now) server.now }
+    {
+        Pairs::taking(Overviews::Opaque, client, server)
+    }
+
+    /// The pairing from the greeting on, where OVER and XOVER are taken so.
+    pub fn taking(overviews: Overviews, client: &'a [u8], server: &'a [u8]) -> Pairs<'a>
+        ensures { result ≡ streams (taken overviews client.now) server.now }
     {
         Pairs {
             index: 0,
-            places: Places::new(client),
+            places: Places::new(overviews, client),
             server,
             is_closed: false,
         }
@@ -81,17 +91,17 @@ impl<'a> Pairs<'a> {
         if self.is_closed {
             return self.bad(PairClass::Surplus);
         }
-        let Some((line, places)) = self.places.split_first() else {
+        let Some((place, places)) = self.places.split_first() else {
             return self.bad(PairClass::Surplus);
         };
-        let prompt = prompt_at(line);
+        let prompt = place.prompt();
         let Some(frame) = frame(&prompt, self.server) else {
             return self.bad(PairClass::Cut);
         };
         let Ok(answer) = Answer::parse(&prompt, &frame) else {
             return self.bad(PairClass::Malformed);
         };
-        let exchange = Exchange::new(self.index, line, prompt, &frame, answer, self.server);
+        let exchange = Exchange::new(self.index, place, prompt, &frame, answer, self.server);
         let (_, server) = self.server.split_at(frame.len());
         self.index += 1;
         self.places = places;
@@ -114,14 +124,14 @@ impl<'a> Pairs<'a> {
     /// its place all the same, and the connection stays open (RFC 3977, sections 3.1 and 3.2).
     pub fn pass_over(&mut self) -> MalformedFrame<'a>
         requires { IsBad Malformed self.old }
-        ensures passed { IsPassedOver self.old (option_copied result.line) result.frame.initial result.frame.block self.new }
-        ensures prompt { asked result.prompt ≡ asked_at (option_copied result.line) }
+        ensures passed { IsPassedOver self.old result.place result.frame.initial result.frame.block self.new }
+        ensures prompt { asked result.prompt ≡ asked_at result.place }
         ensures progress { length self.new.server < length self.old.server }
     {
-        let Some((line, places)) = self.places.split_first() else {
+        let Some((place, places)) = self.places.split_first() else {
             unreachable!();
         };
-        let prompt = prompt_at(line);
+        let prompt = place.prompt();
         let Some(frame) = frame(&prompt, self.server) else {
             unreachable!();
         };
@@ -133,7 +143,7 @@ impl<'a> Pairs<'a> {
             is_closed: false,
         };
         MalformedFrame {
-            line,
+            place,
             prompt,
             frame,
         }
@@ -150,7 +160,7 @@ impl<'a> Pairs<'a> {
     /// How many lines of the client are behind the next place: those that have no answer, if the octets there are the
     /// last. It reads the rest of the client's stream.
     pub fn count_lines_behind(&self) -> u64
-        ensures { result ≡ count_by is_some (drop 1 self.now.places) }
+        ensures { result ≡ count_by has_line (drop 1 self.now.places) }
     {
         match self.places.split_first() {
             Some((_, behind)) => behind.count_lines(),
@@ -164,7 +174,7 @@ impl<'a> Pairs<'a> {
         ensures rest { result.rest.now ≡ self.now.server }
     {
         let line = match self.places.split_first() {
-            Some((line, _)) => line,
+            Some((place, _)) => place.line(),
             None => None,
         };
         Ahead {

@@ -137,7 +137,7 @@ module _ (profile : Profile) (earlier : List (List Paired)) (before : List Recor
   -- a pair that doesn't stand behind those that do
   pub pair_here : (pairs : List Paired) (pair : Paired) (between after : Unpaired) → AreNext (streams s.client s.server) pairs between → IsNext between pair after
       → Stand pairs → (Stand (pairs ++ pair ∷ []) → ⊥)
-      → IsBadHere (length pairs) (class_by (fits profile (visible_from start.visible (asked_of pairs) (responses_of pairs)) (asked_at pair.line) pair.response))
+      → IsBadHere (length pairs) (class_by (fits profile (visible_from start.visible (asked_of pairs) (responses_of pairs)) (asked_at pair.place) pair.response))
   pair_here pairs pair between after paired next (S, spool, g) none =
       bad_response profile s.client s.server pairs pair between after paired next (λ S. ExplainsEach profile S before) S spool
       ((f S spool).0 (all_front (Runs profile S) (map exchanged earlier) (exchanged pairs ∷ []) g)) (all_back (Runs profile S) (map exchanged earlier) (exchanged pairs ∷ []) g).0
@@ -152,10 +152,10 @@ module _ (profile : Profile) (earlier : List (List Paired)) (before : List Recor
       let first = r.rest.1 in
       let same : _ ≡ class = cc in
       subst (λ class. IsBadHere (length pairs) class) same (pair_here pairs pair r.between r.rest.0 r.paired first.0 r.stand first.1)
-  answer_here pairs (Unspelled index line initial block) more ending class reading e =
-      let r = accepted_first Stand [] (streams s.client s.server) reading.left pairs (Unspelled index line initial block ∷ more) (none_behind profile earlier h) reading.judged in
+  answer_here pairs (Unspelled index place initial block) more ending class reading e =
+      let r = accepted_first Stand [] (streams s.client s.server) reading.left pairs (Unspelled index place initial block ∷ more) (none_behind profile earlier h) reading.judged in
       let first = r.rest.1 in
-      let pairing : IsPairing s.client s.server pairs (bad PairMalformed) = record { left = r.between; paired = r.paired; ends = passed-ends r.between r.rest.0 line initial block first.1 } in
+      let pairing : IsPairing s.client s.server pairs (bad PairMalformed) = record { left = r.between; paired = r.paired; ends = passed-ends r.between r.rest.0 place initial block first.1 } in
       let same : class_of PairMalformed ≡ class = cc in
       subst (λ class. IsBadHere (length pairs) class) same (octets_here pairs PairMalformed pairing r.stand)
 

@@ -6,6 +6,7 @@ use Rattle.nntp_theory.proofs.Streams.{ExplainedOrBad.{first_explained}, OneOutc
 use Rattle.nntp_spool.{specs.Sessions.{RefusesAt}, proofs.PermittedPairs.{explained-unrefused}}
 use Rattle.nntp_several.specs.{Verifying.{VerifiedOfAll, PermitsAll, RefusesOne, IsVerifiedOfAll}, Sessions.{Recorded, ExplainsIt, ExplainsEach, OfEach}}
 use Rattle.nntp_several.{specs.Sessions.{answered_by, counts_of}, proofs.ExplainedSessions.{each_to, taken_to}}
+use Rattle.nntp_wire.specs.Session.{ClientStream}
 
 -- an answer of a session is refused
 abbrev Refused : Profile → Spool → List Recorded → ℕ → ℕ → Type 0
@@ -54,7 +55,7 @@ not_later profile S sessions j i k l less h g =
     explained-unrefused profile S e.1.is_spool r.session.client r.session.server e.0 k e.1 r.refused
 
 -- one answer is the first that isn't explained
-first_once : (profile : Profile) (S : Spool) (client server : List ℕ) (k l : ℕ) → RefusesAt profile S client server k → RefusesAt profile S client server l → k ≡ l
+first_once : (profile : Profile) (S : Spool) (client : ClientStream) (server : List ℕ) (k l : ℕ) → RefusesAt profile S client server k → RefusesAt profile S client server l → k ≡ l
 first_once profile S client server k l h g = elim (cases_order k l) [
   | inl same ↦ same
   | inr (inl less) ↦ absurd (h.1 (first_explained profile S client server (k + 1) l g.0.0 (omega arith) g.0.1))

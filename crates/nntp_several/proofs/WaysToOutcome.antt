@@ -66,7 +66,7 @@ module _ (profile : Profile) (before : List Recorded) (earlier : List (List Pair
   pub outcome_at_response_of_all : (h : SomePermitsEach profile (map exchanged earlier)) (pairs : List Paired) (pair : Paired) (between after : Unpaired)
       → AreNext (streams s.client s.server) pairs between → IsNext between pair after → ArePermittedBehind profile earlier pairs → (ArePermittedBehind profile earlier (pairs ++ pair ∷ []) → ⊥)
       → IsOutcomeOfAll profile (before ++ s ∷ more)
-      (NoOfAll (length before) (length pairs) (class_by (fits profile (visible_from start.visible (asked_of pairs) (responses_of pairs)) (asked_at pair.line) pair.response)))
+      (NoOfAll (length before) (length pairs) (class_by (fits profile (visible_from start.visible (asked_of pairs) (responses_of pairs)) (asked_at pair.place) pair.response)))
   outcome_at_response_of_all h pairs pair between after first next permitted none =
       let is = pair_here profile earlier before (follows profile before earlier paired) h s pairs pair between after first next permitted none in
       outcome_at profile before s more (length pairs) _ is.0 is.1

@@ -1,12 +1,12 @@
 -- A spool explains what clients and servers sent in several sessions (RFC 3977, sections 3.1 and 3.5).
 use Rattle.std.specs.{Prelude.{ℕ, List, [], ◌∷◌, length, map, take, slice_get, MatchOption, ⊤}, List.{AllByRecursion}}
-use Rattle.nntp_wire.specs.Session.{prompts_of}
+use Rattle.nntp_wire.specs.Session.{prompts_of, ClientStream}
 use Rattle.nntp_article.specs.{Session.{Spool.{Spool, IsSpool}, Explains.{Explains, BadAmong}}, declared.session.profile.Profile.{Profile}}
 use Rattle.nntp_theory.specs.Answered.{Answered}
 
 -- what client and server sent in a session
 pub record Recorded : Type 0 where
-  pub client : List ℕ
+  pub client : ClientStream
   pub server : List ℕ
 
 -- a session, and what it is called

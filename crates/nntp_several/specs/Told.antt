@@ -4,10 +4,11 @@ use Rattle.nntp_several.specs.{Sessions.{Recorded}, Outcome.{NoOfAll, IsOutcomeO
 use Rattle.nntp_article.specs.declared.session.profile.Profile.{Profile}
 use Rattle.nntp_pair.specs.declared.class.Class.{Class}
 use Rattle.nntp_theory.specs.Classes.{IsSettled}
+use Rattle.nntp_wire.specs.Session.{further}
 
 -- the session with more octets
 abbrev pub with_more : Recorded → List ℕ → List ℕ → Recorded
-with_more session client server = record { client = session.client ++ client; server = session.server ++ server }
+with_more session client server = record { client = further session.client client; server = session.server ++ server }
 
 -- the answer is bad, of its class, and nothing that follows changes that: its session has ended, or it is settled
 abbrev pub IsBadForGoodOfAll : Profile → List Recorded → Recorded → ℕ → ℕ → Class → Type 0

@@ -33,6 +33,7 @@ ghost use Rattle.nntp_several.specs.Inner.Outcome.{is_yes_of_all, of_one};
 ghost use Rattle.nntp_article.specs.Session.Explains.{Explains, Bad};
 ghost use Rattle.nntp_theory.specs.Reading.{IsReading};
 ghost use Rattle.nntp_theory.specs.Outcome.{Outcome, IsOutcome};
+ghost use Rattle.nntp_wire.specs.Session.{further};
 
 /// Some spool explains several sessions, or exactly one answer is bad, and never both.
 pub fn sessions_are_explained_or_bad()
@@ -118,7 +119,7 @@ pub fn outcome_within_a_session()
         → AreNext (streams s.client s.server) pairs between → IsNext between pair after → ArePermittedBehind profile earlier pairs
         → (ArePermittedBehind profile earlier (pairs ++ pair ∷ []) → ⊥)
         → IsOutcomeOfAll profile (before ++ s ∷ more)
-        (NoOfAll (length before) (length pairs) (class_by (fits profile (visible_from start.visible (asked_of pairs) (responses_of pairs)) (asked_at pair.line)
+        (NoOfAll (length before) (length pairs) (class_by (fits profile (visible_from start.visible (asked_of pairs) (responses_of pairs)) (asked_at pair.place)
         pair.response))) }
 {}
 
@@ -163,7 +164,7 @@ pub fn bad_answer_stays_whatever_follows()
     ensures settled { (profile : Profile) (before : List Recorded) (s : Recorded) (more_client more_server : List ℕ) (more : List Recorded) (answer : ℕ)
         (class : Class)
         → BadBehind profile before s answer → HasClass profile s.client s.server answer class → IsSettled s.client s.server answer class
-        → IsOutcomeOfAll profile (before ++ record { client = s.client ++ more_client; server = s.server ++ more_server }
+        → IsOutcomeOfAll profile (before ++ record { client = further s.client more_client; server = s.server ++ more_server }
         ∷ more) (NoOfAll (length before) answer class) }
 {}
 

@@ -12,10 +12,12 @@ pub struct Recorded<'a> {
 
 impl<'a> Model for Recorded<'a> {
     ghost use Rattle.nntp_several.specs.Sessions.{Recorded as RecordedValue};
+    ghost use Rattle.nntp_wire.specs.Session.{taken};
+    ghost use Rattle.nntp_wire.specs.declared.overviews.Overviews.TheVariants.{Opaque};
 
     ghost Value = { RecordedValue };
 
-    ghost view = { λ session. record { client = session.client.now; server = session.server.now } };
+    ghost view = { λ session. record { client = taken Opaque session.client.now; server = session.server.now } };
 }
 
 /// A session with its name.
@@ -29,6 +31,8 @@ pub struct Named<'a> {
 
 impl<'a> Model for Named<'a> {
     ghost use Rattle.nntp_several.specs.Sessions.{Named as NamedValue};
+    ghost use Rattle.nntp_wire.specs.Session.{taken};
+    ghost use Rattle.nntp_wire.specs.declared.overviews.Overviews.TheVariants.{Opaque};
 
     ghost Value = { NamedValue };
 

@@ -143,6 +143,7 @@ impl<'a> Said<'a> {
                 ..
             } => self.hear_sent(command, *number, id.as_slice(), block.as_ref()),
             Answer::Active(block) => self.hear_groups(block),
+            Answer::Overviews(_) => Ok(()),
             Answer::Plain { code } => self.hear_code(command, *code),
         }
     }

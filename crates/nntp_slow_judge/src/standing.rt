@@ -95,6 +95,7 @@ impl<'s> Standing<'s> {
                 Command::ListActive(wildmat) => self.spool.is_list(wildmat.as_ref(), block),
                 _ => false,
             },
+            Answer::Overviews(_) => matches!(command, Command::Over { .. }),
         }
     }
 

@@ -108,7 +108,7 @@ impl<'a> Visible<'a> {
                 (Which::Current, 420) => is_selected,
                 _ => false,
             },
-            Command::Opaque => code == 381 || code < 300 || 399 < code,
+            Command::Over { .. } | Command::Opaque => code == 381 || code < 300 || 399 < code,
             Command::ListActive(_) | Command::IllFormed => false,
         }
     }
@@ -142,6 +142,7 @@ impl<'a> Visible<'a> {
             (Command::ListActive(wildmat), Answer::Active(block)) => {
                 self.groups_fit(wildmat.as_ref(), block)
             }
+            (Command::Over { .. }, Answer::Overviews(_)) => true,
             _ => false,
         }
     }

@@ -1,7 +1,7 @@
 -- What a spool permits of a pairing is what it explains of the streams.
 use Rattle.std.proofs.Common.{◌≡◌, ℕ, ◌+◌, ◌<◌, List, [], ◌∷◌, ◌++◌, length, map, refl, sym, ap, subst, ◌∙◌, arith, length-append, append_assoc, ◌≤◌, inl, inr}
 use Rattle.std.proofs.lemmas.{Bool.{cases_lt}, List.{length-map}}
-use Rattle.nntp_wire.specs.{Answer.{Asked, Response}, Session.{prompts_of}}
+use Rattle.nntp_wire.specs.{Answer.{Asked, Response}, Session.{prompts_of, ClientStream}}
 use Rattle.nntp_pair.specs.{declared.class.PairClass.{PairClass}, Pairing.{Paired, Unpaired, IsNext, AreNext, Ends, bad, responses_of, asked_at, places_of}}
 use Rattle.nntp_pair.{specs.Pairing.{streams}, proofs.{NextLemmas.{next-shorter, one-next, next-no-end}, PairingLemmas.{AreNext-push}}}
 use Rattle.nntp_pair.proofs.SpelledLemmas.{places-prompts, pairs-spelled, spelled-pairs}
@@ -26,38 +26,38 @@ pairs-run : (profile : Profile) (S : Spool) (s : State) (pairs : List Paired) (a
     → MayAnswerAll profile S s pairs → Run profile S s (map asked_at a.places) (responses_of pairs)
 pairs-run profile S s [] a b n may = tt
 pairs-run profile S s (x ∷ pairs) a b (d, n, more) may =
-    let rest = pairs-run profile S (after S s (asked_at x.line) x.response) pairs d b more may.1 in
-    subst (λ places. Run profile S s (map asked_at places) (x.response ∷ responses_of pairs)) (sym n.place) (after S s (asked_at x.line) x.response, record { may = may.0; leads = refl }, rest)
+    let rest = pairs-run profile S (after S s (asked_at x.place) x.response) pairs d b more may.1 in
+    subst (λ places. Run profile S s (map asked_at places) (x.response ∷ responses_of pairs)) (sym n.place) (after S s (asked_at x.place) x.response, record { may = may.0; leads = refl }, rest)
 
 run-pairs : (profile : Profile) (S : Spool) (s : State) (pairs : List Paired) (a b : Unpaired) → AreNext a pairs b
     → Run profile S s (map asked_at a.places) (responses_of pairs) → MayAnswerAll profile S s pairs
 run-pairs profile S s [] a b n run = tt
 run-pairs profile S s (x ∷ pairs) a b (d, n, more) run =
     let r = subst (λ places. Run profile S s (map asked_at places) (x.response ∷ responses_of pairs)) n.place run in
-    (r.1.may, run-pairs profile S (after S s (asked_at x.line) x.response) pairs d b more (subst (λ (t : State). Run profile S t (map asked_at d.places) (responses_of pairs)) r.1.leads r.2))
+    (r.1.may, run-pairs profile S (after S s (asked_at x.place) x.response) pairs d b more (subst (λ (t : State). Run profile S t (map asked_at d.places) (responses_of pairs)) r.1.leads r.2))
 
 last-may : (profile : Profile) (S : Spool) (s : State) (pairs more : List Paired) (x : Paired)
-    → MayAnswerAll profile S s (pairs ++ x ∷ more) → MayAnswer profile S (state_after S s pairs) (asked_at x.line) x.response
+    → MayAnswerAll profile S s (pairs ++ x ∷ more) → MayAnswer profile S (state_after S s pairs) (asked_at x.place) x.response
 last-may profile S s [] more x may = may.0
-last-may profile S s (y ∷ pairs) more x may = last-may profile S (after S s (asked_at y.line) y.response) pairs more x may.1
+last-may profile S s (y ∷ pairs) more x may = last-may profile S (after S s (asked_at y.place) y.response) pairs more x may.1
 
 first-may : (profile : Profile) (S : Spool) (s : State) (pairs more : List Paired) → MayAnswerAll profile S s (pairs ++ more) → MayAnswerAll profile S s pairs
 first-may profile S s [] more may = tt
-first-may profile S s (y ∷ pairs) more may = (may.0, first-may profile S (after S s (asked_at y.line) y.response) pairs more may.1)
+first-may profile S s (y ∷ pairs) more may = (may.0, first-may profile S (after S s (asked_at y.place) y.response) pairs more may.1)
 
 -- one more pair
-pub state-more : (S : Spool) (s : State) (pairs : List Paired) (x : Paired) → state_after S s (pairs ++ x ∷ []) ≡ after S (state_after S s pairs) (asked_at x.line) x.response
+pub state-more : (S : Spool) (s : State) (pairs : List Paired) (x : Paired) → state_after S s (pairs ++ x ∷ []) ≡ after S (state_after S s pairs) (asked_at x.place) x.response
 state-more S s [] x = refl
-state-more S s (y ∷ pairs) x = state-more S (after S s (asked_at y.line) y.response) pairs x
+state-more S s (y ∷ pairs) x = state-more S (after S s (asked_at y.place) y.response) pairs x
 
 pub all-more : (profile : Profile) (S : Spool) (s : State) (pairs : List Paired) (x : Paired) → MayAnswerAll profile S s pairs
-    → MayAnswer profile S (state_after S s pairs) (asked_at x.line) x.response → MayAnswerAll profile S s (pairs ++ x ∷ [])
+    → MayAnswer profile S (state_after S s pairs) (asked_at x.place) x.response → MayAnswerAll profile S s (pairs ++ x ∷ [])
 all-more profile S s [] x all may = (may, tt)
-all-more profile S s (y ∷ pairs) x all may = (all.0, all-more profile S (after S s (asked_at y.line) y.response) pairs x all.1 may)
+all-more profile S s (y ∷ pairs) x all may = (all.0, all-more profile S (after S s (asked_at y.place) y.response) pairs x all.1 may)
 
 -- ---- both
 
-module _ (profile : Profile) (S : Spool) (is : IsSpool profile.limit S) (client server : List ℕ) where
+module _ (profile : Profile) (S : Spool) (is : IsSpool profile.limit S) (client : ClientStream) (server : List ℕ) where
   -- pairs that are permitted are explained
   pub permitted-explained : (pairs : List Paired) (left : Unpaired) → AreNext (streams client server) pairs left
       → MayAnswerAll profile S start pairs → ExplainsUpTo profile S client server (length pairs) left.server
@@ -94,7 +94,7 @@ module _ (profile : Profile) (S : Spool) (is : IsSpool profile.limit S) (client 
 
   -- a response that isn't permitted is refused
   pub unpermitted-refused : (pairs : List Paired) (left behind : Unpaired) (x : Paired) → AreNext (streams client server) pairs left → MayAnswerAll profile S start pairs → IsNext left x behind
-      → (MayAnswer profile S (state_after S start pairs) (asked_at x.line) x.response → ⊥) → RefusesAt profile S client server (length pairs)
+      → (MayAnswer profile S (state_after S start pairs) (asked_at x.place) x.response → ⊥) → RefusesAt profile S client server (length pairs)
   unpermitted-refused pairs left behind x n may is_next never = (
     (left.server, permitted-explained pairs left n may, shorter left behind x is_next),
     λ (rest, e).

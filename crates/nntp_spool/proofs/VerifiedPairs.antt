@@ -8,9 +8,10 @@ use Rattle.nntp_said.specs.{Asks.{position_after}, Inner.Asks.{state_at}, declar
 use Rattle.nntp_said.proofs.CurrentArticle.{after-state_at}
 use Rattle.nntp_spool.specs.{declared.verification.verified.Verified.{Verified}, Verifying.{IsVerified}, Inner.Sessions.{state_after, MayAnswerAll}}
 use Rattle.nntp_spool.{specs.Sessions.{RefusesAt}, proofs.PermittedPairs.{state-more, all-more, permitted-explained, unpermitted-refused, bad-refused}}
+use Rattle.nntp_wire.specs.Session.{ClientStream}
 
 -- a spool and a profile that are the same leave what is verified as it is
-pub verified_by_same : {E : Type 0} (profile other : Profile) (S T : Spool) (client server : List ℕ) (r : Result Verified E) → profile ≡ other
+pub verified_by_same : {E : Type 0} (profile other : Profile) (S T : Spool) (client : ClientStream) (server : List ℕ) (r : Result Verified E) → profile ≡ other
     → S ≡ T → IfOk r (λ verified. IsVerified profile S client server verified) → IfOk r (λ verified. IsVerified other T client server verified)
 verified_by_same profile other S T client server r same equal is =
     subst (λ (U : Spool). IfOk r (λ verified. IsVerified other U client server verified)) equal
@@ -20,44 +21,45 @@ pub spool_by_same : (profile other : Profile) (S T : Spool) → profile ≡ othe
 spool_by_same profile other S T same equal is = subst (λ (U : Spool). IsSpool profile.limit U) (sym equal) (subst (λ (p : Profile). IsSpool p.limit T) (sym same) is)
 
 -- so far the exchanges are permitted
-pub record Permitted (profile : Profile) (S : Spool) (client server : List ℕ) (left : Unpaired) (s : State) (count : ℕ) : Type 0 where
+pub record Permitted (profile : Profile) (S : Spool) (client : ClientStream) (server : List ℕ) (left : Unpaired) (s : State) (count : ℕ) : Type 0 where
   pub pairs : List Paired
   pub next : AreNext (streams client server) pairs left
   pub may : MayAnswerAll profile S start pairs
   pub state : s ≡ state_after S start pairs
   pub counted : count ≡ length pairs
 
-one_more_pair : (profile : Profile) (S : Spool) (client server : List ℕ) (left behind : Unpaired) (s new : State) (count : ℕ)
+one_more_pair : (profile : Profile) (S : Spool) (client : ClientStream) (server : List ℕ) (left behind : Unpaired) (s new : State) (count : ℕ)
     (x : Paired) → Permitted profile S client server left s count → IsNext left x behind
-    → MayAnswer profile S s (asked_at x.line) x.response → new ≡ after S s (asked_at x.line) x.response → Permitted profile S client server behind new (x.index + 1)
+    → MayAnswer profile S s (asked_at x.place) x.response → new ≡ after S s (asked_at x.place) x.response → Permitted profile S client server behind new (x.index + 1)
 one_more_pair profile S client server left behind s new count x p is may leads = record {
   pairs = p.pairs ++ x ∷ [];
   next = AreNext-push p.pairs (streams client server) left behind x p.next is;
-  may = all-more profile S start p.pairs x p.may (subst (λ (t : State). MayAnswer profile S t (asked_at x.line) x.response) p.state may);
-  state = leads ∙ ap (λ (t : State). after S t (asked_at x.line) x.response) p.state ∙ sym (state-more S start p.pairs x);
+  may = all-more profile S start p.pairs x p.may (subst (λ (t : State). MayAnswer profile S t (asked_at x.place) x.response) p.state may);
+  state = leads ∙ ap (λ (t : State). after S t (asked_at x.place) x.response) p.state ∙ sym (state-more S start p.pairs x);
   counted = ap (λ n. n + 1) (is.index ∙ index-counts client server p.pairs left p.next) ∙ sym (length-append p.pairs (x ∷ []));
 }
 
 -- no exchange yet
-pub none_permitted : (profile : Profile) (S : Spool) (client server : List ℕ) (v : Visible) → v ≡ start.visible
+pub none_permitted : (profile : Profile) (S : Spool) (client : ClientStream) (server : List ℕ) (v : Visible) → v ≡ start.visible
     → Permitted profile S client server (streams client server) (state_at S v Nowhere) 0
 none_permitted profile S client server v e = record { pairs = []; next = refl; may = tt; state = ap (λ w. state_at S w Nowhere) e; counted = refl }
 
 -- one more, where the current article is read off the session
-pub one_more_answer : (profile : Profile) (S : Spool) (client server : List ℕ) (left behind : Unpaired) (v w : Visible) (at moved : Position) (count : ℕ)
+pub one_more_answer : (profile : Profile) (S : Spool) (client : ClientStream) (server : List ℕ) (left behind : Unpaired) (v w : Visible) (at moved : Position) (count : ℕ)
     (x : Paired) → Permitted profile S client server left (state_at S v at) count → IsNext left x behind
-    → MayAnswer profile S (state_at S v at) (asked_at x.line) x.response → w ≡ visible_after v (asked_at x.line) x.response
-    → moved ≡ position_after at (asked_at x.line) x.response → Permitted profile S client server behind (state_at S w moved) (x.index + 1)
+    → MayAnswer profile S (state_at S v at) (asked_at x.place) x.response → w ≡ visible_after v (asked_at x.place) x.response
+    → moved ≡ position_after at (asked_at x.place) x.response → Permitted profile S client server behind (state_at S w moved) (x.index + 1)
 one_more_answer profile S client server left behind v w at moved count x p is may shown stands =
     one_more_pair profile S client server left behind (state_at S v at) (state_at S w moved) count x p is may
-    ((λ i. state_at S (shown i) (stands i)) ∙ sym (after-state_at profile.marks S v at (asked_at x.line) x.response may.agrees))
+    ((λ i. state_at S (shown i) (stands i)) ∙ sym (after-state_at profile.marks S v at (asked_at x.place) x.response may.agrees))
 
-module _ (profile : Profile) (S : Spool) (is : IsSpool profile.limit S) (client server : List ℕ) (left : Unpaired) (s : State) (count : ℕ) (p : Permitted profile S client server left s count) where
-  pub not_permitted : (behind : Unpaired) (x : Paired) → IsNext left x behind → (MayAnswer profile S s (asked_at x.line) x.response → ⊥) → RefusesAt profile S client server count
+module _ (profile : Profile) (S : Spool) (is : IsSpool profile.limit S) (client : ClientStream) (server : List ℕ) (left : Unpaired) (s : State) (count : ℕ)
+    (p : Permitted profile S client server left s count) where
+  pub not_permitted : (behind : Unpaired) (x : Paired) → IsNext left x behind → (MayAnswer profile S s (asked_at x.place) x.response → ⊥) → RefusesAt profile S client server count
   not_permitted behind x is_next never =
       subst (RefusesAt profile S client server) (sym p.counted)
       (unpermitted-refused profile S is client server p.pairs left behind x p.next p.may is_next
-      (λ may. never (subst (λ (t : State). MayAnswer profile S t (asked_at x.line) x.response) (sym p.state) may)))
+      (λ may. never (subst (λ (t : State). MayAnswer profile S t (asked_at x.place) x.response) (sym p.state) may)))
 
   pub answers_nothing : (class : PairClass) → Ends left (bad class) → RefusesAt profile S client server count
   answers_nothing class ends = subst (RefusesAt profile S client server) (sym p.counted) (bad-refused profile S is client server p.pairs left class p.next p.may ends)

@@ -1,6 +1,6 @@
 -- Groups and articles that a spool may hold, whether each id has its article or not.
 use Rattle.std.specs.{Prelude.{Bool, ◌&&◌, List, is_some}, List.{list_all}, FinMap.{get, insert, empty, entries}}
-use Rattle.nntp_article.specs.{Article.Parts.{Line, Id, is_clean_head}, Session.{Spool.{Name, Spool, Numbers, Text, numbers}, Machine.{says_own_id}}}
+use Rattle.nntp_article.specs.{Article.Parts.{Line, Id, is_clean_head}, Session.{Spool.{Name, Spool, Numbers, Text}, Machine.{says_own_id}}}
 
 -- no group and no article
 abbrev pub no_spool : Spool

@@ -12,6 +12,7 @@ ghost use Rattle.nntp_spool.specs.Limited.{LimitedSpool, IsWithinLimit};
 ghost use Rattle.nntp_spool.specs.Text.{spool_text};
 ghost use Rattle.nntp_spool.specs.Inner.Text.{IsWritten};
 ghost use Rattle.nntp_spool.specs.Reading.{spool_at};
+ghost use Rattle.nntp_wire.specs.Session.{ClientStream};
 
 /// Octets that are read as a spool are the text of this spool.
 pub fn what_is_read_is_a_text()
@@ -38,22 +39,24 @@ pub fn texts_differ()
 /// A spool that permits the responses of some pairs explains as many answers, up to the octets that
 /// these pairs leave.
 pub fn what_is_permitted_is_explained()
-    ensures { (profile : Profile) (S : Spool) (client server : List ℕ) (pairs : List Paired) (left : Unpaired) → IsSpool profile.limit S
+    ensures { (profile : Profile) (S : Spool) (client : ClientStream) (server : List ℕ) (pairs : List Paired) (left : Unpaired) → IsSpool profile.limit S
         → AreNext (streams client server) pairs left → MayAnswerAll profile S start pairs → ExplainsUpTo profile S client server (length pairs) left.server }
 {}
 
 /// A response that isn't permitted behind those that are is the first answer that the spool doesn't
 /// explain.
 pub fn what_is_not_permitted_is_refused()
-    ensures { (profile : Profile) (S : Spool) (client server : List ℕ) (pairs : List Paired) (left behind : Unpaired) (x : Paired) → IsSpool profile.limit S
+    ensures { (profile : Profile) (S : Spool) (client : ClientStream) (server : List ℕ) (pairs : List Paired) (left behind : Unpaired) (x : Paired)
+        → IsSpool profile.limit S
         → AreNext (streams client server) pairs left → MayAnswerAll profile S start pairs → IsNext left x behind
-        → ¬ (MayAnswer profile S (state_after S start pairs) (asked_at x.line) x.response) → RefusesAt profile S client server (length pairs) }
+        → ¬ (MayAnswer profile S (state_after S start pairs) (asked_at x.place) x.response) → RefusesAt profile S client server (length pairs) }
 {}
 
 /// Octets that answer nothing behind responses that are permitted are the first answer that the spool
 /// doesn't explain.
 pub fn what_answers_nothing_is_refused()
-    ensures { (profile : Profile) (S : Spool) (client server : List ℕ) (pairs : List Paired) (left : Unpaired) (class : PairClass) → IsSpool profile.limit S
+    ensures { (profile : Profile) (S : Spool) (client : ClientStream) (server : List ℕ) (pairs : List Paired) (left : Unpaired) (class : PairClass)
+        → IsSpool profile.limit S
         → AreNext (streams client server) pairs left → MayAnswerAll profile S start pairs → Ends left (bad class)
         → RefusesAt profile S client server (length pairs) }
 {}
@@ -61,6 +64,6 @@ pub fn what_answers_nothing_is_refused()
 /// A spool that explains two streams refuses none of their answers. So `verify` answers `Permits`
 /// exactly if the spool explains both streams.
 pub fn explaining_is_no_refusal()
-    ensures { (profile : Profile) (S : Spool) (client server : List ℕ) (n k : ℕ)
+    ensures { (profile : Profile) (S : Spool) (client : ClientStream) (server : List ℕ) (n k : ℕ)
         → Explains profile S client server n → ¬ (RefusesAt profile S client server k) }
 {}

@@ -7,6 +7,8 @@ ghost use Rattle.nntp_article.specs.Session.Spool.{IsSpool};
 ghost use Rattle.nntp_said.specs.Inner.Asks.{state_at};
 ghost use Rattle.nntp_spool.specs.Inner.AskedCounts.{AreCounted};
 ghost use Rattle.nntp_spool.specs.Verifying.{IsVerified};
+ghost use Rattle.nntp_wire.specs.Session.{taken};
+ghost use Rattle.nntp_wire.specs.declared.overviews.Overviews.TheVariants.{Opaque};
 
 mod asked_counts;
 mod holding;
@@ -46,7 +48,7 @@ pub fn verify<A: Allocator + Copy, S: Allocator>(
     client: &[u8],
     server: &[u8],
 ) -> Result<Verified, AllocError>
-    ensures { IfOk result (λ verified. IsVerified (profile_of spool.now.limit marks) spool.now.spool client.now server.now verified) }
+    ensures { IfOk result (λ verified. IsVerified (profile_of spool.now.limit marks) spool.now.spool (taken Opaque client.now) server.now verified) }
 {
     let profile = Profile::of(spool.limit(), marks);
     let content = spool.content();
@@ -78,7 +80,7 @@ fn judge<A: Allocator + Copy, S: Allocator>(
     requires spool { IsSpool profile.limit content.now }
     requires start { visible.old ≡ start.visible }
     requires counted { AreCounted content.now counts.old }
-    ensures { IfOk result (λ verified. IsVerified profile content.now client.now server.now verified) }
+    ensures { IfOk result (λ verified. IsVerified profile content.now (taken Opaque client.now) server.now verified) }
 {
     let mut pairs = Pairs::new(client, server);
     let mut group = LastGroup::new(content);
@@ -118,7 +120,7 @@ fn may_answer<A: Allocator + Copy, S: Allocator>(
     ensures spool { group.new ≡ group.old }
     ensures counted { IfOk result (λ _. AreCounted group.old counts.new) }
     ensures may { IfOk result (λ may. IsTrue may
-        ↔ MayAnswer profile group.old (state_at group.old visible.now position) (asked_at exchange.now.line) exchange.now.response) }
+        ↔ MayAnswer profile group.old (state_at group.old visible.now position) (asked_at exchange.now.place) exchange.now.response) }
 {
     let prompt = exchange.prompt();
     let answer = exchange.answer();

@@ -1,6 +1,6 @@
 -- Why an answer is bad (RFC 3977, sections 3.1, 3.2 and 3.5).
 use Rattle.std.specs.Prelude.{◌≡◌, ℕ, Bool, true, false, List, [], ◌∷◌, ◌++◌, length, Option, None, Some, ⊤}
-use Rattle.nntp_wire.specs.{Answer.{Asked, Response, Spells}, Session.{prompts_of, Spelled}}
+use Rattle.nntp_wire.specs.{Answer.{Asked, Response, Spells}, Session.{prompts_of, Spelled, ClientStream}}
 use Rattle.nntp_article.specs.{declared.session.profile.Profile.{Profile}, Session.Machine.{Visible, start, fits, visible_after}}
 use Rattle.nntp_said.specs.{Asks.{position_after}, declared.position.Position.{Position}}
 use Rattle.nntp_pair.specs.{Pairing.{IsCut, IsMalformed}, declared.class.Class.{Class, TheVariants.{Surplus, Cut, Malformed, OutOfPlace, Contradiction}}}
@@ -24,7 +24,7 @@ asked_next (asked ∷ ps) [] = Some asked
 asked_next (asked ∷ ps) (response ∷ more) = asked_next ps more
 
 -- the server's octets begin with spellings of k answers, and go on with the rest
-pub record AnswersFirst (client server : List ℕ) (k : ℕ) : Type 0 where
+pub record AnswersFirst (client : ClientStream) (server : List ℕ) (k : ℕ) : Type 0 where
   pub answers : List Response
   pub octets : List ℕ
   pub rest : List ℕ
@@ -56,22 +56,22 @@ IsClass false profile v None octets class = class ≡ Surplus
 IsClass false profile v (Some asked) octets class = IsOpenClass profile v asked octets class
 
 -- the visible state behind the answers
-abbrev pub left_visible : (client server : List ℕ) (k : ℕ) → AnswersFirst client server k → Visible
+abbrev pub left_visible : (client : ClientStream) (server : List ℕ) (k : ℕ) → AnswersFirst client server k → Visible
 left_visible client server k before = visible_from start.visible (prompts_of client) before.answers
 
 -- the class of answer k, which is bad
-pub record HasClass (profile : Profile) (client server : List ℕ) (k : ℕ) (class : Class) : Type 0 where
+pub record HasClass (profile : Profile) (client : ClientStream) (server : List ℕ) (k : ℕ) (class : Class) : Type 0 where
   pub before : AnswersFirst client server k
   pub is_class : IsClass (left_visible client server k before).closed profile (left_visible client server k before)
       (asked_next (prompts_of client) before.answers) before.rest class
 
 -- the answers before k leave the connection closed
-pub record IsClosedBefore (client server : List ℕ) (k : ℕ) : Type 0 where
+pub record IsClosedBefore (client : ClientStream) (server : List ℕ) (k : ℕ) : Type 0 where
   pub before : AnswersFirst client server k
   pub closed : (left_visible client server k before).closed ≡ true
 
 -- no octets that follow can mend a bad answer k of this class: its frame is whole, or the connection is closed before it
-abbrev pub IsSettled : List ℕ → List ℕ → ℕ → Class → Type 0
+abbrev pub IsSettled : ClientStream → List ℕ → ℕ → Class → Type 0
 IsSettled client server k Surplus = IsClosedBefore client server k
 IsSettled client server k Cut = ⊥
 IsSettled client server k class = ⊤

@@ -34,7 +34,7 @@ abbrev pub placed_behind : List Paired → Paired → Placed
 placed_behind past pair = record {
   selected = (visible_from start.visible (asked_of past) (responses_of past)).selected;
   position = position_from Nowhere (asked_of past) (responses_of past);
-  asked = asked_at pair.line;
+  asked = asked_at pair.place;
   response = pair.response;
 }
 

@@ -33,6 +33,8 @@ ghost use Rattle.nntp_wire.specs.declared.marks.Marks.TheVariants.{Strict};
 ghost use Rattle.nntp_theory.specs.Conflict.{Placed, placed_from, a_group, told, SomeHas, told_with, below};
 ghost use Rattle.nntp_theory.specs.Conflict.{Point, ConflictAt, IsFirstPoint, IsCore, IsEndOfCore, AreAmong};
 ghost use Rattle.nntp_theory.specs.Inner.Conflict.{FitsThere, IsPartOfCore};
+ghost use Rattle.nntp_wire.specs.Session.{ClientStream};
+ghost use Rattle.nntp_wire.specs.Session.{further};
 
 pub mod reading;
 pub mod sessions;
@@ -83,7 +85,7 @@ pub fn size_is_bounded()
 pub fn size_is_bounded_by_octets()
     ensures spelled { (how : Marks) (prompts : List Asked) (answers : List Response) (octets : List ℕ)
         → Spelled prompts answers octets → size (facts_of_session how prompts answers) ≤ length octets }
-    ensures paired { (how : Marks) (client server : List ℕ) (pairs : List Paired) (left : Unpaired)
+    ensures paired { (how : Marks) (client : ClientStream) (server : List ℕ) (pairs : List Paired) (left : Unpaired)
         → AreNext (streams client server) pairs left → size (facts_of_session how (asked_of pairs) (responses_of pairs)) ≤ length server }
 {}
 
@@ -124,9 +126,10 @@ pub fn answered_prompts_matter()
         → visible_from v (prompts ++ more) answers ≡ visible_from v prompts answers }
     ensures next { (prompts more : List Asked) (asked : Asked) (answers : List Response) → length prompts ≡ length answers
         → asked_next (prompts ++ asked ∷ more) answers ≡ Some asked }
-    ensures paired { (client server : List ℕ) (pairs : List Paired) (left : Unpaired) → AreNext (streams client server) pairs left
+    ensures paired { (client : ClientStream) (server : List ℕ) (pairs : List Paired) (left : Unpaired) → AreNext (streams client server) pairs left
         → (more : List Asked) × (prompts_of client ≡ asked_of pairs ++ more) }
-    ensures pairs_permitted { (profile : Profile) (client server : List ℕ) (pairs : List Paired) (left : Unpaired) → AreNext (streams client server) pairs left
+    ensures pairs_permitted { (profile : Profile) (client : ClientStream) (server : List ℕ) (pairs : List Paired) (left : Unpaired)
+        → AreNext (streams client server) pairs left
         → SomePermits profile (prompts_of client) (responses_of pairs) ↔ SomePermits profile (asked_of pairs) (responses_of pairs) }
 {}
 
@@ -207,17 +210,17 @@ pub fn one_answer_is_bad()
 
 /// Some spool explains two streams, or exactly one answer is bad, and never both.
 pub fn streams_are_explained_or_bad()
-    ensures explained_or_bad { (profile : Profile) (client server : List ℕ) → length server < 2 ^ 210
+    ensures explained_or_bad { (profile : Profile) (client : ClientStream) (server : List ℕ) → length server < 2 ^ 210
         → ((S : Spool) × (n : ℕ) × Explains profile S client server n) ⊎ ((k : ℕ) × Bad profile client server k) }
-    ensures never_both { (profile : Profile) (S : Spool) (client server : List ℕ) (n k : ℕ)
+    ensures never_both { (profile : Profile) (S : Spool) (client : ClientStream) (server : List ℕ) (n k : ℕ)
         → Explains profile S client server n → Bad profile client server k → ⊥ }
-    ensures one_bad { (profile : Profile) (client server : List ℕ) (k j : ℕ)
+    ensures one_bad { (profile : Profile) (client : ClientStream) (server : List ℕ) (k j : ℕ)
         → Bad profile client server k → Bad profile client server j → k ≡ j }
 {}
 
 /// A bad answer has one class.
 pub fn bad_answer_has_one_class()
-    ensures { (profile : Profile) (client server : List ℕ) (k : ℕ) → Bad profile client server k
+    ensures { (profile : Profile) (client : ClientStream) (server : List ℕ) (k : ℕ) → Bad profile client server k
         → (class : Class) × HasClass profile client server k class
         × ((other : Class) → HasClass profile client server k other → other ≡ class) }
 {}
@@ -225,27 +228,27 @@ pub fn bad_answer_has_one_class()
 /// A bad answer whose frame is whole, or that comes after the connection was closed, is bad of the
 /// same class whatever octets follow.
 pub fn settled_answer_stays_bad()
-    ensures { (profile : Profile) (client server more_client more_server : List ℕ) (k : ℕ) (class : Class)
+    ensures { (profile : Profile) (client : ClientStream) (server more_client more_server : List ℕ) (k : ℕ) (class : Class)
         → HasClass profile client server k class → IsSettled client server k class
         → Bad profile client server k
-        → Bad profile (client ++ more_client) (server ++ more_server) k
-        × HasClass profile (client ++ more_client) (server ++ more_server) k class }
+        → Bad profile (further client more_client) (server ++ more_server) k
+        × HasClass profile (further client more_client) (server ++ more_server) k class }
 {}
 
 /// Where the pairing of two streams ends at octets, these have the class of that end, which is
 /// settled exactly if the end is lasting.
 pub fn pairing_ends_in_class()
-    ensures class { (profile : Profile) (client server : List ℕ) (pairs : List Paired) (left : Unpaired) (class : PairClass)
+    ensures class { (profile : Profile) (client : ClientStream) (server : List ℕ) (pairs : List Paired) (left : Unpaired) (class : PairClass)
         → AreNext (streams client server) pairs left → IsBad class left
         → HasClass profile client server (length pairs) (class_of class) }
-    ensures settled { (client server : List ℕ) (pairs : List Paired) (left : Unpaired) (class : PairClass)
+    ensures settled { (client : ClientStream) (server : List ℕ) (pairs : List Paired) (left : Unpaired) (class : PairClass)
         → AreNext (streams client server) pairs left → IsSettled client server (length pairs) (class_of class) ↔ IsLasting class left }
 {}
 
 /// A spool explains both streams, if their pairing comes to the end of the server's octets and the
 /// spool permits its responses.
 pub fn pairing_to_the_end_is_explained()
-    ensures { (profile : Profile) (S : Spool) (client server : List ℕ) (pairs : List Paired) (unanswered : ℕ)
+    ensures { (profile : Profile) (S : Spool) (client : ClientStream) (server : List ℕ) (pairs : List Paired) (unanswered : ℕ)
         → IsPairing client server pairs (end unanswered) → IsSpool profile.limit S
         → Run profile S start (prompts_of client) (responses_of pairs) → Explains profile S client server (length pairs) }
 {}
@@ -253,7 +256,7 @@ pub fn pairing_to_the_end_is_explained()
 /// Where a pairing ends at octets, and some spool permits its responses, the answer at these octets
 /// is bad, of the class of that end.
 pub fn pairing_to_octets_is_bad()
-    ensures { (profile : Profile) (client server : List ℕ) (pairs : List Paired) (class : PairClass)
+    ensures { (profile : Profile) (client : ClientStream) (server : List ℕ) (pairs : List Paired) (class : PairClass)
         → IsPairing client server pairs (bad class) → SomePermits profile (prompts_of client) (responses_of pairs)
         → Bad profile client server (length pairs) × HasClass profile client server (length pairs) (class_of class) }
 {}
@@ -261,50 +264,50 @@ pub fn pairing_to_octets_is_bad()
 /// A paired response that no spool permits behind those that some spool permits is a bad answer; it
 /// is out of place where it doesn't fit the visible state, and else a contradiction.
 pub fn unpermitted_response_is_bad()
-    ensures bad { (profile : Profile) (client server : List ℕ) (pairs : List Paired) (pair : Paired) (before after : Unpaired)
+    ensures bad { (profile : Profile) (client : ClientStream) (server : List ℕ) (pairs : List Paired) (pair : Paired) (before after : Unpaired)
         → AreNext (streams client server) pairs before → IsNext before pair after
         → SomePermits profile (prompts_of client) (responses_of pairs)
         → (SomePermits profile (prompts_of client) (responses_of pairs ++ pair.response ∷ []) → ⊥)
         → Bad profile client server (length pairs) }
-    ensures class { (profile : Profile) (client server : List ℕ) (pairs : List Paired) (pair : Paired) (before after : Unpaired)
+    ensures class { (profile : Profile) (client : ClientStream) (server : List ℕ) (pairs : List Paired) (pair : Paired) (before after : Unpaired)
         → AreNext (streams client server) pairs before → IsNext before pair after
         → HasClass profile client server (length pairs) (class_by
-        (fits profile (visible_from start.visible (prompts_of client) (responses_of pairs)) (asked_at pair.line) pair.response)) }
-    ensures unfitting { (profile : Profile) (client server : List ℕ) (pairs : List Paired) (pair : Paired) (before after : Unpaired)
+        (fits profile (visible_from start.visible (prompts_of client) (responses_of pairs)) (asked_at pair.place) pair.response)) }
+    ensures unfitting { (profile : Profile) (client : ClientStream) (server : List ℕ) (pairs : List Paired) (pair : Paired) (before after : Unpaired)
         → AreNext (streams client server) pairs before → IsNext before pair after
-        → fits profile (visible_from start.visible (prompts_of client) (responses_of pairs)) (asked_at pair.line) pair.response ≡ false
+        → fits profile (visible_from start.visible (prompts_of client) (responses_of pairs)) (asked_at pair.place) pair.response ≡ false
         → SomePermits profile (prompts_of client) (responses_of pairs ++ pair.response ∷ []) → ⊥ }
 {}
 
 /// The answers of an explanation are the responses of the first pairs of the streams, in order, and
 /// it leaves the octets that these pairs leave.
 pub fn explanation_is_by_pairs()
-    ensures { (profile : Profile) (S : Spool) (client server : List ℕ) (n : ℕ) (rest : List ℕ)
+    ensures { (profile : Profile) (S : Spool) (client : ClientStream) (server : List ℕ) (n : ℕ) (rest : List ℕ)
         → (explained : ExplainsUpTo profile S client server n rest) → HasPairs (streams client server) explained.answers rest }
 {}
 
 /// The answers of an explanation of both streams are those of the whole pairing, which ends with no
 /// octet left. So where a pairing ends at octets, no spool explains the streams.
 pub fn explanation_is_by_all_pairs()
-    ensures { (profile : Profile) (S : Spool) (client server : List ℕ) (n : ℕ) (pairs : List Paired) (ending : Ending)
+    ensures { (profile : Profile) (S : Spool) (client : ClientStream) (server : List ℕ) (n : ℕ) (pairs : List Paired) (ending : Ending)
         → IsPairing client server pairs ending → (explained : Explains profile S client server n)
         → (responses_of pairs ≡ explained.answers) × (unanswered : ℕ) × (ending ≡ end unanswered) }
 {}
 
 /// Two streams have exactly one outcome. It is a yes if some spool explains them, and else a no.
 pub fn streams_have_one_outcome()
-    ensures some { (profile : Profile) (client server : List ℕ) → length server < 2 ^ 210
+    ensures some { (profile : Profile) (client : ClientStream) (server : List ℕ) → length server < 2 ^ 210
         → (outcome : Outcome) × IsOutcome profile client server outcome }
-    ensures one { (profile : Profile) (client server : List ℕ) (outcome other : Outcome)
+    ensures one { (profile : Profile) (client : ClientStream) (server : List ℕ) (outcome other : Outcome)
         → IsOutcome profile client server outcome → IsOutcome profile client server other → outcome ≡ other }
-    ensures yes { (profile : Profile) (client server : List ℕ) (outcome : Outcome) → IsOutcome profile client server outcome
+    ensures yes { (profile : Profile) (client : ClientStream) (server : List ℕ) (outcome : Outcome) → IsOutcome profile client server outcome
         → IsTrue (is_yes outcome) ↔ ((S : Spool) × (n : ℕ) × Explains profile S client server n) }
 {}
 
 /// Where the pairing comes to the end of the server's octets, and some spool permits its responses,
 /// the outcome is a yes with the given spool.
 pub fn outcome_at_the_end()
-    ensures { (profile : Profile) (client server : List ℕ) (pairs : List Paired) (unanswered : ℕ) (G : Spool)
+    ensures { (profile : Profile) (client : ClientStream) (server : List ℕ) (pairs : List Paired) (unanswered : ℕ) (G : Spool)
         → size (facts_of_session profile.marks (asked_of pairs) (responses_of pairs)) < 2 ^ 210
         → IsPairing client server pairs (end unanswered) → SomePermits profile (asked_of pairs) (responses_of pairs)
         → IsGiven (facts_of_session profile.marks (asked_of pairs) (responses_of pairs)) G → IsOutcome profile client server (Yes G (length pairs)) }
@@ -313,7 +316,7 @@ pub fn outcome_at_the_end()
 /// Where the pairing ends at octets, and some spool permits its responses, the outcome is a no at
 /// these octets, of the class of that end.
 pub fn outcome_at_octets()
-    ensures { (profile : Profile) (client server : List ℕ) (pairs : List Paired) (class : PairClass)
+    ensures { (profile : Profile) (client : ClientStream) (server : List ℕ) (pairs : List Paired) (class : PairClass)
         → IsPairing client server pairs (bad class) → SomePermits profile (asked_of pairs) (responses_of pairs)
         → IsOutcome profile client server (No (length pairs) (class_of class)) }
 {}
@@ -322,16 +325,16 @@ pub fn outcome_at_octets()
 /// a no. It is OutOfPlace where the response doesn't fit the visible state, whatever the spools
 /// are.
 pub fn outcome_at_a_response()
-    ensures unpermitted { (profile : Profile) (client server : List ℕ) (pairs : List Paired) (pair : Paired) (before after : Unpaired)
+    ensures unpermitted { (profile : Profile) (client : ClientStream) (server : List ℕ) (pairs : List Paired) (pair : Paired) (before after : Unpaired)
         → AreNext (streams client server) pairs before → IsNext before pair after
         → SomePermits profile (asked_of pairs) (responses_of pairs)
         → (SomePermits profile (asked_of (pairs ++ pair ∷ [])) (responses_of (pairs ++ pair ∷ [])) → ⊥)
         → IsOutcome profile client server (No (length pairs) (class_by
-        (fits profile (visible_from start.visible (asked_of pairs) (responses_of pairs)) (asked_at pair.line) pair.response))) }
-    ensures unfitting { (profile : Profile) (client server : List ℕ) (pairs : List Paired) (pair : Paired) (before after : Unpaired)
+        (fits profile (visible_from start.visible (asked_of pairs) (responses_of pairs)) (asked_at pair.place) pair.response))) }
+    ensures unfitting { (profile : Profile) (client : ClientStream) (server : List ℕ) (pairs : List Paired) (pair : Paired) (before after : Unpaired)
         → AreNext (streams client server) pairs before → IsNext before pair after
         → SomePermits profile (asked_of pairs) (responses_of pairs)
-        → fits profile (visible_from start.visible (asked_of pairs) (responses_of pairs)) (asked_at pair.line) pair.response ≡ false
+        → fits profile (visible_from start.visible (asked_of pairs) (responses_of pairs)) (asked_at pair.place) pair.response ≡ false
         → IsOutcome profile client server (No (length pairs) OutOfPlace) }
 {}
 

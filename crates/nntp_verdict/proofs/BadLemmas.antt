@@ -1,7 +1,7 @@
 -- What a checker tells as bad: an answer of a session that has ended, or the one at the end of the pairing, if that end stays.
 use Rattle.std.proofs.Common.{◌≡◌, ◌⊎◌, ◌∙◌, sym, ap, subst, refl, ℕ, zero, suc, ◌<◌, List, [], ◌∷◌, ◌++◌, length, Option, None, Some, inl, inr, arith}
 use Rattle.std.specs.Prelude.{IsTrue, is_some, ⊤}
-use Rattle.nntp_wire.specs.declared.{limit.Limit.{Limit}, marks.Marks.{Marks}}
+use Rattle.nntp_wire.specs.{declared.{limit.Limit.{Limit}, marks.Marks.{Marks}}, Session.{ClientStream, further}}
 use Rattle.nntp_article.specs.{Session.Limit.{profile_of}, declared.session.profile.Profile.{Profile}}
 use Rattle.nntp_pair.specs.{declared.{class.{PairClass.{PairClass}, Class.{Class}}, octet_counts.OctetCounts.{OctetCounts}}, Pairing.{Unpaired, Ends, Ending}}
 use Rattle.nntp_pair.specs.{Pairing.{end, bad as pair_end, HasNext}, Inner.{Pairing.{IsLasting}, Feeding.{EndsForGood}}, Classes.{class_of}}
@@ -61,7 +61,7 @@ module _ (profile : Profile) (before : List Recorded) (session : Recorded) (fact
       by (inr (pair_end c, ends)) = no_end c (stays c ends j answer class is_bad)
 
 -- a no at a whole answer is settled
-settled-whole : (client server : List ℕ) (answer : ℕ) (c : Class) → IsTrue (is_whole c) → IsSettled client server answer c
+settled-whole : (client : ClientStream) (server : List ℕ) (answer : ℕ) (c : Class) → IsTrue (is_whole c) → IsSettled client server answer c
 settled-whole client server answer class.Surplus whole = cc
 settled-whole client server answer class.Cut whole = cc
 settled-whole client server answer class.Malformed whole = tt
@@ -83,17 +83,18 @@ decided-told limit marks (bad_of_all j k class command reply) counts before sess
 -- ---- of one session
 
 -- an answer of one session is bad for good as it is of the only one
-bad-alone : (profile : Profile) (client server : List ℕ) (k : ℕ) (c : Class) → IsBadForGood profile client server k c → IsBadForGoodOfAll profile [] (record { client = client; server = server }) 0 k c
+bad-alone : (profile : Profile) (client : ClientStream) (server : List ℕ) (k : ℕ) (c : Class) → IsBadForGood profile client server k c
+    → IsBadForGoodOfAll profile [] (record { client = client; server = server }) 0 k c
 bad-alone profile client server k c (outcome, settled) = ((one_session_outcome profile (record { client = client; server = server }) (No k c)).1 outcome, inr settled)
 
-only-bad : (profile : Profile) (client server : List ℕ) (j k : ℕ) (c : Class) → IsBadForGoodOfAll profile [] (record { client = client; server = server }) j k c
+only-bad : (profile : Profile) (client : ClientStream) (server : List ℕ) (j k : ℕ) (c : Class) → IsBadForGoodOfAll profile [] (record { client = client; server = server }) j k c
     → IsBadForGood profile client server k c
 only-bad profile client server zero k c (outcome, inl less) = absurd (omega (arith, less))
 only-bad profile client server zero k c (outcome, inr settled) = ((one_session_outcome profile (record { client = client; server = server }) (No k c)).0 outcome, settled)
 only-bad profile client server (suc j) k c (outcome, settled) = absurd outcome.0
 
 -- and is told so
-pub told-alone : (profile : Profile) (client server : List ℕ) (told : Option (ℕ × ℕ × Class)) → IsToldBadOfAll profile [] (record { client = client; server = server }) told
+pub told-alone : (profile : Profile) (client : ClientStream) (server : List ℕ) (told : Option (ℕ × ℕ × Class)) → IsToldBadOfAll profile [] (record { client = client; server = server }) told
     → IsToldBad profile client server (without_session told)
 told-alone profile client server None told = λ k c is_bad. told 0 k c (bad-alone profile client server k c is_bad)
 told-alone profile client server (Some bad) told = only-bad profile client server bad.0 bad.1 bad.2 told
@@ -101,8 +102,8 @@ told-alone profile client server (Some bad) told = only-bad profile client serve
 -- ---- laws
 
 -- what is bad for good stays so
-pub bad-stays : (profile : Profile) (client server client_more server_more : List ℕ) (answer : ℕ) (c : Class)
-    → IsBadForGood profile client server answer c → IsBadForGood profile (client ++ client_more) (server ++ server_more) answer c
+pub bad-stays : (profile : Profile) (client : ClientStream) (server client_more server_more : List ℕ) (answer : ℕ) (c : Class)
+    → IsBadForGood profile client server answer c → IsBadForGood profile (further client client_more) (server ++ server_more) answer c
 bad-stays profile client server client_more server_more answer c (outcome, settled) = (
   (
     answer_stays profile client server client_more server_more answer c outcome.1 settled (λ S. ⊤) outcome.0,
@@ -112,7 +113,7 @@ bad-stays profile client server client_more server_more answer c (outcome, settl
 )
 
 -- one thing is told
-pub one-told : (profile : Profile) (client server : List ℕ) (x y : Option (ℕ × Class)) → IsToldBad profile client server x → IsToldBad profile client server y → x ≡ y
+pub one-told : (profile : Profile) (client : ClientStream) (server : List ℕ) (x y : Option (ℕ × Class)) → IsToldBad profile client server x → IsToldBad profile client server y → x ≡ y
 one-told profile client server x y p q =
     let session : Recorded = record { client = client; server = server } in
     sym (back x) ∙ ap without_session (one_told_of_all profile [] session (there x) (there y) (as-all x p) (as-all y q)) ∙ back y
@@ -130,9 +131,9 @@ one-told profile client server x y p q =
     as-all (Some bad) p = bad-alone profile client server bad.0 bad.1 p
 
 -- and it stays
-pub told-stays : (profile : Profile) (client server client_more server_more : List ℕ) (x y : Option (ℕ × Class))
+pub told-stays : (profile : Profile) (client : ClientStream) (server client_more server_more : List ℕ) (x y : Option (ℕ × Class))
     → IsTrue (is_some x) → IsToldBad profile client server x
-    → IsToldBad profile (client ++ client_more) (server ++ server_more) y → y ≡ x
+    → IsToldBad profile (further client client_more) (server ++ server_more) y → y ≡ x
 told-stays profile client server client_more server_more None y some p q = cc
 told-stays profile client server client_more server_more (Some x) y some p q =
-    one-told profile (client ++ client_more) (server ++ server_more) y (Some x) q (bad-stays profile client server client_more server_more x.0 x.1 p)
+    one-told profile (further client client_more) (server ++ server_more) y (Some x) q (bad-stays profile client server client_more server_more x.0 x.1 p)

@@ -3,7 +3,7 @@ use Rattle.std.proofs.Common.{◌≡◌, ◌≢◌, ◌∙◌, refl, sym, ap, su
 use Rattle.std.proofs.Common.{slice_get, inl, inr, arith, append_assoc, append-nil, length-append, Result, Ok, Err, MatchResult, OnOk, IfErr}
 use Rattle.std.{proofs.lemmas.{Bool.{false≢true, true≢false}, Option.{slice_get_within}}, specs.Prelude.{MatchOption}}
 use Rattle.nntp_article.specs.{Session.Limit.{profile_of}, declared.session.profile.Profile.{Profile}}
-use Rattle.nntp_wire.specs.declared.{limit.Limit.{Limit}, marks.Marks.{Marks}}
+use Rattle.nntp_wire.specs.{declared.{limit.Limit.{Limit}, marks.Marks.{Marks}, overviews.Overviews.TheVariants.{Opaque}}, Session.{ClientStream, taken}}
 use Rattle.nntp_pair.specs.{Pairing.{Paired, Unpaired, IsNext, bad as pair_end, HasNext}, declared.class.PairClass.{PairClass}}
 use Rattle.nntp_pair.specs.declared.{octet_counts.OctetCounts.{OctetCounts}, peek.Peek.{Peek}, side.Side.{Side, TheVariants.{Client, Server}}}
 use Rattle.nntp_pair.specs.{declared.pair_error.PairError.{PairError}, Inner.Feeding.{Fed, IsFed, IsTaken, IsPeek, EndsForGood, left_of, unfed, with_octets}}
@@ -40,7 +40,7 @@ module _ (profile : Profile) (before : List Recorded) (session : Recorded) (fact
   -- and one more passes
   pub keeps-one-more : (new : FactsKept) (counts : List ℕ) (then : Fed) (x : Paired) (behind : Unpaired) → IsNext (left_of fed) x behind
       → (now : Passed profile before session new counts behind) → now.passed.pairs ≡ k.pairs ++ x ∷ []
-      → ((client server : List ℕ) (pairs : List Paired) (pair : Paired) (behind : Unpaired) → IsFed fed client server pairs
+      → ((client : ClientStream) (server : List ℕ) (pairs : List Paired) (pair : Paired) (behind : Unpaired) → IsFed fed client server pairs
       → IsNext (left_of fed) pair behind → IsFed then client server (pairs ++ pair ∷ [])) → Keeps profile before session new counts then
   keeps-one-more new counts then x behind next now pairs advanced = record {
     earlier = now.passed.earlier;
@@ -68,14 +68,15 @@ held profile before session facts answers fed p whole = record {
 }
 
 -- where nothing has come, nothing is next
-pub nothing-next : (fed : Fed) → fed ≡ unfed → ¬ (HasNext (left_of fed))
+pub nothing-next : (fed : Fed) → fed ≡ unfed Opaque → ¬ (HasNext (left_of fed))
 nothing-next fed none (x, behind, next) =
     let less = next-shorter (left_of fed) behind x next in
     let nothing : length fed.server ≡ 0 = ap (λ (f : Fed). length f.server) none in
     omega arith
 
 -- a session begins behind those that have ended
-pub session-begins : (profile : Profile) (before : List Recorded) (facts : FactsKept) (answers : List ℕ) (fed : Fed) → fed ≡ unfed → IsFed fed [] [] [] → HaveEnded profile before facts answers
+pub session-begins : (profile : Profile) (before : List Recorded) (facts : FactsKept) (answers : List ℕ) (fed : Fed) → fed ≡ unfed Opaque → IsFed fed (taken Opaque []) [] []
+    → HaveEnded profile before facts answers
     → HasPassed profile before unrecorded facts answers fed
 session-begins profile before facts answers fed is fed_is e = record {
   keeps = record { earlier = e.earlier; ended = e.ended; answers_are = e.answers_are; pairs = []; fed_is = fed_is; stands = e.stands };
@@ -126,10 +127,10 @@ decided-more limit marks j counts before session client server (d, came_client, 
     for_good = d.for_good;
     verdict = λ client_more server_more.
         let longer : with_more session (client ++ client_more) (server ++ server_more) ≡ with_more (with_more session client server) client_more server_more =
-        (λ i. record { client = sym (append_assoc session.client client client_more) i; server = sym (append_assoc session.server server server_more) i }) in
+        (λ i. record { client = taken session.client.overviews (sym (append_assoc session.client.octets client client_more) i); server = sym (append_assoc session.server server server_more) i }) in
         subst (λ session. IsVerdictFrom limit marks before session j) longer (d.verdict (client ++ client_more) (server ++ server_more));
   },
-  ap (λ n. n + length client) came_client ∙ sym (length-append session.client client),
+  ap (λ n. n + length client) came_client ∙ sym (length-append session.client.octets client),
   ap (λ n. n + length server) came_server ∙ sym (length-append session.server server),
 )
 
@@ -137,7 +138,7 @@ decided-more limit marks j counts before session client server (d, came_client, 
 decided-from : (limit : Limit) (marks : Marks) (j : JudgementOfAll) (counts : OctetCounts) (before : List Recorded) (session : Recorded)
     → StandsForAll limit marks (decided j counts) before session → IsVerdictFrom limit marks before session j
 decided-from limit marks j counts before session (d, came_client, came_server) =
-    let same : with_more session [] [] ≡ session = (λ i. record { client = append-nil session.client i; server = append-nil session.server i }) in
+    let same : with_more session [] [] ≡ session = (λ i. record { client = taken session.client.overviews (append-nil session.client.octets i); server = append-nil session.server i }) in
     subst (λ session. IsVerdictFrom limit marks before session j) same (d.verdict [] [])
 
 pub decided-verdict : (limit : Limit) (marks : Marks) (j : JudgementOfAll) (counts : OctetCounts) (before : List Recorded) (session : Recorded)
@@ -183,20 +184,20 @@ decided-goes-on limit marks j counts before session stands =
 
 -- a checker that stands for some octets works, and counts them
 stands-counts : (limit : Limit) (marks : Marks) (held : Checked) (before : List Recorded) (session : Recorded) → StandsForAll limit marks held before session
-    → (has_failed held ≡ false) × ((counts_of held).client ≡ length session.client) × ((counts_of held).server ≡ length session.server)
+    → (has_failed held ≡ false) × ((counts_of held).client ≡ length session.client.octets) × ((counts_of held).server ≡ length session.server)
 stands-counts limit marks (judging facts answers fed) before session s = (refl, s.keeps.fed_is.client_came, s.keeps.fed_is.server_came)
 stands-counts limit marks (decided j counts) before session s = (refl, s.1, s.2)
 stands-counts limit marks failed before session s = absurd s
 
 -- where there is room for octets, none but want of memory keeps it from taking them
 pub untaken-memory : {A : Type 0} (error : PairError) (side : Side) (octets : List ℕ) (before after : Checker A) (limit : Limit) (marks : Marks) (ended : List Recorded) (session : Recorded)
-    → StandsForAll limit marks (checked before) ended session → length session.client + length session.server + length octets < 2 ^ 64 → IsUntaken error side octets before after → error
+    → StandsForAll limit marks (checked before) ended session → length session.client.octets + length session.server + length octets < 2 ^ 64 → IsUntaken error side octets before after → error
     ≡ errors.Memory
 untaken-memory errors.Memory side octets before after limit marks ended session stands room is = refl
 untaken-memory errors.Failed side octets before after limit marks ended session stands room is =
     absurd (false≢true (sym (stands-counts limit marks (checked before) ended session stands).0 ∙ is.0))
 untaken-memory errors.TooLong Client octets before after limit marks ended session stands room is =
-    let count : (counts_of (checked before)).client ≡ length session.client = (stands-counts limit marks (checked before) ended session stands).1 in
+    let count : (counts_of (checked before)).client ≡ length session.client.octets = (stands-counts limit marks (checked before) ended session stands).1 in
     let many : 2 ^ 64 ≤ (counts_of (checked before)).client + length octets = is.1 in
     absurd (omega arith)
 untaken-memory errors.TooLong Server octets before after limit marks ended session stands room is =

@@ -2,31 +2,17 @@
 use Rattle.std.proofs.Common.{◌≡◌, ◌∙◌, sym, ap, subst, ℕ, Bool, true, false, nat_lt, List, ◌∷◌, ◌++◌, map, Option, None, Some, inl, inr, append_assoc}
 use Rattle.std.proofs.lemmas.List.{map-append}
 use Rattle.nntp_wire.{specs.{Octets.{crlf}, Frame.{framed}, Lines.{lines_of_stream, HasNoCrlf}}, proofs.StreamLemmas.{lines-joined}}
-use Rattle.nntp_pair.specs.{declared.class.PairClass.TheVariants.{Malformed}, Pairing.{Paired, Unpaired, IsNext, line_ahead}, Inner.Pairing.{places_from}}
-use Rattle.nntp_pair.{specs.Inner.{Pairing.{with_more}, Feeding.{Fed, EndsForGood, left_of, with_octets}}, proofs.PairingLemmas.{next-more, bad-stays}}
-use Rattle.nntp_pair.proofs.PairingLemmas.{some-stay}
+use Rattle.nntp_pair.specs.{declared.class.PairClass.TheVariants.{Malformed}, Pairing.{Paired, Unpaired, IsNext, line_ahead, Place}}
+use Rattle.nntp_pair.{specs.Inner.{Pairing.{places_from, with_more}, Feeding.{Fed, EndsForGood, left_of, with_octets}}, proofs.PairingLemmas.{next-more}}
+use Rattle.nntp_pair.proofs.{PairingLemmas.{bad-stays, some-stay}, FedLaws.{left-more}, FeedLemmas.{places-more}}
 use Rattle.nntp_printing.specs.BadAnswer.{IsFirstLine}
 use Rattle.nntp_verdict.{specs.Inner.Judging.{StopsHere}, proofs.ShownPlaces.{no-line}}
-
--- the lines and the places of a longer stream
-lines-longer : (client more : List ℕ) → map Some (lines_of_stream (client ++ more)) ≡ map Some (lines_of_stream client) ++ map Some (lines-joined client more).0
-lines-longer client more = ap (map Some) (lines-joined client more).1 ∙ map-append Some (lines_of_stream client) (lines-joined client more).0
-
-places-longer : (is_open : Bool) (client more : List ℕ) → places_from is_open (client ++ more) ≡ places_from is_open client ++ map Some (lines-joined client more).0
-places-longer false client more = ap (λ places. None ∷ places) (lines-longer client more)
-places-longer true client more = lines-longer client more
-
--- what is left then
-left-longer : (fed : Fed) (client server : List ℕ) → left_of (with_octets client server fed) ≡ with_more (map Some (lines-joined fed.client client).0) server (left_of fed)
-left-longer fed client server =
-    let places = places-longer (nat_lt 0 fed.index) fed.client client in
-    ap (λ places. record { index = fed.index; places = places; server = fed.server ++ server; is_closed = fed.is_closed }) places
 
 -- the next exchange stays
 pub next-longer : (fed : Fed) (client server : List ℕ) (x : Paired) (behind : Unpaired) → IsNext (left_of fed) x behind → (later : Unpaired) × IsNext (left_of (with_octets client server fed)) x later
 next-longer fed client server x behind next =
-    let places = map Some (lines-joined fed.client client).0 in
-    (with_more places server behind, subst (λ left. IsNext left x (with_more places server behind)) (sym (left-longer fed client server)) (next-more places server (left_of fed) behind x next))
+    let places = (places-more (nat_lt 0 fed.index) fed.client client).0 in
+    (with_more places server behind, subst (λ left. IsNext left x (with_more places server behind)) (sym (left-more fed client server)) (next-more places server (left_of fed) behind x next))
 
 -- a line with CRLF behind it is the first one, whatever follows
 first-longer : (octets initial rest more first : List ℕ) → octets ≡ initial ++ crlf ++ rest → IsFirstLine octets first → IsFirstLine (octets ++ more) first
@@ -35,7 +21,7 @@ first-longer octets initial rest more first whole (none, inr (behind, e)) =
     (none, inr (behind ++ more, ap (λ o. o ++ more) e ∙ append_assoc (first ++ crlf) behind more))
 
 -- the line ahead, where there is a place
-line-longer : (places more : List (Option (List ℕ))) (place : Option (List ℕ)) (rest : List (Option (List ℕ))) → places ≡ place ∷ rest → line_ahead (places ++ more) ≡ line_ahead places
+line-longer : (places more : List Place) (place : Place) (rest : List Place) → places ≡ place ∷ rest → line_ahead (places ++ more) ≡ line_ahead places
 line-longer places more place rest e = ap (λ p. line_ahead (p ++ more)) e ∙ sym (ap line_ahead e)
 
 -- and octets that spell nothing stay where they are
@@ -43,8 +29,8 @@ pub malformed-longer : (fed : Fed) (client server : List ℕ) (index : ℕ) (lin
     → EndsForGood Malformed (left_of fed) → index ≡ fed.index → line ≡ line_ahead (left_of fed).places → octets ≡ fed.server
     → StopsHere (left_of (with_octets client server fed)) index Malformed line octets
 malformed-longer fed client server index line octets ((some, (place, awaits, why)), lasting) at line-is octets-are =
-    let places = map Some (lines-joined fed.client client).0 in
-    subst (λ left. StopsHere left index Malformed line octets) (sym (left-longer fed client server)) (record {
+    let places = (places-more (nat_lt 0 fed.index) fed.client client).0 in
+    subst (λ left. StopsHere left index Malformed line octets) (sym (left-more fed client server)) (record {
       ends = (some-stay fed.server server some, bad-stays Malformed places server (left_of fed) tt (place, awaits, why));
       index_is = at;
       line_is = line-is ∙ sym (line-longer (left_of fed).places places place awaits.places awaits.first);

@@ -3,7 +3,7 @@ use Rattle.std.proofs.Common.{◌≡◌, ◌≢◌, ◌∙◌, sym, subst, refl,
 use Rattle.std.proofs.Common.{Some, MatchOption, Result, Ok, Err, IfOk, length, ap, ap₂, inr, arith, append_assoc, append-nil, length-append}
 use Rattle.std.{proofs.lemmas.List.{length-map, map-append, take_more, take_all, drop_more, take-append-drop}, specs.Option.{option_map}}
 use Rattle.nntp_wire.specs.{Limit.{greatest}, Octets.{crlf}, declared.{limit.Limit.{Limit, TheVariants.{Narrow, Wide}}, marks.Marks.{Marks}}, Frame.{framed}}
-use Rattle.nntp_wire.specs.Frame.{frame_octets}
+use Rattle.nntp_wire.specs.{Frame.{frame_octets}, Session.{ClientStream}}
 use Rattle.nntp_article.specs.{Session.{Limit.{profile_of}, Machine.{Visible, visible_after, start}}, declared.session.profile.Profile.{Profile}}
 use Rattle.nntp_article.proofs.SessionLemmas.ClosingAnswers.{after-closes}
 use Rattle.nntp_pair.specs.Pairing.{Paired, Unpaired, IsNext, AreNext, Ends, IsBad, end, bad as pair_end, line_ahead, streams, asked_at, asked_of, responses_of}
@@ -29,7 +29,7 @@ closed-by : (v : Visible) (before left : Unpaired) (pairs : List Paired) → bef
     → AreNext before pairs left → left.is_closed ≡ (visible_from v (asked_of pairs) (responses_of pairs)).closed
 closed-by v before left [] same e = ap (λ (u : Unpaired). u.is_closed) (sym e) ∙ same
 closed-by v before left (pair ∷ pairs) same (between, first, more) =
-    closed-by (visible_after v (asked_at pair.line) pair.response) between left pairs (first.closing ∙ sym (after-closes v (asked_at pair.line) pair.response (sym same ∙ first.is_open))) more
+    closed-by (visible_after v (asked_at pair.place) pair.response) between left pairs (first.closing ∙ sym (after-closes v (asked_at pair.place) pair.response (sym same ∙ first.is_open))) more
 
 -- the next exchange is due
 pub is-due : (profile : Profile) (before : List Recorded) (session : Recorded) (facts : FactsKept) (answers : List ℕ) (left behind : Unpaired) (x : Paired)
@@ -82,10 +82,10 @@ of-exchange kinds.OutOfPlace class is = let same : class ≡ OutOfPlace = cc in 
 of-exchange kinds.Contradiction class is = let same : class ≡ Contradiction = cc in ap pair_class_of same
 
 -- a bad exchange
-pub at-exchange : (client server : List ℕ) (pairs : List Paired) (left behind : Unpaired) (x : Paired)
+pub at-exchange : (client : ClientStream) (server : List ℕ) (pairs : List Paired) (left behind : Unpaired) (x : Paired)
     (noted : Noted) (class : Class) → AreNext (streams client server) pairs left → IsNext left x behind
     → Some class ≡ class_noted noted
-    → (k : ℕ) → k ≡ x.index → (line : Option (List ℕ)) → line ≡ x.line → (initial : List ℕ) → initial ≡ x.initial
+    → (k : ℕ) → k ≡ x.index → (line : Option (List ℕ)) → line ≡ x.place.line → (initial : List ℕ) → initial ≡ x.initial
     → StopsAt client server k class (option_map shown line) (shown initial)
 at-exchange client server pairs left behind x noted class first next judged k at line line-is initial initial-is =
     let frame = next.answered.frame in
@@ -109,7 +109,7 @@ of-pair pair.Cut left is = is
 of-pair pair.Malformed left is = is
 
 -- octets that answer nothing
-pub at-octets : (client server : List ℕ) (pairs : List Paired) (left : Unpaired) (index : ℕ) (class : PairClass) (line : Option (List ℕ)) (octets first : List ℕ)
+pub at-octets : (client : ClientStream) (server : List ℕ) (pairs : List Paired) (left : Unpaired) (index : ℕ) (class : PairClass) (line : Option (List ℕ)) (octets first : List ℕ)
     → AreNext (streams client server) pairs left → StopsHere left index class line octets → (of : Class) → of ≡ class_of class → IsFirstLine octets first
     → StopsAt client server index of (option_map shown line) (shown first)
 at-octets client server pairs left index class line octets first before stop of of-is is-first = record {
@@ -205,7 +205,8 @@ module _ (limit : Limit) (marks : Marks) (before : List Recorded) (session : Rec
   pub refused : (old new : FactsKept) (left behind : Unpaired)
       (x : Paired) (noted : Noted) (class : Class) → Passed (profile_of limit marks) before session old answers left → IsNext left x behind
       → Notes (profile_of limit marks) old new x noted → Some class ≡ class_noted noted → (j : ℕ) → j ≡ length answers → (k : ℕ) → k ≡ x.index
-      → (line : Option (List ℕ)) → line ≡ x.line → (initial : List ℕ) → initial ≡ x.initial → IsVerdictFrom limit marks before session (bad_of_all j k class (option_map shown line) (shown initial))
+      → (line : Option (List ℕ)) → line ≡ x.place.line → (initial : List ℕ) → initial ≡ x.initial
+      → IsVerdictFrom limit marks before session (bad_of_all j k class (option_map shown line) (shown initial))
   refused old new left behind x noted class p next notes judged j is k at line line-is initial initial-is more =
       no-here limit marks before session more j k class (option_map shown line) (shown initial) (is ∙ as-many-ended before p.passed.earlier answers p.passed.ended p.answers_are)
       (exchange-right (profile_of limit marks) before session more old new left behind x noted class p.passed next notes judged k at)
@@ -260,7 +261,7 @@ pub ended-all : (profile : Profile) (sessions : List Recorded) (i : ℕ) (facts 
 ended-all profile sessions i facts answers past e = subst (λ sessions. HaveEnded profile sessions facts answers) (take_all i sessions past) e
 
 -- of one session, what is said of several is what is said of that
-pub alone : (limit : Limit) (marks : Marks) (client server : List ℕ) (j : JudgementOfAll) → IsVerdictOfAll limit marks (record { client = client; server = server } ∷ []) j
+pub alone : (limit : Limit) (marks : Marks) (client : ClientStream) (server : List ℕ) (j : JudgementOfAll) → IsVerdictOfAll limit marks (record { client = client; server = server } ∷ []) j
     → IsVerdict limit marks client server (verdict_of_last j)
 alone limit marks client server (consistent_of_all L []) v = absurd v.throughout
 alone limit marks client server (consistent_of_all L (n ∷ [])) v = (one_session_verdict limit marks (record { client = client; server = server }) (consistent L n)).0 v

@@ -1,6 +1,6 @@
 -- A place of two streams shows one command and one reply.
 use Rattle.std.{proofs.Common.{◌≡◌, ◌∙◌, sym, ap, subst, ℕ, List, [], ◌∷◌, ◌++◌, length, Option, inl, inr, append_assoc}, specs.Option.{option_map}}
-use Rattle.nntp_wire.{specs.{Octets.{crlf}, Lines.{HasNoCrlf}}, proofs.FrameLemmas.{one_line, occurs-behind}}
+use Rattle.nntp_wire.{specs.{Octets.{crlf}, Lines.{HasNoCrlf}, Session.{ClientStream}}, proofs.FrameLemmas.{one_line, occurs-behind}}
 use Rattle.memchr.specs.Find.{OccursAt}
 use Rattle.nntp_pair.{specs.{Pairing.{Paired, Unpaired, AreNext, line_ahead, streams}, declared.class.Class.{Class}}, proofs.NextLemmas.{one-next}}
 use Rattle.nntp_printing.specs.BadAnswer.{IsFirstLine, shown}
@@ -28,7 +28,7 @@ one-first octets l m (p, inr (r, e)) (q, inl f) = absurd (no-line octets l r (su
 one-first octets l m (p, inr (r, e)) (q, inr (t, f)) = (one_line l m r t p q (sym e ∙ f)).0
 
 -- a place shows one command and one reply
-pub one-place : (client server : List ℕ) (k : ℕ) (class other : Class) (command also : Option (List ℕ)) (reply again : List ℕ)
+pub one-place : (client : ClientStream) (server : List ℕ) (k : ℕ) (class other : Class) (command also : Option (List ℕ)) (reply again : List ℕ)
     → StopsAt client server k class command reply → StopsAt client server k other also again
     → (command ≡ also) × (reply ≡ again)
 one-place client server k class other command also reply again x y =

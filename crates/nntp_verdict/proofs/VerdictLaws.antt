@@ -1,7 +1,7 @@
 -- Sessions have one verdict, and it is a yes exactly if some spool explains them; that of one session is that of its two streams.
 use Rattle.std.proofs.Common.{◌++◌, refl, ◌≡◌, ◌∙◌, ◌↔◌, sym, ap, subst, ℕ, zero, suc, IsTrue, List, [], ◌∷◌, length, Option, None, Some, slice_get, ◌<◌, ◌^◌}
 use Rattle.std.{proofs.Common.{map, Ok}, specs.Prelude.{MatchOption}}
-use Rattle.nntp_wire.specs.declared.{limit.Limit.{Limit}, marks.Marks.{Marks}}
+use Rattle.nntp_wire.specs.{declared.{limit.Limit.{Limit}, marks.Marks.{Marks}}, Session.{ClientStream}}
 use Rattle.nntp_article.specs.Session.{Explains.{Explains}, Limit.{profile_of}, Spool.{Spool}}
 use Rattle.nntp_pair.specs.{Pairing.{Paired}, declared.class.Class.{Class}}
 use Rattle.nntp_theory.specs.{Outcome.{Yes, No}, Given.{IsGiven}, Inner.Given.{size}, Answered.{SomePermitsEach, facts_of_all}, Permitted.{exchanged}}
@@ -80,7 +80,7 @@ one_session_verdict limit marks s (bad k class command reply) = let o = one_sess
 )
 
 -- so two streams have one verdict
-pub one-verdict : (limit : Limit) (marks : Marks) (client server : List ℕ) (j l : Judgement) → IsVerdict limit marks client server j → IsVerdict limit marks client server l → j ≡ l
+pub one-verdict : (limit : Limit) (marks : Marks) (client : ClientStream) (server : List ℕ) (j l : Judgement) → IsVerdict limit marks client server j → IsVerdict limit marks client server l → j ≡ l
 one-verdict limit marks client server j l x y =
     let s : Recorded = record { client = client; server = server } in
     sym (same j) ∙ ap verdict_of_last
@@ -91,7 +91,7 @@ one-verdict limit marks client server j l x y =
     same (bad k class command reply) = refl
 
 -- and it is a yes exactly if some spool explains them
-pub yes-if-explained : (limit : Limit) (marks : Marks) (client server : List ℕ) (j : Judgement)
+pub yes-if-explained : (limit : Limit) (marks : Marks) (client : ClientStream) (server : List ℕ) (j : Judgement)
     → IsVerdict limit marks client server j → IsTrue (is_consistent j)
     ↔ ((S : Spool) × (n : ℕ) × Explains (profile_of limit marks) S client server n)
 yes-if-explained limit marks client server j x =

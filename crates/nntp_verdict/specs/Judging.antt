@@ -1,6 +1,6 @@
 -- What a verdict on sessions says, and where it stands: at the ends of their pairings, or at the exchange or the octets that are bad (RFC 3977, section 3.5).
 use Rattle.std.specs.{Prelude.{◌≡◌, ◌≢◌, ℕ, List, [], Option, None, Some, MatchOption, Ok, length, slice_get}, Option.{option_map}}
-use Rattle.nntp_wire.specs.declared.{limit.Limit.{Limit}, marks.Marks.{Marks}}
+use Rattle.nntp_wire.specs.{declared.{limit.Limit.{Limit}, marks.Marks.{Marks}}, Session.{ClientStream}}
 use Rattle.nntp_pair.specs.{Pairing.{Paired, Unpaired, AreNext, IsBad, IsPairing, end, line_ahead, streams, HasNext}, declared.class.PairClass.{PairClass}}
 use Rattle.nntp_pair.specs.declared.class.Class.{Class, TheVariants.{Surplus, Cut, Malformed, OutOfPlace, Contradiction}}
 use Rattle.nntp_theory.specs.Outcome.{Yes, No, IsOutcome}
@@ -25,7 +25,7 @@ abbrev pub SuitsClass : Class → Unpaired → Type 0
 SuitsClass class left = MatchOption (pair_class_of class) (HasNext left) (λ c. IsBad c left)
 
 -- behind so many exchanges octets are left, and the verdict shows the command and the reply there
-pub record StopsAt (client server : List ℕ) (answer : ℕ) (class : Class) (command : Option (List ℕ)) (reply : List ℕ) : Type 0 where
+pub record StopsAt (client : ClientStream) (server : List ℕ) (answer : ℕ) (class : Class) (command : Option (List ℕ)) (reply : List ℕ) : Type 0 where
   pub pairs : List Paired
   pub left : Unpaired
   pub before : AreNext (streams client server) pairs left
@@ -38,7 +38,7 @@ pub record StopsAt (client server : List ℕ) (answer : ℕ) (class : Class) (co
   pub reply_is : reply ≡ shown line
 
 -- the pairing of both streams ends with no octet left, behind so many exchanges
-pub record IsAnsweredThroughout (client server : List ℕ) (answers : ℕ) : Type 0 where
+pub record IsAnsweredThroughout (client : ClientStream) (server : List ℕ) (answers : ℕ) : Type 0 where
   pub pairs : List Paired
   pub unanswered : ℕ
   pub pairing : IsPairing client server pairs (end unanswered)
@@ -46,7 +46,7 @@ pub record IsAnsweredThroughout (client server : List ℕ) (answers : ℕ) : Typ
 
 -- a yes of both streams: the spool has the limit, and is their least explanation, of so many answers, at which their
 -- pairing ends; it is read back from its text; and `verify` answers nothing of it but that it permits them
-pub record IsYes (limit : Limit) (marks : Marks) (client server : List ℕ) (L : LimitedSpool) (answers : ℕ) : Type 0 where
+pub record IsYes (limit : Limit) (marks : Marks) (client : ClientStream) (server : List ℕ) (L : LimitedSpool) (answers : ℕ) : Type 0 where
   pub limit_is : L.limit ≡ limit
   pub outcome : IsOutcome (profile_of limit marks) client server (Yes L.spool answers)
   pub throughout : IsAnsweredThroughout client server answers
@@ -54,12 +54,12 @@ pub record IsYes (limit : Limit) (marks : Marks) (client server : List ℕ) (L :
   pub permits : (verified : Verified) → IsVerified (profile_of limit marks) L.spool client server verified → verified ≡ Permits answers
 
 -- a no: the answer is the bad one, of its class, and the command and the reply are those at its place
-pub record IsNo (profile : Profile) (client server : List ℕ) (answer : ℕ) (class : Class) (command : Option (List ℕ)) (reply : List ℕ) : Type 0 where
+pub record IsNo (profile : Profile) (client : ClientStream) (server : List ℕ) (answer : ℕ) (class : Class) (command : Option (List ℕ)) (reply : List ℕ) : Type 0 where
   pub outcome : IsOutcome profile client server (No answer class)
   pub place : StopsAt client server answer class command reply
 
 -- what a verdict says of both streams is so, where article numbers are within the limit, and marks are read so
-abbrev pub IsVerdict : Limit → Marks → List ℕ → List ℕ → Judgement → Type 0
+abbrev pub IsVerdict : Limit → Marks → ClientStream → List ℕ → Judgement → Type 0
 IsVerdict limit marks client server (consistent L answers) = IsYes limit marks client server L answers
 IsVerdict limit marks client server (bad answer class command reply) = IsNo (profile_of limit marks) client server answer class command reply
 

@@ -16,6 +16,9 @@ ghost use Rattle.nntp_verdict.specs.Judging.{IsVerdictOfAll};
 ghost use Rattle.nntp_verdict.specs.Inner.Judging.{IsVerdictFrom, HaveEnded};
 ghost use Rattle.nntp_verdict.specs.Verdict.{JudgementOfAll, sessions_verdict_shown, verdict_shown};
 ghost use Rattle.nntp_verdict.specs.Inner.Verdict.{verdict_of_last};
+ghost use Rattle.nntp_wire.specs.Session.{ClientStream};
+ghost use Rattle.nntp_wire.specs.Session.{taken};
+ghost use Rattle.nntp_wire.specs.declared.overviews.Overviews.TheVariants.{Opaque};
 
 use crate::judge::Judge;
 use crate::sessions_verdict::SessionsVerdict;
@@ -72,7 +75,7 @@ impl<A: Allocator + Copy> Checker<A> {
     /// A checker to which no octet has come. It judges by the limit and the marks as [`check`](crate::check) does, and
     /// takes no memory yet.
     pub fn new(alloc: A, limit: Limit, marks: Marks) -> Checker<A>
-        ensures { StandsFor limit marks (checked result) [] [] }
+        ensures { StandsFor limit marks (checked result) (taken Opaque []) [] }
     {
         Checker {
             state: State::Judging(Ongoing::new(alloc, limit, marks)),
@@ -186,7 +189,7 @@ impl<A: Allocator + Copy> Checker<A> {
     /// is for the k-th line of the client, counted from 1. None where memory was refused. Of several sessions it is what
     /// [`bad_of_sessions`](Checker::bad_of_sessions) tells, without the session.
     pub fn bad(&self) -> Option<(u64, Class)>
-        ensures told { (limit : Limit) (marks : Marks) (client server : List ℕ) → StandsFor limit marks (checked self.now) client server
+        ensures told { (limit : Limit) (marks : Marks) (client : ClientStream) (server : List ℕ) → StandsFor limit marks (checked self.now) client server
             → IsToldBad (profile_of limit marks) client server result }
         ensures failed { has_failed (checked self.now) ≡ true → result ≡ None }
         ensures sessions { (limit : Limit) (marks : Marks) (before : List Recorded) (session : Recorded)

@@ -10,6 +10,8 @@ ghost use Rattle.nntp_printing.specs.BadAnswer.{shown};
 ghost use Rattle.nntp_verdict.specs.Judging.{IsVerdict, IsVerdictOfAll};
 ghost use Rattle.nntp_verdict.specs.Inner.Judging.{IsVerdictFrom, HaveEnded, Passed, StopsHere, IsNoAtWholeAnswer, OnMalformed, class_noted};
 ghost use Rattle.nntp_verdict.specs.Verdict.{bad_of_all, sessions_verdict_shown, verdict_shown};
+ghost use Rattle.nntp_wire.specs.Session.{taken};
+ghost use Rattle.nntp_wire.specs.declared.overviews.Overviews.TheVariants.{Opaque};
 
 use crate::sessions_verdict::SessionsVerdict;
 use crate::verdict::Verdict;
@@ -36,7 +38,7 @@ pub fn check<A: Allocator + Copy>(
     client: &[u8],
     server: &[u8],
 ) -> Result<Verdict<A>, AllocError>
-    ensures { IfOk result (λ verdict. IsVerdict limit marks client.now server.now (verdict_shown verdict)) }
+    ensures { IfOk result (λ verdict. IsVerdict limit marks (taken Opaque client.now) server.now (verdict_shown verdict)) }
 {
     let session = [Recorded { client, server }];
     let verdict = check_sessions(alloc, limit, marks, &session)?;

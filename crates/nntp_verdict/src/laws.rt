@@ -12,6 +12,8 @@ ghost use Rattle.nntp_verdict.specs.Judging.{IsVerdict};
 ghost use Rattle.nntp_pair.specs.declared.class.Class.{Class};
 ghost use Rattle.nntp_verdict.specs.Verdict.{Judgement};
 ghost use Rattle.nntp_verdict.specs.Inner.Verdict.{is_consistent};
+ghost use Rattle.nntp_wire.specs.Session.{ClientStream};
+ghost use Rattle.nntp_wire.specs.Session.{further};
 
 mod sessions;
 
@@ -19,26 +21,27 @@ pub use sessions::{sessions_have_one_verdict, verdict_follows_the_outcome};
 
 /// Two streams have one verdict by a limit and marks.
 pub fn one_verdict()
-    ensures { (limit : Limit) (marks : Marks) (client server : List ℕ) (verdict other : Judgement)
+    ensures { (limit : Limit) (marks : Marks) (client : ClientStream) (server : List ℕ) (verdict other : Judgement)
         → IsVerdict limit marks client server verdict → IsVerdict limit marks client server other → verdict ≡ other }
 {}
 
 /// It is a yes exactly if some spool explains them.
 pub fn yes_where_a_spool_explains()
-    ensures { (limit : Limit) (marks : Marks) (client server : List ℕ) (verdict : Judgement) → IsVerdict limit marks client server verdict
+    ensures { (limit : Limit) (marks : Marks) (client : ClientStream) (server : List ℕ) (verdict : Judgement) → IsVerdict limit marks client server verdict
         → IsTrue (is_consistent verdict) ↔ ((S : Spool) × (n : ℕ) × Explains (profile_of limit marks) S client server n) }
 {}
 
 /// An answer that is bad for good is so whatever octets follow.
 pub fn bad_for_good_stays()
-    ensures { (profile : Profile) (client server client_more server_more : List ℕ) (answer : ℕ) (class : Class)
-        → IsBadForGood profile client server answer class → IsBadForGood profile (client ++ client_more) (server ++ server_more) answer class }
+    ensures { (profile : Profile) (client : ClientStream) (server client_more server_more : List ℕ) (answer : ℕ) (class : Class)
+        → IsBadForGood profile client server answer class → IsBadForGood profile (further client client_more) (server ++ server_more) answer class }
 {}
 
 /// What may be told of two streams as bad is one thing; and where an answer is told, it is told whatever octets follow.
 pub fn one_is_told_bad()
-    ensures one { (profile : Profile) (client server : List ℕ) (told other : Option (ℕ × Class)) → IsToldBad profile client server told
+    ensures one { (profile : Profile) (client : ClientStream) (server : List ℕ) (told other : Option (ℕ × Class)) → IsToldBad profile client server told
         → IsToldBad profile client server other → told ≡ other }
-    ensures stays { (profile : Profile) (client server client_more server_more : List ℕ) (told other : Option (ℕ × Class)) → IsTrue (is_some told)
-        → IsToldBad profile client server told → IsToldBad profile (client ++ client_more) (server ++ server_more) other → other ≡ told }
+    ensures stays { (profile : Profile) (client : ClientStream) (server client_more server_more : List ℕ) (told other : Option (ℕ × Class))
+        → IsTrue (is_some told)
+        → IsToldBad profile client server told → IsToldBad profile (further client client_more) (server ++ server_more) other → other ≡ told }
 {}

@@ -1,12 +1,12 @@
 -- What a line and a block do not say, and what a frame says.
 use Rattle.std.proofs.Common.{◌≡◌, ◌⊎◌, inl, inr, ℕ, List, ◌++◌, refl, sym, ◌∙◌, ap, Option, None, Some, Bool, true, false, ◌≤◌, length, take, drop, arith}
 use Rattle.std.{proofs.{Common.{cond, length-append}, lemmas.{List.{append_cancel_right}, Bool.Decides.{nat_tests}}}, specs.Prelude.{is_some}}
-use Rattle.nntp_wire.specs.{Number.{number_value}, declared.{answer.Answer.{Answer}, kind.Kind.{Kind, TheVariants.{Group, Numbers, Sent, Active}}}}
+use Rattle.nntp_wire.specs.{Number.{number_value}, declared.{answer.Answer.{Answer}, kind.Kind.{Kind, TheVariants.{Group, Numbers, Sent, Active, Overview}}}}
 use Rattle.nntp_wire.specs.{declared.{kind.Kind.TheVariants.{Capabilities, Plain}, water_marks.WaterMarks.{WaterMarks}}, Octets.{crlf}, Lines.{HasNoCrlf}}
 use Rattle.nntp_wire.specs.{Block.{sent, dot_line}, Argument.{HasArticle, HasGroup}, Answer.{Asked, Response, group_is, numbers_are, sends, SaysGroup}}
-use Rattle.nntp_wire.specs.Answer.{SaysNumbers, SaysArticle, SaysByLines, SaysActive, SaysCapabilities, SaysCode, Says, Spells, has_code, status_of, kind_of}
-use Rattle.nntp_wire.specs.{Answer.{is_block_due, block_octets, IsCleanBlock}, Inner.AnswerView.{Answers, Reads, IsBlock, SendsBlock}, Frame.{frame_octets}}
-use Rattle.nntp_wire.{specs.Frame.{framed, IsBeforeDotLine}, proofs.{SpellLemmas.{clean-line, status-clean, status-code}, FrameLemmas.{one_line}}}
+use Rattle.nntp_wire.specs.Answer.{SaysNumbers, SaysArticle, SaysByLines, SaysActive, SaysOverviews, SaysCapabilities, SaysCode, Says, Spells, has_code}
+use Rattle.nntp_wire.specs.{Answer.{status_of, kind_of, is_block_due, block_octets, IsCleanBlock}, Inner.AnswerView.{Answers, Reads, IsBlock, SendsBlock}}
+use Rattle.nntp_wire.{specs.Frame.{frame_octets, framed, IsBeforeDotLine}, proofs.{SpellLemmas.{clean-line, status-clean, status-code}, FrameLemmas.{one_line}}}
 use Rattle.nntp_wire.proofs.ResponseLemmas.{one-sent}
 
 -- no group, no response
@@ -82,14 +82,16 @@ spells-reads asked line sent r is_line up s =
       says = rw both.0 s.says;
     }
 
--- octets and a block say a response in one of six ways
+-- octets and a block say a response in one of seven ways
 pub says-ways : (kind : Kind) (code : ℕ) (bytes : List ℕ) (block : Option (List (List ℕ))) (r : Response) → Says kind code bytes block r
     → SaysGroup bytes r ⊎ (SaysByLines (SaysNumbers bytes) block r
     ⊎ (SaysArticle code bytes block r ⊎ (SaysByLines SaysActive block r
-    ⊎ (SaysByLines (SaysCapabilities code) block r ⊎ SaysCode code r))))
+    ⊎ (SaysByLines SaysOverviews block r
+    ⊎ (SaysByLines (SaysCapabilities code) block r ⊎ SaysCode code r)))))
 says-ways Group code bytes block r s = inl s
 says-ways Numbers code bytes block r s = inr (inl s)
 says-ways Sent code bytes block r s = inr (inr (inl s))
 says-ways Active code bytes block r s = inr (inr (inr (inl s)))
-says-ways Capabilities code bytes block r s = inr (inr (inr (inr (inl s))))
-says-ways Plain code bytes block r s = inr (inr (inr (inr (inr s))))
+says-ways Overview code bytes block r s = inr (inr (inr (inr (inl s))))
+says-ways Capabilities code bytes block r s = inr (inr (inr (inr (inr (inl s)))))
+says-ways Plain code bytes block r s = inr (inr (inr (inr (inr (inr s)))))

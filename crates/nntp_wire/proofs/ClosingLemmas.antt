@@ -2,11 +2,11 @@
 use Rattle.std.proofs.Common.{◌≡◌, ℕ, ◌≤◌, List, Option, None, Some, Bool, true, false, cond, refl, sym, ap, ◌∙◌, arith, ◌⊎◌, inl, inr}
 use Rattle.std.{proofs.lemmas.Bool.{true≢false, eqb-true, Decides.{nat_tests}}, specs.Prelude.{◌==◌}}
 use Rattle.nntp_wire.specs.{Lines.{HasNoCrlf}, Command.{capabilities, mode_reader, next, last, quit, opaque, ill_formed, group, list_group, retrieve}}
-use Rattle.nntp_wire.specs.{Command.{list_active}, Answer.{Asked, greeting, to, Response, group_is, numbers_are, sends, active_are, plain, Spells, Says}}
-use Rattle.nntp_wire.specs.{Answer.{kind_of, code_of, block_octets}, Frame.{frame_octets, framed}, Session.{closes}}
+use Rattle.nntp_wire.specs.{Command.{list_active, over}, Answer.{Asked, greeting, to, Response, group_is, numbers_are, sends, active_are, overviews_are, plain}}
+use Rattle.nntp_wire.specs.{Answer.{Spells, Says, kind_of, code_of, block_octets}, Frame.{frame_octets, framed}, Session.{closes}}
 use Rattle.nntp_wire.specs.declared.{command.What.TheVariants.{Article, Head, Body, Stat}, kind.Kind.{Kind, TheVariants.{Group, Numbers, Sent, Active}}}
-use Rattle.nntp_wire.{specs.declared.kind.Kind.TheVariants.{Capabilities, Plain}, proofs.{FrameLemmas.{one_line}, SpellLemmas.{clean-line, status-clean}}}
-use Rattle.nntp_wire.proofs.SpellLemmas.{status-code}
+use Rattle.nntp_wire.{specs.declared.kind.Kind.TheVariants.{Overview, Capabilities, Plain}, proofs.{FrameLemmas.{one_line}, SpellLemmas.{clean-line}}}
+use Rattle.nntp_wire.proofs.SpellLemmas.{status-clean, status-code}
 
 -- a response that is no more than its code
 abbrev is_plain : Response → Bool
@@ -20,21 +20,25 @@ quiet-response greeting (group_is m name) e = refl
 quiet-response greeting (numbers_are m name lines) e = refl
 quiet-response greeting (sends success) e = refl
 quiet-response greeting (active_are lines) e = refl
+quiet-response greeting (overviews_are lines) e = refl
 quiet-response (to mode_reader) (group_is m name) e = refl
 quiet-response (to mode_reader) (numbers_are m name lines) e = refl
 quiet-response (to mode_reader) (sends success) e = refl
 quiet-response (to mode_reader) (active_are lines) e = refl
+quiet-response (to mode_reader) (overviews_are lines) e = refl
 quiet-response (to quit) (group_is m name) e = refl
 quiet-response (to quit) (numbers_are m name lines) e = refl
 quiet-response (to quit) (sends success) e = refl
 quiet-response (to quit) (active_are lines) e = refl
+quiet-response (to quit) (overviews_are lines) e = refl
 quiet-response (to request) (group_is m name) e = refl
 quiet-response (to request) (numbers_are m name lines) e = refl
 quiet-response (to request) (sends success) e = refl
 quiet-response (to request) (active_are lines) e = refl
+quiet-response (to request) (overviews_are lines) e = refl
 
--- no code from 211 to 223 does
-quiet-code : (asked : Asked) (code : ℕ) → 211 ≤ code → code ≤ 223 → closes asked (plain code) ≡ false
+-- no code from 211 to 224 does
+quiet-code : (asked : Asked) (code : ℕ) → 211 ≤ code → code ≤ 224 → closes asked (plain code) ≡ false
 quiet-code greeting code low high = grind (arith, nat_tests)
 quiet-code (to mode_reader) code low high = grind (arith, nat_tests)
 quiet-code (to quit) code low high = grind (arith, nat_tests)
@@ -47,13 +51,14 @@ plain-code code bytes block (group_is m name) none = absurd none
 plain-code code bytes block (numbers_are m name lines) none = absurd none
 plain-code code bytes block (sends success) none = absurd none
 plain-code code bytes block (active_are lines) none = absurd none
+plain-code code bytes block (overviews_are lines) none = absurd none
 
--- what is said by a code alone, or by a code from 211 to 223
+-- what is said by a code alone, or by a code from 211 to 224
 abbrev IsQuiet : ℕ → Response → Type 0
-IsQuiet code response = (response ≡ plain code) ⊎ ((is_plain response ≡ false) × (211 ≤ code) × (code ≤ 223))
+IsQuiet code response = (response ≡ plain code) ⊎ ((is_plain response ≡ false) × (211 ≤ code) × (code ≤ 224))
 
--- by a kind of response that has a code of its own, from 211 to 223
-by-code : (kind : Kind) (k code : ℕ) (bytes : List ℕ) (block : Option (List (List ℕ))) (response : Response) (test : Bool) → (code == k) ≡ test → 211 ≤ k → k ≤ 223
+-- by a kind of response that has a code of its own, from 211 to 224
+by-code : (kind : Kind) (k code : ℕ) (bytes : List ℕ) (block : Option (List (List ℕ))) (response : Response) (test : Bool) → (code == k) ≡ test → 211 ≤ k → k ≤ 224
     → (Says kind code bytes block response → is_plain response ≡ false) → Says (cond test kind Plain) code bytes block response → IsQuiet code response
 by-code kind k code bytes block response false e low high more says = inl (plain-code code bytes block response says)
 by-code kind k code bytes block response true e low high more says = let same : code ≡ k = eqb-true code k e in inr (more says, omega arith, omega arith)
@@ -64,6 +69,7 @@ says-group code bytes block (group_is m name) says = refl
 says-group code bytes block (numbers_are m name lines) none = absurd none
 says-group code bytes block (sends success) none = absurd none
 says-group code bytes block (active_are lines) none = absurd none
+says-group code bytes block (overviews_are lines) none = absurd none
 
 says-numbers : (code : ℕ) (bytes : List ℕ) (block : Option (List (List ℕ))) (response : Response) → Says Numbers code bytes block response → is_plain response ≡ false
 says-numbers code bytes None response none = absurd none
@@ -72,6 +78,7 @@ says-numbers code bytes (Some lines) (group_is m name) none = absurd none
 says-numbers code bytes (Some lines) (numbers_are m name listed) says = refl
 says-numbers code bytes (Some lines) (sends success) none = absurd none
 says-numbers code bytes (Some lines) (active_are listed) none = absurd none
+says-numbers code bytes (Some lines) (overviews_are listed) none = absurd none
 
 says-sent : (code : ℕ) (bytes : List ℕ) (block : Option (List (List ℕ))) (response : Response) → Says Sent code bytes block response → is_plain response ≡ false
 says-sent code bytes block (plain c) none = absurd none
@@ -79,6 +86,7 @@ says-sent code bytes block (group_is m name) none = absurd none
 says-sent code bytes block (numbers_are m name lines) none = absurd none
 says-sent code bytes block (sends success) says = refl
 says-sent code bytes block (active_are lines) none = absurd none
+says-sent code bytes block (overviews_are lines) none = absurd none
 
 says-active : (code : ℕ) (bytes : List ℕ) (block : Option (List (List ℕ))) (response : Response) → Says Active code bytes block response → is_plain response ≡ false
 says-active code bytes None response none = absurd none
@@ -87,6 +95,16 @@ says-active code bytes (Some lines) (group_is m name) none = absurd none
 says-active code bytes (Some lines) (numbers_are m name listed) none = absurd none
 says-active code bytes (Some lines) (sends success) none = absurd none
 says-active code bytes (Some lines) (active_are listed) says = refl
+says-active code bytes (Some lines) (overviews_are listed) none = absurd none
+
+says-overviews : (code : ℕ) (bytes : List ℕ) (block : Option (List (List ℕ))) (response : Response) → Says Overview code bytes block response → is_plain response ≡ false
+says-overviews code bytes None response none = absurd none
+says-overviews code bytes (Some lines) (plain c) none = absurd none
+says-overviews code bytes (Some lines) (group_is m name) none = absurd none
+says-overviews code bytes (Some lines) (numbers_are m name listed) none = absurd none
+says-overviews code bytes (Some lines) (sends success) none = absurd none
+says-overviews code bytes (Some lines) (active_are listed) none = absurd none
+says-overviews code bytes (Some lines) (overviews_are listed) says = refl
 
 -- capabilities are said by their code alone
 capabilities-code : (code : ℕ) (bytes : List ℕ) (block : Option (List (List ℕ))) (response : Response) (test : Bool)
@@ -107,6 +125,8 @@ said-quiet (to (list_group name range)) code bytes block response says = by-code
     (code == 211) refl (omega arith) (omega arith) (says-numbers code bytes block response) says
 said-quiet (to (list_active wildmat)) code bytes block response says = by-code Active 215 code bytes block response
     (code == 215) refl (omega arith) (omega arith) (says-active code bytes block response) says
+said-quiet (to (over keyword which)) code bytes block response says = by-code Overview 224 code bytes block response
+    (code == 224) refl (omega arith) (omega arith) (says-overviews code bytes block response) says
 said-quiet (to next) code bytes block response says = by-code Sent 223 code bytes block response (code == 223) refl (omega arith) (omega arith) (says-sent code bytes block response) says
 said-quiet (to last) code bytes block response says = by-code Sent 223 code bytes block response (code == 223) refl (omega arith) (omega arith) (says-sent code bytes block response) says
 said-quiet (to (retrieve Article target)) code bytes block response says = by-code Sent 220 code bytes block response

@@ -3,7 +3,7 @@ use Rattle.std.proofs.{Common.{◌≡◌, ℕ, Bool, true, false, List, [], ◌�
 use Rattle.std.{proofs.lemmas.{Bool.{and_parts, Decides.{nat_tests}}, Slice.Eq.{bytes_eq-Decides}}, specs.{Prelude.{◌&&◌, nat_le}, List.{find, list_all}}}
 use Rattle.std.specs.{Option.{option_map}, Char.{to_ascii_lowercase, is_ascii_alphabetic}}
 use Rattle.nntp_wire.specs.{Octets.{is_clean}, Words.{words_of, is_same_word}, Command.{Request, keywords, form_of, is_keyword, is_keyword_octet, request_by}}
-use Rattle.nntp_wire.specs.Command.{request_of}
+use Rattle.nntp_wire.specs.{Command.{request_as}, declared.overviews.Overviews.{Overviews, TheVariants.{Opaque, Judged}}}
 
 -- the first letter, in lower case
 pub lower_first : (word : List ℕ) → to_ascii_lowercase (get_or word 0 0) ≡ get_or (map to_ascii_lowercase word) 0 0
@@ -45,11 +45,12 @@ found_keyword word (row ∷ rows) makes all e =
     at false other keyword others = others (rw other at e)
 
 -- what is understood is a keyword
-pub understood_keyword : (word : List ℕ) (makes : List (List ℕ) → Request) → form_of word ≡ Some makes → is_keyword word ≡ true
+pub understood_keyword : (overviews : Overviews) (word : List ℕ) (makes : List (List ℕ) → Request) → form_of overviews word ≡ Some makes → is_keyword word ≡ true
 unfolding form_of
-understood_keyword word makes e = found_keyword word keywords makes refl e
+understood_keyword Opaque word makes e = found_keyword word (keywords Opaque) makes refl e
+understood_keyword Judged word makes e = found_keyword word (keywords Judged) makes refl e
 
 -- a clean line that begins with what is understood
-pub understood_line : (line word : List ℕ) (arguments : List (List ℕ)) (makes : List (List ℕ) → Request) → is_clean line ≡ true → words_of line ≡ word ∷ arguments
-    → form_of word ≡ Some makes → request_by (nat_le (length line) 510) (Some makes) arguments ≡ request_of line
-understood_line line word arguments makes clean words is = rw (clean, words, understood_keyword word makes is, is) refl
+pub understood_line : (overviews : Overviews) (line word : List ℕ) (arguments : List (List ℕ)) (makes : List (List ℕ) → Request) → is_clean line ≡ true → words_of line ≡ word ∷ arguments
+    → form_of overviews word ≡ Some makes → request_by (nat_le (length line) 510) (Some makes) arguments ≡ request_as overviews line
+understood_line overviews line word arguments makes clean words is = rw (clean, words, understood_keyword overviews word makes is, is) refl

@@ -1,11 +1,13 @@
 -- Most lines have the kind Other by their first letter.
 use Rattle.std.proofs.Common.{◌≡◌, ℕ, ◌<◌, Bool, true, false, ◌⊎◌, inl, inr, ◌||◌, List, [], ◌∷◌, length, get_or, arith, refl, sym, ◌∙◌, ap, Option, None, Some}
-use Rattle.std.{proofs.lemmas.{Bool.{false≢true, lt-ltb}, List.Splits.{slice_split-cons_no}}, specs.{Prelude.{◌==◌, nat_le, ⊤}, List.{find, filter}}}
-use Rattle.std.specs.{List.{onto_first, slice_split}, Option.{option_map}, Char.{to_ascii_lowercase}}
+use Rattle.std.{proofs.lemmas.{Bool.{false≢true, lt-ltb}, List.Splits.{slice_split-cons_no}}, specs.{Prelude.{◌==◌, nat_le, ⊤, slice_index, cond}, List.{find}}}
+use Rattle.std.specs.{List.{filter, onto_first, slice_split}, Option.{option_map}, Char.{to_ascii_lowercase}}
 use Rattle.nntp_wire.specs.{Octets.{is_blank, is_clean}, Words.{words_of, is_some_octets, is_same_word}, Answer.{to}, Command.{Request, keywords, form_of}}
-use Rattle.nntp_wire.specs.Command.{is_keyword, request_by, request_by_keyword, request_of_words, request_of, capabilities_of, group_of, alone, next}
-use Rattle.nntp_wire.specs.{Command.{retrieve_of, retrieve_by, target_of}, Inner.Prompts.{prompt_kind}, declared.prompt_kind.PromptKind.TheVariants.{Other}}
-use Rattle.nntp_wire.{specs.declared.command.What.{What, TheVariants.{Article, Head, Body, Stat}}, proofs.KeywordLemmas.{lower_first, same_lower}}
+use Rattle.nntp_wire.specs.Command.{is_keyword, request_by, request_by_keyword, request_of_words, request_as, capabilities_of, group_of, alone, next}
+use Rattle.nntp_wire.specs.Command.{overview_keywords, over_of, over_by, over, the_id, range_of, retrieve_of, retrieve_by, target_of}
+use Rattle.nntp_wire.specs.declared.{overviews.Overviews.{Overviews, TheVariants.{Opaque, Judged}}, command.OverviewKeyword.{OverviewKeyword}}
+use Rattle.nntp_wire.specs.declared.command.{OverviewKeyword.TheVariants.{Over, Xover}, What.{What, TheVariants.{Article, Head, Body, Stat}}}
+use Rattle.nntp_wire.{specs.{declared.prompt_kind.PromptKind.TheVariants.{Other}, Inner.Prompts.{prompt_kind}}, proofs.KeywordLemmas.{lower_first, same_lower}}
 
 -- the word begins as LISTGROUP, MODE or QUIT does, in either case
 abbrev pub begins_kind : List ℕ → Bool
@@ -37,13 +39,25 @@ retrieve_other what (word ∷ []) = at (target_of word) where
   at (Some target) = refl
 retrieve_other what (word ∷ more ∷ rest) = refl
 
+over_other : (keyword : OverviewKeyword) → MakesOther (over_of keyword)
+over_other keyword [] = refl
+over_other keyword (word ∷ []) = elim (slice_index word 0 == 60) as (λ b. prompt_kind (to (cond b (over keyword (the_id word)) (over_by keyword (range_of word)))) ≡ Other) [
+  | true ↦ refl
+  | false ↦ elim (range_of word) as (λ r. prompt_kind (to (over_by keyword r)) ≡ Other) [ None ↦ refl | Some range ↦ refl ]
+]
+over_other keyword (word ∷ more ∷ rest) = refl
+
 -- each keyword begins so, or makes the kind Other
 abbrev AllMakeOther : List (List ℕ × (List (List ℕ) → Request)) → Type 0
 AllMakeOther [] = ⊤
 AllMakeOther (row ∷ rows) = ((begins_kind row.0 ≡ true) ⊎ MakesOther row.1) × AllMakeOther rows
 
-keywords_other : AllMakeOther keywords
-keywords_other = (
+overviews_other : (overviews : Overviews) → AllMakeOther (overview_keywords overviews)
+overviews_other Opaque = tt
+overviews_other Judged = (inr (over_other Over), (inr (over_other Xover), tt))
+
+keywords_other : (overviews : Overviews) → AllMakeOther (keywords overviews)
+keywords_other overviews = (
   inr capabilities_other,
   (
     inl refl,
@@ -57,7 +71,7 @@ keywords_other = (
             inl refl,
             (
               inl refl,
-              (inr (retrieve_other Article), (inr (retrieve_other Head), (inr (retrieve_other Body), (inr (retrieve_other Stat), (inl refl, tt))))),
+              (inr (retrieve_other Article), (inr (retrieve_other Head), (inr (retrieve_other Body), (inr (retrieve_other Stat), (inl refl, overviews_other overviews))))),
             ),
           ),
         ),
@@ -86,9 +100,10 @@ found_other word (row ∷ rows) is_short arguments all begins = at (is_same_word
   at true is false others = rw is refl
   at false other is_short others = rw other others
 
-keyword_other : (word : List ℕ) (is_short : Bool) (arguments : List (List ℕ)) → begins_kind word ≡ false → prompt_kind (to (request_by_keyword is_short word arguments)) ≡ Other
+keyword_other : (overviews : Overviews) (word : List ℕ) (is_short : Bool) (arguments : List (List ℕ)) → begins_kind word ≡ false
+    → prompt_kind (to (request_by_keyword overviews is_short word arguments)) ≡ Other
 unfolding form_of
-keyword_other word is_short arguments begins = found_other word keywords is_short arguments keywords_other begins
+keyword_other overviews word is_short arguments begins = found_other word (keywords overviews) is_short arguments (keywords_other overviews) begins
 
 -- the first word begins with the first octet, if that is no blank
 first_word : (b : ℕ) (bs : List ℕ) → is_blank b ≡ false → (word : List ℕ) × (others : List (List ℕ)) × (words_of (b ∷ bs) ≡ (b ∷ word) ∷ others)
@@ -101,21 +116,23 @@ first_word b bs plain =
     at [] = ([], [], refl)
     at (part ∷ parts) = (part, filter is_some_octets parts, rw (lt-ltb 0 (length (b ∷ part)) (omega arith)) refl)
 
-first_other : (len : ℕ) (word : List ℕ) (arguments : List (List ℕ)) → begins_kind word ≡ false → prompt_kind (to (request_of_words len (word ∷ arguments))) ≡ Other
-first_other len word arguments begins = at (is_keyword word) refl where
-  at : (t : Bool) → is_keyword word ≡ t → prompt_kind (to (request_of_words len (word ∷ arguments))) ≡ Other
-  at true is = rw is (keyword_other word (nat_le len 510) arguments begins)
+first_other : (overviews : Overviews) (len : ℕ) (word : List ℕ) (arguments : List (List ℕ)) → begins_kind word ≡ false → prompt_kind (to (request_of_words overviews len (word ∷ arguments))) ≡ Other
+first_other overviews len word arguments begins = at (is_keyword word) refl where
+  at : (t : Bool) → is_keyword word ≡ t → prompt_kind (to (request_of_words overviews len (word ∷ arguments))) ≡ Other
+  at true is = rw is (keyword_other overviews word (nat_le len 510) arguments begins)
   at false other = rw other refl
 
-words_other : (len : ℕ) (rest : List ℕ) → (0 < length rest → is_blank (get_or rest 0 0) ≡ false) → begins_kind rest ≡ false → prompt_kind (to (request_of_words len (words_of rest))) ≡ Other
-words_other len [] plain begins = refl
-words_other len (b ∷ bs) plain begins =
+words_other : (overviews : Overviews) (len : ℕ) (rest : List ℕ) → (0 < length rest → is_blank (get_or rest 0 0) ≡ false) → begins_kind rest ≡ false
+    → prompt_kind (to (request_of_words overviews len (words_of rest))) ≡ Other
+words_other overviews len [] plain begins = refl
+words_other overviews len (b ∷ bs) plain begins =
     let first = first_word b bs (plain (omega arith)) in
-    ap (λ words. prompt_kind (to (request_of_words len words))) first.2 ∙ first_other len (b ∷ first.0) first.1 begins
+    ap (λ words. prompt_kind (to (request_of_words overviews len words))) first.2 ∙ first_other overviews len (b ∷ first.0) first.1 begins
 
 -- a line of which the first word begins otherwise
-pub line_other : (line rest : List ℕ) → words_of rest ≡ words_of line → (0 < length rest → is_blank (get_or rest 0 0) ≡ false) → begins_kind rest ≡ false → prompt_kind (to (request_of line)) ≡ Other
-line_other line rest same plain begins = at (is_clean line) refl where
-  at : (t : Bool) → is_clean line ≡ t → prompt_kind (to (request_of line)) ≡ Other
-  at true clean = rw clean (ap (λ words. prompt_kind (to (request_of_words (length line) words))) (sym same) ∙ words_other (length line) rest plain begins)
+pub line_other : (overviews : Overviews) (line rest : List ℕ) → words_of rest ≡ words_of line → (0 < length rest → is_blank (get_or rest 0 0) ≡ false) → begins_kind rest ≡ false
+    → prompt_kind (to (request_as overviews line)) ≡ Other
+line_other overviews line rest same plain begins = at (is_clean line) refl where
+  at : (t : Bool) → is_clean line ≡ t → prompt_kind (to (request_as overviews line)) ≡ Other
+  at true clean = rw clean (ap (λ words. prompt_kind (to (request_of_words overviews (length line) words))) (sym same) ∙ words_other overviews (length line) rest plain begins)
   at false other = rw other refl

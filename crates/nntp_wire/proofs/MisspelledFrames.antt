@@ -3,17 +3,19 @@ use Rattle.std.proofs.Common.{◌≡◌, ℕ, ◌+◌, ◌↔◌, ◌==◌, ◌&
 use Rattle.std.proofs.{Common.{sym, ap, subst, ◌∙◌, cond}, lemmas.{List.{append-nil}, Bool.{cases_Bool, and_from, and_parts, eqb-true, false≢true, true≢false}}}
 use Rattle.std.{proofs.lemmas.Bool.{not-true}, specs.{Prelude.{is_none, is_some, option_map, ⊤}, List.{AllByRecursion}}}
 use Rattle.nntp_wire.specs.{Octets.{dot, is_clean}, Lines.{HasNoCrlf, ended, lines_of_stream}, Words.{words_of}, Block.{stuffed, unstuffed, AreClean}}
-use Rattle.nntp_wire.specs.Listing.{listed_number_of, active_of, gives_versions, are_listed_numbers, are_active_lines, begins_with_versions}
-use Rattle.nntp_wire.specs.{Command.{capabilities, mode_reader, quit, opaque, ill_formed, group, list_group, next, last, retrieve, list_active}, Answer.{Asked}}
-use Rattle.nntp_wire.specs.Answer.{Response, greeting, to, group_is, numbers_are, sends, active_are, plain, Says, Spells, code_of, is_fitting, status_of}
-use Rattle.nntp_wire.specs.{Answer.{kind_of, is_block_due, success_code}, Inner.{AnswerView.{SendsBlock, IsBlock, Reads}, Frame.{FrameParts, IsFrame}}}
-use Rattle.nntp_wire.specs.{Frame.{IsBlockLine, IsBeforeDotLine, frame_octets}, Misspelling.{arguments_of, dues, has_no_single_dot, listing_fault, line_fault}}
-use Rattle.nntp_wire.specs.Misspelling.{kind_behind, line_misspelling, lines_misspelling, block_misspelling, misspelling_behind, code_misspelling, misspelling}
-use Rattle.nntp_wire.{specs.declared.kind.Kind.{Kind, TheVariants.{Group, Numbers, Sent, Active, Capabilities, Plain}}, proofs.Reasons.{none_unless, none_two}}
+use Rattle.nntp_wire.specs.Listing.{listed_number_of, active_of, gives_versions, are_listed_numbers, are_active_lines, begins_with_versions, number_alone}
+use Rattle.nntp_wire.specs.Listing.{id_alone, first_words, fields_of, id_of_fields, overview_by, overview_of_fields, overview_of, number_in_front, id_in_place}
+use Rattle.nntp_wire.specs.{Listing.{are_overview_lines}, Command.{over, capabilities, mode_reader, quit, opaque, ill_formed, group, list_group, next, last}}
+use Rattle.nntp_wire.specs.{Command.{retrieve, list_active}, Answer.{overviews_are, Asked, Response, greeting, to, group_is, numbers_are, sends, active_are}}
+use Rattle.nntp_wire.specs.{Answer.{plain, Says, Spells, code_of, is_fitting, status_of, kind_of, is_block_due, success_code}, Inner.AnswerView.{SendsBlock}}
+use Rattle.nntp_wire.specs.{Inner.{AnswerView.{IsBlock, Reads}, Frame.{FrameParts, IsFrame}}, Frame.{IsBlockLine, IsBeforeDotLine, frame_octets}}
+use Rattle.nntp_wire.specs.Misspelling.{arguments_of, dues, has_no_single_dot, listing_fault, line_fault, kind_behind, line_misspelling, lines_misspelling}
+use Rattle.nntp_wire.specs.{Misspelling.{block_misspelling, misspelling_behind, code_misspelling, misspelling}, declared.kind.Kind.{Kind, TheVariants.{Group}}}
+use Rattle.nntp_wire.{specs.declared.kind.Kind.TheVariants.{Numbers, Sent, Active, Overview, Capabilities, Plain}, proofs.Reasons.{none_unless, none_two}}
 use Rattle.nntp_wire.proofs.{Reasons.{none_three, none_by_test, and_true}, DueArguments.{are_arguments, none_arguments, group_taken, group_put, article_taken}}
 use Rattle.nntp_wire.proofs.{DueArguments.{article_put}, BlockLemmas.{stuffed-clean, unstuffed-clean, unstuffed-stuffed}, SpellLemmas.{sent-lines, status-code}}
 use Rattle.nntp_wire.proofs.{FrameLemmas.{line-nil}, StreamLemmas.{split-lines}, AnswerLemmas.{reads-spells, spells-reads}, SaysDecided.{group_said}}
-use Rattle.nntp_wire.proofs.SaysDecided.{numbers_said, article_said, active_said}
+use Rattle.nntp_wire.proofs.SaysDecided.{numbers_said, article_said, active_said, overviews_said}
 
 -- ---- lines
 
@@ -88,10 +90,31 @@ right_sent kind (line ∷ lines) clean h =
     (ap (λ l. is_none (listing_fault kind l)) (unstuffed-stuffed line) ∙ both.0))
     (right_sent (kind_behind kind) lines clean.1 both.1)
 
+-- a line is an overview exactly if it has a number in front and an id in its place
+overview_parts : (line : List ℕ) → is_none (listing_fault Overview line) ≡ is_some (overview_of line)
+overview_parts line = none_two _ _ _ _ (none_unless (is_some (number_in_front line)) _) (none_unless (is_some (id_in_place line)) _) ∙ by (fields_of line) where
+  short : (n : Option ℕ) → (is_some n && false) ≡ false
+  short None = refl
+  short (Some n) = refl
+
+  long : (subject from date references : List (List ℕ)) (n : Option ℕ) (id : Option (List ℕ)) → (is_some n && is_some id) ≡ is_some (overview_by subject from date references n id)
+  long subject from date references None id = refl
+  long subject from date references (Some n) None = refl
+  long subject from date references (Some n) (Some id) = refl
+
+  by : (fields : List (List ℕ)) → (is_some (number_alone (first_words fields)) && is_some (id_of_fields fields)) ≡ is_some (overview_of_fields fields)
+  by [] = refl
+  by (a ∷ []) = short (number_alone (words_of a))
+  by (a ∷ b ∷ []) = short (number_alone (words_of a))
+  by (a ∷ b ∷ c ∷ []) = short (number_alone (words_of a))
+  by (a ∷ b ∷ c ∷ d ∷ []) = short (number_alone (words_of a))
+  by (a ∷ b ∷ c ∷ d ∷ e ∷ more) = long (words_of b) (words_of c) (words_of d) (first_words more) (number_alone (words_of a)) (id_alone (words_of e))
+
 -- what the lines of a response of this kind have to list
 abbrev listing : Kind → List (List ℕ) → Bool
 listing Numbers lines = are_listed_numbers lines
 listing Active lines = are_active_lines lines
+listing Overview lines = are_overview_lines lines
 listing Capabilities lines = begins_with_versions lines
 listing kind lines = true
 
@@ -114,6 +137,9 @@ listing-listed Sent lines = any_lines Sent refl (λ line. refl) lines
 listing-listed Active [] = refl
 listing-listed Active (line ∷ lines) =
     ap (λ b. b && lists Active lines) (none_unless (is_some (active_of line)) _) ∙ ap (λ b. is_some (active_of line) && b) (listing-listed Active lines)
+listing-listed Overview [] = refl
+listing-listed Overview (line ∷ lines) =
+    ap (λ b. b && lists Overview lines) (overview_parts line) ∙ ap (λ b. is_some (overview_of line) && b) (listing-listed Overview lines)
 listing-listed Capabilities [] = refl
 listing-listed Capabilities (line ∷ lines) =
     ap (λ b. b && lists Plain lines) (none_unless (gives_versions (words_of line)) _)
@@ -151,6 +177,7 @@ listed_lines Group lines h = let r = sym (none_lines Group 1 lines) ∙ h in (r,
 listed_lines Numbers lines h = let r = sym (none_lines Numbers 1 lines) ∙ h in (r, (right_parts Numbers lines r).listed)
 listed_lines Sent lines h = let r = sym (none_lines Sent 1 lines) ∙ h in (r, (right_parts Sent lines r).listed)
 listed_lines Active lines h = let r = sym (none_lines Active 1 lines) ∙ h in (r, (right_parts Active lines r).listed)
+listed_lines Overview lines h = let r = sym (none_lines Overview 1 lines) ∙ h in (r, (right_parts Overview lines r).listed)
 listed_lines Plain lines h = let r = sym (none_lines Plain 1 lines) ∙ h in (r, (right_parts Plain lines r).listed)
 
 sent_lines : (kind : Kind) (lines : List (List ℕ)) → AreClean lines → listed kind lines ≡ true → is_none (lines_misspelling kind (map stuffed lines)) ≡ true
@@ -160,6 +187,7 @@ sent_lines Group lines clean h = none_lines Group 1 (map stuffed lines) ∙ righ
 sent_lines Numbers lines clean h = none_lines Numbers 1 (map stuffed lines) ∙ right_sent Numbers lines clean h
 sent_lines Sent lines clean h = none_lines Sent 1 (map stuffed lines) ∙ right_sent Sent lines clean h
 sent_lines Active lines clean h = none_lines Active 1 (map stuffed lines) ∙ right_sent Active lines clean h
+sent_lines Overview lines clean h = none_lines Overview 1 (map stuffed lines) ∙ right_sent Overview lines clean h
 sent_lines Plain lines clean h = none_lines Plain 1 (map stuffed lines) ∙ right_sent Plain lines clean h
 
 block_taken : (kind : Kind) (is_due : Bool) (bytes : Option (List ℕ)) → IsBeforeDotLine bytes → is_none (block_misspelling kind is_due bytes) ≡ true → Block kind bytes is_due
@@ -193,6 +221,7 @@ block_put kind true (Some bytes) (Some lines) is due right =
 abbrev is_listing : Kind → Bool
 is_listing Numbers = true
 is_listing Active = true
+is_listing Overview = true
 is_listing Capabilities = true
 is_listing kind = false
 
@@ -204,6 +233,8 @@ says_of Numbers code bytes (Some lines) some args right = let g = group_taken by
 says_of Sent code bytes block some args right = let a = article_taken bytes args in (sends (record { code = code; number = a.0; id = a.1; block = block }), (refl, a.2, refl))
 says_of Active code bytes None some args right = absurd (false≢true (some refl))
 says_of Active code bytes (Some lines) some args right = (active_are lines, (right, refl))
+says_of Overview code bytes None some args right = absurd (false≢true (some refl))
+says_of Overview code bytes (Some lines) some args right = (overviews_are lines, (right, refl))
 says_of Capabilities code bytes None some args right = absurd (false≢true (some refl))
 says_of Capabilities code bytes (Some lines) some args right = (plain code, (right, refl))
 says_of Plain code bytes block some args right = (plain code, refl)
@@ -220,6 +251,8 @@ says_back Numbers code bytes (Some lines) r says = let s = numbers_said bytes li
 says_back Sent code bytes block r says = (article_put bytes (article_said code bytes block r says), any_block Sent (λ lines. refl) block)
 says_back Active code bytes None r says = absurd says
 says_back Active code bytes (Some lines) r says = (refl, active_said lines r says)
+says_back Overview code bytes None r says = absurd says
+says_back Overview code bytes (Some lines) r says = (refl, overviews_said lines r says)
 says_back Capabilities code bytes None r says = absurd says
 says_back Capabilities code bytes (Some lines) r says = (refl, says.0)
 says_back Plain code bytes block r says = (refl, any_block Plain (λ lines. refl) block)
@@ -246,6 +279,11 @@ listing_due (to (list_active w)) code h = by (code == 215) refl h
   where
     by : (b : Bool) → (code == 215) ≡ b → is_listing (cond b Active Plain) ≡ true → is_block_due (to (list_active w)) code ≡ true
     by true e h = subst (λ c. is_block_due (to (list_active w)) c ≡ true) (sym (eqb-true code 215 e)) refl
+    by false e h = absurd (false≢true h)
+listing_due (to (over keyword which)) code h = by (code == 224) refl h
+  where
+    by : (b : Bool) → (code == 224) ≡ b → is_listing (cond b Overview Plain) ≡ true → is_block_due (to (over keyword which)) code ≡ true
+    by true e h = subst (λ c. is_block_due (to (over keyword which)) c ≡ true) (sym (eqb-true code 224 e)) refl
     by false e h = absurd (false≢true h)
 listing_due (to (retrieve what which)) code h = absurd (either_not (code == success_code what) Sent Plain refl refl h)
 listing_due (to next) code h = absurd (either_not (code == 223) Sent Plain refl refl h)

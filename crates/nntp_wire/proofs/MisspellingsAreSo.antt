@@ -2,14 +2,14 @@
 use Rattle.std.proofs.Common.{◌≡◌, ℕ, suc, ◌+◌, Bool, true, false, not, List, [], ◌∷◌, length, drop, Option, None, Some, MatchOption, refl, sym, ap, subst}
 use Rattle.std.{proofs.{Common.{arith}, lemmas.Option.{IfSome_then}}, specs.Prelude.{slice_get, is_some, option_map, IfSome}}
 use Rattle.nntp_wire.specs.{Octets.{is_clean}, Lines.{lines_of_stream}, Words.{words_of}, Block.{unstuffed}, Listing.{listed_number_of, active_of}}
-use Rattle.nntp_wire.specs.{Listing.{gives_versions}, Answer.{Asked, code_of, is_fitting, kind_of, is_block_due}, Reason.{unless}, Misspelling.{arguments_of}}
-use Rattle.nntp_wire.specs.Misspelling.{dues, is_argument, argument_misspelling, has_no_single_dot, listing_fault, line_fault, kind_behind, line_misspelling}
-use Rattle.nntp_wire.specs.Misspelling.{lines_misspelling, block_misspelling, misspelling_behind, code_misspelling, misspelling}
+use Rattle.nntp_wire.specs.{Listing.{number_in_front, id_in_place, gives_versions}, Answer.{Asked, code_of, is_fitting, kind_of, is_block_due}, Reason.{unless}}
+use Rattle.nntp_wire.specs.Misspelling.{arguments_of, dues, is_argument, argument_misspelling, has_no_single_dot, listing_fault, line_fault, kind_behind}
+use Rattle.nntp_wire.specs.Misspelling.{line_misspelling, lines_misspelling, block_misspelling, misspelling_behind, code_misspelling, misspelling}
 use Rattle.nntp_wire.specs.{Inner.Misspelling.{IsWrongArgument, has_fault, IsWrongLine}, declared.kind.Kind.{Kind, TheVariants.{Group, Numbers, Sent, Active}}}
-use Rattle.nntp_wire.specs.declared.{kind.Kind.TheVariants.{Capabilities, Plain}, misspelling.Misspelling.{Misspelling, TheVariants.{WrongOctet, TooLong}}}
-use Rattle.nntp_wire.specs.declared.misspelling.{Misspelling.TheVariants.{NoCode, WrongArgument, WrongLine, WrongBlock}, Due.{Due}, LineFault.{LineFault}}
-use Rattle.nntp_wire.{specs.declared.misspelling.LineFault.TheVariants.{BadOctet, SingleDot, NoNumber, NoGroup, NoVersions}, proofs.Reasons.{so_unless}}
-use Rattle.nntp_wire.proofs.Reasons.{so_first}
+use Rattle.nntp_wire.specs.declared.{kind.Kind.TheVariants.{Overview, Capabilities, Plain}, misspelling.Misspelling.{Misspelling, TheVariants.{WrongOctet}}}
+use Rattle.nntp_wire.specs.declared.misspelling.{Misspelling.TheVariants.{TooLong, NoCode, WrongArgument, WrongLine, WrongBlock}, Due.{Due}}
+use Rattle.nntp_wire.specs.declared.misspelling.LineFault.{LineFault, TheVariants.{BadOctet, SingleDot, NoNumber, NoGroup, NoArticleNumber, NoMessageId}}
+use Rattle.nntp_wire.{specs.declared.misspelling.LineFault.TheVariants.{NoVersions}, proofs.Reasons.{so_unless, so_first}}
 
 -- ---- arguments
 
@@ -53,6 +53,13 @@ so_listing Group line = tt
 so_listing Numbers line = so_unless (λ fault. has_fault fault line ≡ true) (is_some (listed_number_of (unstuffed line))) NoNumber (ap not)
 so_listing Sent line = tt
 so_listing Active line = so_unless (λ fault. has_fault fault line ≡ true) (is_some (active_of (unstuffed line))) NoGroup (ap not)
+so_listing Overview line =
+    so_first Q (unless (is_some (number_in_front (unstuffed line))) NoArticleNumber) (unless (is_some (id_in_place (unstuffed line))) NoMessageId ∷ [])
+    (so_unless Q (is_some (number_in_front (unstuffed line))) NoArticleNumber (ap not))
+    (so_first Q (unless (is_some (id_in_place (unstuffed line))) NoMessageId) [] (so_unless Q (is_some (id_in_place (unstuffed line))) NoMessageId (ap not)) tt)
+  where
+    Q : LineFault → Type 0
+    Q fault = has_fault fault line ≡ true
 so_listing Capabilities line = so_unless (λ fault. has_fault fault line ≡ true) (gives_versions (words_of (unstuffed line))) NoVersions (ap not)
 so_listing Plain line = tt
 
@@ -126,6 +133,7 @@ so_all Group lines = IfSome_then (line_misspelling Group 1 lines) (so_lines Grou
 so_all Numbers lines = IfSome_then (line_misspelling Numbers 1 lines) (so_lines Numbers 1 lines) (line_told lines)
 so_all Sent lines = IfSome_then (line_misspelling Sent 1 lines) (so_lines Sent 1 lines) (line_told lines)
 so_all Active lines = IfSome_then (line_misspelling Active 1 lines) (so_lines Active 1 lines) (line_told lines)
+so_all Overview lines = IfSome_then (line_misspelling Overview 1 lines) (so_lines Overview 1 lines) (line_told lines)
 so_all Plain lines = IfSome_then (line_misspelling Plain 1 lines) (so_lines Plain 1 lines) (line_told lines)
 
 so_block : (asked : Asked) (line : List ℕ) (code : ℕ) (is : code_of line ≡ Some code) (is_due : Bool) → is_due ≡ is_block_due asked code → (bytes : Option (List ℕ))

@@ -1,10 +1,10 @@
 -- Octets spell one response.
 use Rattle.std.{proofs.{Common.{◌≡◌, ℕ, List, [], ◌∷◌, drop, refl, sym, ◌∙◌, ap, map, Option, None, Some}, lemmas.Bool.{false≢true}}, specs.Prelude.{is_some}}
-use Rattle.nntp_wire.specs.{Block.{stuffed, unstuffed}, Answer.{Asked, Success, Response, group_is, numbers_are, sends, active_are, plain, Spells, Says}}
-use Rattle.nntp_wire.specs.Answer.{SaysGroup, SaysNumbers, SaysArticle, SaysActive, SaysCode, kind_of, status_of, is_block_due, block_octets, IsCleanBlock}
-use Rattle.nntp_wire.{specs.declared.kind.Kind.{Kind, TheVariants.{Group, Numbers, Sent, Active, Capabilities, Plain}}, proofs.ArgumentLemmas.{one-article}}
-use Rattle.nntp_wire.proofs.{ArgumentLemmas.{one-group}, SpellLemmas.{clean-line, one_block, sent-lines, status-clean}, BlockLemmas.{unstuffed-stuffed}}
-use Rattle.nntp_wire.proofs.FrameLemmas.{one_line}
+use Rattle.nntp_wire.specs.{Block.{stuffed, unstuffed}, Answer.{Asked, Success, Response, group_is, numbers_are, sends, active_are, overviews_are, plain}}
+use Rattle.nntp_wire.specs.Answer.{Spells, Says, SaysGroup, SaysNumbers, SaysArticle, SaysActive, SaysOverviews, SaysCode, kind_of, status_of, is_block_due}
+use Rattle.nntp_wire.specs.{Answer.{block_octets, IsCleanBlock}, declared.kind.Kind.{Kind, TheVariants.{Group, Numbers, Sent, Active, Overview, Capabilities}}}
+use Rattle.nntp_wire.{specs.declared.kind.Kind.TheVariants.{Plain}, proofs.{ArgumentLemmas.{one-article, one-group}, SpellLemmas.{clean-line, one_block}}}
+use Rattle.nntp_wire.proofs.{SpellLemmas.{sent-lines, status-clean}, BlockLemmas.{unstuffed-stuffed}, FrameLemmas.{one_line}}
 
 same_success : (s t : Success) → s.code ≡ t.code → s.number ≡ t.number → s.id ≡ t.id → s.block ≡ t.block → s ≡ t
 same_success s t c n i b =
@@ -38,6 +38,11 @@ one_by_active lines (active_are ls) (active_are ms) p q = ap active_are (p.1 ∙
 one_by_active lines (active_are ls) o p q = absurd q
 one_by_active lines r o p q = absurd p
 
+one_by_overviews : (lines : List (List ℕ)) (r o : Response) → SaysOverviews lines r → SaysOverviews lines o → r ≡ o
+one_by_overviews lines (overviews_are ls) (overviews_are ms) p q = ap overviews_are (p.1 ∙ sym q.1)
+one_by_overviews lines (overviews_are ls) o p q = absurd q
+one_by_overviews lines r o p q = absurd p
+
 one_by_code : (code : ℕ) (r o : Response) → SaysCode code r → SaysCode code o → r ≡ o
 one_by_code code (plain c) (plain d) p q = ap plain (p ∙ sym q)
 one_by_code code (plain c) o p q = absurd q
@@ -51,6 +56,8 @@ one_meaning Numbers code bytes (Some lines) r o p q = one_by_numbers bytes lines
 one_meaning Sent code bytes block r o p q = one_by_article code bytes block r o p q
 one_meaning Active code bytes None r o p q = absurd p
 one_meaning Active code bytes (Some lines) r o p q = one_by_active lines r o p q
+one_meaning Overview code bytes None r o p q = absurd p
+one_meaning Overview code bytes (Some lines) r o p q = one_by_overviews lines r o p q
 one_meaning Capabilities code bytes None r o p q = absurd p
 one_meaning Capabilities code bytes (Some lines) r o p q = one_by_code code r o p.1 q.1
 one_meaning Plain code bytes block r o p q = one_by_code code r o p q

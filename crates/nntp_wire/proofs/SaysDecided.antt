@@ -3,11 +3,11 @@ use Rattle.std.proofs.Common.{◌≡◌, ℕ, true, ◌==◌, not, IsTrue, List,
 use Rattle.std.{proofs.lemmas.Bool.{and_from, cases_Bool, cases_eq, true≢false}, specs.List.{list_all}}
 use Rattle.nntp_wire.specs.{Octets.{space}, Number.{is_number, number_value}, Name.{IsMessageId, IsGroupName}, Argument.{no_space, is_comment}}
 use Rattle.nntp_wire.specs.{Argument.{BeginsWithArgument, BeginsWithNumber, HasArticle, HasGroup}, Listing.{are_listed_numbers, are_active_lines}}
-use Rattle.nntp_wire.specs.{Listing.{begins_with_versions}, declared.{water_marks.WaterMarks.{WaterMarks}, kind.Kind.{Kind, TheVariants.{Group, Numbers}}}}
-use Rattle.nntp_wire.specs.{declared.kind.Kind.TheVariants.{Sent, Active, Capabilities, Plain}, Answer.{Response, group_is, numbers_are, sends, active_are}}
-use Rattle.nntp_wire.specs.{Answer.{plain, Says, SaysGroup, SaysNumbers, SaysArticle, SaysActive}, Decided.{is_message_id, is_group_name}}
-use Rattle.nntp_wire.proofs.{ArgumentLemmas.{one-argument, no-second, no-id, no-low, no-high, no-fourth, no-name}, Decide.{Dec, dec_true, dec_both, dec_by}}
-use Rattle.nntp_wire.proofs.DecidedLemmas.{message_id-iff, group_name-iff}
+use Rattle.nntp_wire.specs.{Listing.{are_overview_lines, begins_with_versions}, declared.{water_marks.WaterMarks.{WaterMarks}, kind.Kind.{Kind}}}
+use Rattle.nntp_wire.specs.{declared.kind.Kind.TheVariants.{Group, Numbers, Sent, Active, Overview, Capabilities, Plain}, Answer.{Response, group_is}}
+use Rattle.nntp_wire.specs.Answer.{numbers_are, sends, active_are, plain, Says, SaysGroup, SaysNumbers, SaysArticle, SaysActive, SaysOverviews, overviews_are}
+use Rattle.nntp_wire.{specs.Decided.{is_message_id, is_group_name}, proofs.ArgumentLemmas.{one-argument, no-second, no-id, no-low, no-high, no-fourth, no-name}}
+use Rattle.nntp_wire.proofs.{Decide.{Dec, dec_true, dec_both, dec_by}, DecidedLemmas.{message_id-iff, group_name-iff}}
 
 dec_id : (id : List ℕ) → Dec (IsMessageId id)
 dec_id id = dec_by (message_id-iff id).0 (message_id-iff id).1 (dec_true (is_message_id id))
@@ -122,6 +122,10 @@ pub active_said : (lines : List (List ℕ)) (r : Response) → SaysActive lines 
 active_said lines (active_are listed) says = says.0
 active_said lines r says = absurd says
 
+pub overviews_said : (lines : List (List ℕ)) (r : Response) → SaysOverviews lines r → IsTrue (are_overview_lines lines)
+overviews_said lines (overviews_are listed) says = says.0
+overviews_said lines r says = absurd says
+
 -- whether a response is said
 pub dec_says : (kind : Kind) (code : ℕ) (bytes : List ℕ) (block : Option (List (List ℕ))) → Dec ((r : Response) × Says kind code bytes block r)
 dec_says Group code bytes block =
@@ -134,6 +138,8 @@ dec_says Sent code bytes block =
     dec_by (λ g. (sends (record { code = code; number = g.0; id = g.1; block = block }), (refl, g.2, refl))) (λ h. article_said code bytes block h.0 h.1) (dec_article bytes)
 dec_says Active code bytes None = inr (λ h. h.1)
 dec_says Active code bytes (Some lines) = dec_by (λ are. (active_are lines, (are, refl))) (λ h. active_said lines h.0 h.1) (dec_true (are_active_lines lines))
+dec_says Overview code bytes None = inr (λ h. h.1)
+dec_says Overview code bytes (Some lines) = dec_by (λ are. (overviews_are lines, (are, refl))) (λ h. overviews_said lines h.0 h.1) (dec_true (are_overview_lines lines))
 dec_says Capabilities code bytes None = inr (λ h. h.1)
 dec_says Capabilities code bytes (Some lines) = dec_by (λ t. (plain code, (t, refl))) (λ h. h.1.0) (dec_true (begins_with_versions lines))
 dec_says Plain code bytes block = inl (plain code, refl)

@@ -3,11 +3,11 @@ use Rattle.std.proofs.Common.{◌≡◌, ℕ, zero, suc, ◌+◌, ◌≤◌, ◌
 use Rattle.std.proofs.{Common.{inr, refl, sym, ap, subst, ◌∙◌, arith, append_assoc, length-append}, lemmas.{List.{append-nil}, Bool.{and_from, and_parts}}}
 use Rattle.std.{proofs.lemmas.Bool.{cases_Bool, cases_eq, true≢false, false≢true, ne_eqb, eq-eqb}, specs.Prelude.{is_some}}
 use Rattle.nntp_wire.specs.{Octets.{dot, crlf, is_clean, is_line_breaking}, Lines.{ended}, Block.{stuffed, sent, dot_line, AreClean}, Answer.{Asked, Response}}
-use Rattle.nntp_wire.specs.Answer.{Spells, Says, kind_of, status_of, is_block_due, block_octets, IsCleanBlock, group_is, numbers_are, sends, active_are, plain}
-use Rattle.nntp_wire.specs.{Frame.{HasFrame, frame_octets}, declared.kind.Kind.{Kind, TheVariants.{Group, Numbers, Sent, Active, Capabilities, Plain}}}
-use Rattle.nntp_wire.proofs.{Decide.{Dec, dec_by}, FrameLemmas.{one_line}, BlockLemmas.{stuffed-clean}, SpellLemmas.{clean-line, status-clean, spelling-frame}}
-use Rattle.nntp_wire.proofs.{SpellLemmas.{one-frame, one_block, sent-lines}, ResponseLemmas.{one-response, one-sent}, SaysDecided.{dec_says}}
-use Rattle.nntp_wire.proofs.AnswerLemmas.{status-long}
+use Rattle.nntp_wire.specs.Answer.{Spells, Says, kind_of, status_of, is_block_due, block_octets, IsCleanBlock, group_is, numbers_are, sends, active_are}
+use Rattle.nntp_wire.specs.{Answer.{overviews_are, plain}, Frame.{HasFrame, frame_octets}, declared.kind.Kind.{Kind, TheVariants.{Group, Numbers, Sent}}}
+use Rattle.nntp_wire.{specs.declared.kind.Kind.TheVariants.{Active, Overview, Capabilities, Plain}, proofs.{Decide.{Dec, dec_by}, FrameLemmas.{one_line}}}
+use Rattle.nntp_wire.proofs.{BlockLemmas.{stuffed-clean}, SpellLemmas.{clean-line, status-clean, spelling-frame, one-frame, one_block, sent-lines}}
+use Rattle.nntp_wire.proofs.{ResponseLemmas.{one-response, one-sent}, SaysDecided.{dec_says}, AnswerLemmas.{status-long}}
 
 -- ---- one response at the front
 
@@ -286,6 +286,7 @@ some-spelling asked octets = elim (dec_spelling asked octets) [ inl h ↦ inl h 
 abbrev pub lines_of : Response → List (List ℕ)
 lines_of (numbers_are m name lines) = lines
 lines_of (active_are lines) = lines
+lines_of (overviews_are lines) = lines
 lines_of r = []
 
 -- how many the block has
@@ -299,6 +300,14 @@ said_lines kind code bytes block (sends s) h = omega arith
 said_lines kind code bytes block (plain c) h = omega arith
 said_lines Numbers code bytes (Some lines) (numbers_are m name listed) h = (let e = ap length h.2 in omega arith)
 said_lines Active code bytes (Some lines) (active_are listed) h = (let e = ap length h.1 in omega arith)
+said_lines Overview code bytes (Some lines) (overviews_are listed) h = (let e = ap length h.1 in omega arith)
+said_lines Overview code bytes (Some lines) (numbers_are m name listed) h = absurd h
+said_lines Overview code bytes (Some lines) (active_are listed) h = absurd h
+said_lines Overview code bytes None r h = absurd h
+said_lines Numbers code bytes (Some lines) (overviews_are listed) h = absurd h
+said_lines Numbers code bytes None (overviews_are listed) h = absurd h
+said_lines Active code bytes (Some lines) (overviews_are listed) h = absurd h
+said_lines Active code bytes None (overviews_are listed) h = absurd h
 said_lines Numbers code bytes None (numbers_are m name listed) h = absurd h
 said_lines Active code bytes None (active_are listed) h = absurd h
 said_lines Numbers code bytes (Some lines) (active_are listed) h = absurd h

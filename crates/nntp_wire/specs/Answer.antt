@@ -1,10 +1,11 @@
--- Responses and their spellings (RFC 3977, sections 3.1, 3.2, 5, 6 and 7.6.3).
+-- Responses and their spellings (RFC 3977, sections 3.1, 3.2, 5, 6, 7.6.3 and 8.3).
 use Rattle.std.specs.Prelude.{ℕ, ◌≡◌, Bool, true, ◌&&◌, ◌||◌, ◌==◌, nat_le, if◌then◌else◌, List, [], ◌∷◌, ◌++◌, length, take, drop, slice_index, Option, None}
 use Rattle.std.specs.{Prelude.{Some, is_some, IsTrue, ⊤}, List.{list_all, list_any}, Char.{is_ascii_digit}, Int.{is_in_range}}
 use Rattle.nntp_wire.specs.{Octets.{crlf, is_clean}, Number.{number_value}, Argument.{is_comment, HasArticle, HasGroup}, Listing.{are_listed_numbers}}
-use Rattle.nntp_wire.specs.{Listing.{are_active_lines, begins_with_versions}, Block.{sent, dot_line, AreClean}, Command.{Request, capabilities, next, last}}
-use Rattle.nntp_wire.specs.{Command.{opaque, group, list_group, retrieve, list_active}, declared.command.What.{What, TheVariants.{Article, Head, Body, Stat}}}
-use Rattle.nntp_wire.specs.declared.{water_marks.WaterMarks.{WaterMarks}, kind.Kind.{Kind, TheVariants.{Group, Numbers, Sent, Active, Capabilities, Plain}}}
+use Rattle.nntp_wire.specs.{Listing.{are_active_lines, are_overview_lines, begins_with_versions}, Block.{sent, dot_line, AreClean}, Command.{Request}}
+use Rattle.nntp_wire.specs.{Command.{capabilities, next, last, opaque, group, list_group, retrieve, list_active, over}, declared.command.What.{What}}
+use Rattle.nntp_wire.specs.declared.{command.What.TheVariants.{Article, Head, Body, Stat}, water_marks.WaterMarks.{WaterMarks}, kind.Kind.{Kind}}
+use Rattle.nntp_wire.specs.declared.kind.Kind.TheVariants.{Group, Numbers, Sent, Active, Overview, Capabilities, Plain}
 
 -- what a response answers
 pub data Asked : Type 0 where
@@ -24,6 +25,7 @@ pub data Response : Type 0 where
   numbers_are : (marks : WaterMarks) → (name : List ℕ) → (lines : List (List ℕ)) → Response
   sends : (success : Success) → Response
   active_are : (lines : List (List ℕ)) → Response
+  overviews_are : (lines : List (List ℕ)) → Response
   plain : (code : ℕ) → Response
 
 -- the line begins with three digits, the first of them 1 to 5, and then ends or goes on with a space (section 3.2)
@@ -68,6 +70,7 @@ kind_of (to (retrieve what target)) code = if code == success_code what then Sen
 kind_of (to next) code = if code == 223 then Sent else Plain
 kind_of (to last) code = if code == 223 then Sent else Plain
 kind_of (to (list_active wildmat)) code = if code == 215 then Active else Plain
+kind_of (to (over keyword which)) code = if code == 224 then Overview else Plain
 kind_of (to capabilities) code = if code == 101 then Capabilities else Plain
 kind_of asked code = Plain
 
@@ -91,6 +94,11 @@ abbrev pub SaysActive : List (List ℕ) → Response → Type 0
 SaysActive lines (active_are listed) = IsTrue (are_active_lines lines) × (listed ≡ lines)
 SaysActive lines response = ⊥
 
+-- the lines are overviews (section 8.3)
+abbrev pub SaysOverviews : List (List ℕ) → Response → Type 0
+SaysOverviews lines (overviews_are listed) = IsTrue (are_overview_lines lines) × (listed ≡ lines)
+SaysOverviews lines response = ⊥
+
 -- the response says no more than the code
 abbrev pub SaysCode : ℕ → Response → Type 0
 SaysCode code (plain c) = c ≡ code
@@ -111,6 +119,7 @@ Says Group code bytes block response = SaysGroup bytes response
 Says Numbers code bytes block response = SaysByLines (SaysNumbers bytes) block response
 Says Sent code bytes block response = SaysArticle code bytes block response
 Says Active code bytes block response = SaysByLines SaysActive block response
+Says Overview code bytes block response = SaysByLines SaysOverviews block response
 Says Capabilities code bytes block response = SaysByLines (SaysCapabilities code) block response
 Says Plain code bytes block response = SaysCode code response
 

@@ -1,6 +1,6 @@
 pub mod Octets
 pub mod Lines
-pub mod Wildmat
+pub mod Listing
 pub mod Pattern
 pub mod Block
 pub mod Decided

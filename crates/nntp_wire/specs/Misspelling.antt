@@ -1,13 +1,13 @@
--- Why a frame spells no response: the rule of spelling that fails first (RFC 3977, sections 3.1, 3.1.1, 3.2, 5.2, 6 and 7.6.3).
+-- Why a frame spells no response: the rule of spelling that fails first (RFC 3977, sections 3.1, 3.1.1, 3.2, 5.2, 6, 7.6.3 and 8.3).
 use Rattle.std.specs.Prelude.{ℕ, ◌+◌, Bool, true, false, not, ◌||◌, ◌==◌, if◌then◌else◌, List, [], ◌∷◌, length, drop, Option, None, Some, is_some, option_map}
 use Rattle.std.specs.List.{slice_split}
 use Rattle.nntp_wire.specs.{Octets.{space, dot, is_clean}, Lines.{lines_of_stream}, Words.{words_of}, Number.{is_number}, Decided.{is_message_id}}
-use Rattle.nntp_wire.specs.{Decided.{is_group_name}, Block.{unstuffed}, Listing.{listed_number_of, active_of, gives_versions}, Answer.{Asked, code_of}}
-use Rattle.nntp_wire.specs.{Answer.{is_fitting, is_block_due, kind_of}, Reason.{unless, first}, declared.kind.Kind.{Kind, TheVariants.{Group, Numbers, Sent}}}
-use Rattle.nntp_wire.specs.declared.{kind.Kind.TheVariants.{Active, Capabilities, Plain}, misspelling.Misspelling.{Misspelling, TheVariants.{WrongOctet}}}
-use Rattle.nntp_wire.specs.declared.misspelling.{Misspelling.TheVariants.{TooLong, NoCode, WrongArgument, WrongLine, WrongBlock}, Due.{Due}}
+use Rattle.nntp_wire.specs.{Decided.{is_group_name}, Block.{unstuffed}, Listing.{listed_number_of, active_of, number_in_front, id_in_place, gives_versions}}
+use Rattle.nntp_wire.specs.{Answer.{Asked, code_of, is_fitting, is_block_due, kind_of}, Reason.{unless, first}, declared.kind.Kind.{Kind, TheVariants.{Group}}}
+use Rattle.nntp_wire.specs.declared.{kind.Kind.TheVariants.{Numbers, Sent, Active, Overview, Capabilities, Plain}, misspelling.Misspelling.{Misspelling}}
+use Rattle.nntp_wire.specs.declared.misspelling.{Misspelling.TheVariants.{WrongOctet, TooLong, NoCode, WrongArgument, WrongLine, WrongBlock}, Due.{Due}}
 use Rattle.nntp_wire.specs.declared.misspelling.{Due.TheVariants.{Number, GroupName, MessageId}, LineFault.{LineFault, TheVariants.{BadOctet, SingleDot}}}
-use Rattle.nntp_wire.specs.declared.misspelling.LineFault.TheVariants.{NoNumber, NoGroup, NoVersions}
+use Rattle.nntp_wire.specs.declared.misspelling.LineFault.TheVariants.{NoNumber, NoGroup, NoArticleNumber, NoMessageId, NoVersions}
 
 -- ---- arguments (section 3.2)
 
@@ -48,10 +48,11 @@ has_no_single_dot [] = true
 has_no_single_dot (b ∷ []) = not (b == dot)
 has_no_single_dot (b ∷ c ∷ bs) = not (b == dot) || c == dot
 
--- what a line lacks that it has to list (sections 5.2, 6.1.2 and 7.6.3)
+-- what a line lacks that it has to list (sections 5.2, 6.1.2, 7.6.3 and 8.3)
 abbrev pub listing_fault : Kind → List ℕ → Option LineFault
 listing_fault Numbers line = unless (is_some (listed_number_of line)) NoNumber
 listing_fault Active line = unless (is_some (active_of line)) NoGroup
+listing_fault Overview line = first (unless (is_some (number_in_front line)) NoArticleNumber ∷ unless (is_some (id_in_place line)) NoMessageId ∷ [])
 listing_fault Capabilities line = unless (gives_versions (words_of line)) NoVersions
 listing_fault kind line = None
 

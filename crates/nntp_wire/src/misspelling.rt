@@ -16,6 +16,7 @@ use crate::laws::{group_names_are_decided, message_ids_are_decided};
 use crate::line::{has_clean_octets, number, words};
 use crate::listed_numbers::listed_number;
 use crate::message_id::MessageId;
+use crate::overview_lines::{has_id_in_place, has_number_in_front};
 use crate::response::Frame;
 use crate::status::{is_block_due, is_fitting};
 use crate::stream::split_first_line;
@@ -77,6 +78,10 @@ pub enum LineFault {
     /// The line isn't a group, two numbers and a word, as LIST ACTIVE lists them (RFC 3977,
     /// section 7.6.3).
     NoGroup,
+    /// The first field of an overview isn't one number (RFC 3977, section 8.3).
+    NoArticleNumber,
+    /// The fifth field of an overview isn't one message-id, or there is none (RFC 3977, section 8.3).
+    NoMessageId,
     /// The line doesn't give versions, as the first capability has to (RFC 3977, section 5.2).
     NoVersions,
 }
@@ -224,6 +229,8 @@ fn listing_fault(kind: Kind, line: &[u8]) -> Option<LineFault>
     match kind {
         Kind::Numbers if listed_number(line).is_none() => Some(LineFault::NoNumber),
         Kind::Active if !is_active_line(line) => Some(LineFault::NoGroup),
+        Kind::Overview if !has_number_in_front(line) => Some(LineFault::NoArticleNumber),
+        Kind::Overview if !has_id_in_place(line) => Some(LineFault::NoMessageId),
         Kind::Capabilities if !gives_versions(words(line)) => Some(LineFault::NoVersions),
         _ => None,
     }

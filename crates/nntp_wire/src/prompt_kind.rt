@@ -1,12 +1,14 @@
 //! The kinds of prompts, by which the reach of a response and the end of the connection are told.
 ghost use Rattle.std.specs.Prelude.{◌≡◌, IsFalse};
 ghost use Rattle.nntp_wire.specs.Answer.{to};
-ghost use Rattle.nntp_wire.specs.Command.{request_of};
+ghost use Rattle.nntp_wire.specs.Command.{request_as};
+ghost use Rattle.nntp_wire.specs.declared.overviews.Overviews.{Overviews as OverviewsValue};
 ghost use Rattle.nntp_wire.specs.Inner.Prompts.{prompt_kind};
 ghost use Rattle.nntp_wire.specs.Inner.View.{asked};
 ghost use Rattle.nntp_wire.specs.declared.prompt_kind.PromptKind.TheVariants.{Other as OtherKind};
 
 use crate::command::{Command, Prompt};
+use crate::overviews::Overviews;
 use crate::word::skip_blanks;
 
 /// The kind of a prompt, which decides together with a code whether a block is due and whether the
@@ -28,11 +30,11 @@ pub enum PromptKind {
 impl PromptKind {
     /// Returns the kind of the prompt that a line of the client is, which is given without its CRLF
     /// (RFC 3977, section 3.1). Most lines are told by their first letter.
-    pub fn of_line(line: &[u8]) -> PromptKind
-        ensures { result ≡ prompt_kind (to (request_of line.now)) }
+    pub fn of_line(overviews: Overviews, line: &[u8]) -> PromptKind
+        ensures { result ≡ prompt_kind (to (request_as overviews line.now)) }
     {
         match may_have_kind(line) {
-            true => Prompt::To(Command::parse(line)).kind(),
+            true => Prompt::To(Command::parse_as(overviews, line)).kind(),
             false => PromptKind::Other,
         }
     }
@@ -40,7 +42,7 @@ impl PromptKind {
 
 /// Tells whether the first word begins as LISTGROUP, MODE or QUIT does.
 fn may_have_kind(line: &[u8]) -> bool
-    ensures { IsFalse result → prompt_kind (to (request_of line.now)) ≡ OtherKind }
+    ensures { IsFalse result → (overviews : OverviewsValue) → prompt_kind (to (request_as overviews line.now)) ≡ OtherKind }
 {
     match skip_blanks(line).first() {
         Some(first) => matches!(first.to_ascii_lowercase(), b'l' | b'm' | b'q'),

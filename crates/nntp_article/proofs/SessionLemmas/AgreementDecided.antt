@@ -11,10 +11,10 @@ use Rattle.nntp_article.specs.Session.Machine.{State, selected_numbers, AreEnds,
 use Rattle.nntp_article.{specs.{Session.Machine.{Run, after}, declared.session.profile.Profile.{Profile}}, proofs.SessionLemmas.FiniteMapsDecided.{Dec}}
 use Rattle.nntp_article.proofs.SessionLemmas.FiniteMapsDecided.{dec_true, dec_le, dec_both, dec_three, dec_by, dec_none, dec_some_text, each_key, dec_some}
 use Rattle.nntp_article.proofs.SessionLemmas.FiniteMapsDecided.{dec_option, dec_lists, dec_unless, dec_to, passes, fails, dec_all}
-use Rattle.nntp_wire.specs.Answer.{Success, Asked, Response, greeting, to, group_is, numbers_are, sends, active_are, plain}
+use Rattle.nntp_wire.specs.Answer.{Success, Asked, Response, greeting, to, group_is, numbers_are, sends, active_are, plain, overviews_are}
 use Rattle.nntp_wire.specs.declared.{water_marks.WaterMarks.{WaterMarks}, marks.Marks.{Marks, TheVariants.{Lenient, Strict}}, range.Range.{Range}}
 use Rattle.nntp_wire.specs.{Listing.{ActiveValue, active_groups}, Wildmat.{MatchesName}, Decided.{matches_name}, Command.{Target, Request, by_id, by_number}}
-use Rattle.nntp_wire.specs.Command.{current, capabilities, mode_reader, quit, opaque, group, list_group, next, last, retrieve, list_active}
+use Rattle.nntp_wire.specs.Command.{current, capabilities, mode_reader, quit, opaque, group, list_group, next, last, retrieve, list_active, over}
 use Rattle.nntp_wire.proofs.{DecidedLemmas.{matches_name-iff}, OptionLemmas.{none_of}}
 
 each_number : (N : Numbers) (p : ℕ → Bool) → Dec ((n : ℕ) → IsNumber N n → IsTrue (p n))
@@ -149,6 +149,7 @@ dec_code S s last code = dec_cond (code == 412) (inl tt) (dec_cond (code == 420)
 dec_code S s (retrieve what (by_id word)) code = dec_none (get S.articles word)
 dec_code S s (retrieve what (by_number n)) code = dec_cond (code == 412) (inl tt) (dec_if_some n (λ n. dec_none (get (selected_numbers S s.visible) n)))
 dec_code S s (retrieve what current) code = dec_cond (code == 412) (inl tt) (dec_none s.current)
+dec_code S s (over keyword which) code = inl tt
 dec_code S s opaque code = inl tt
 dec_code S s command code = grind arith
 
@@ -166,6 +167,8 @@ dec_agrees marks S s p (group_is m name) = inr (λ h. h)
 dec_agrees marks S s p (numbers_are m name lines) = inr (λ h. h)
 dec_agrees marks S s p (sends sent) = inr (λ h. h)
 dec_agrees marks S s p (active_are lines) = inr (λ h. h)
+dec_agrees marks S s (to (over keyword which)) (overviews_are lines) = inl tt
+dec_agrees marks S s p (overviews_are lines) = inr (λ h. h)
 
 -- whether an answer is permitted
 pub dec_may_answer : (profile : Profile) (S : Spool) (s : State) (p : Asked) (a : Response) → Dec (MayAnswer profile S s p a)

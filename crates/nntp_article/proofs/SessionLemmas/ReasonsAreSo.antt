@@ -3,10 +3,10 @@ use Rattle.std.proofs.Common.{◌≡◌, ℕ, ◌≤◌, Bool, true, false, not,
 use Rattle.std.proofs.{Common.{inl, inr, refl, sym, ap, subst, arith, ◌∙◌}, lemmas.Bool.{or_cases, leb-false, ltb-false, and_right, and_from, or_left}}
 use Rattle.std.{proofs.lemmas.{Bool.{or_right}, Option.{IfSome_then}}, specs.Prelude.{◌+◌, ◌-◌, nat_le, nat_lt, unwrap_or, if◌then◌else◌, IfSome}}
 use Rattle.std.specs.{List.{list_any}, Option.{option_map_or, option_or}, FinMap.{get}, Cmp.Lexicographic.{bytes_decides}}
-use Rattle.nntp_wire.specs.Answer.{Success, Asked, Response, greeting, to, group_is, numbers_are, sends, active_are, plain, success_code}
+use Rattle.nntp_wire.specs.Answer.{Success, Asked, Response, greeting, to, group_is, numbers_are, sends, active_are, plain, success_code, overviews_are}
 use Rattle.nntp_wire.specs.{declared.{water_marks.WaterMarks.{WaterMarks}, command.What.{What, TheVariants.{Article, Head, Body, Stat}}}, Listing.{ActiveValue}}
 use Rattle.nntp_wire.specs.{Listing.{listed_numbers, active_groups}, Decided.{matches_name}, Command.{Target, group, list_group, next, last, retrieve}}
-use Rattle.nntp_wire.{specs.{Command.{list_active}, Reason.{unless, first}}, proofs.Reasons.{so_unless, so_first, so_each}}
+use Rattle.nntp_wire.{specs.{Command.{list_active, over}, Reason.{unless, first}}, proofs.Reasons.{so_unless, so_first, so_each}}
 use Rattle.nntp_article.specs.{Article.Parts.{Line, is_head, said_id}, Session.{Spool.{Name}, Machine.{Visible, is_same, is_generic, is_greeting}}}
 use Rattle.nntp_article.specs.Session.{Machine.{is_article_number, are_zeros, is_in_range, code_fits}, Misfit.{Misfit, wrong_code, wrong_name, wrong_number}}
 use Rattle.nntp_article.specs.Session.Misfit.{wrong_id, below_low, wrong_marks, beyond_limit, not_above, beyond_range, unmatched, listed_twice, no_head}
@@ -259,6 +259,8 @@ tells profile v asked (group_is m name) = (refl, refl)
 tells profile v asked (numbers_are m name lines) = (refl, refl)
 tells profile v asked (sends sent) = (refl, refl)
 tells profile v asked (active_are lines) = (refl, refl)
+tells profile v (to (over keyword which)) (overviews_are lines) = tt
+tells profile v asked (overviews_are lines) = (refl, refl)
 
 pub so : (profile : Profile) (v : Visible) (asked : Asked) (response : Response) (why : Misfit) → misfit profile v asked response ≡ Some why → Tells profile v asked response why
 so profile v asked response why e = subst (λ o. IfSome o (Tells profile v asked response)) e (tells profile v asked response)

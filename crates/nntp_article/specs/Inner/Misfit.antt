@@ -1,9 +1,9 @@
 -- What is said with the words of `Misfit.antt`, and needn't be believed.
 use Rattle.std.specs.Prelude.{ℕ, ◌≡◌, ◌<◌, ◌+◌, ◌-◌, ◌++◌, Bool, true, false, not, ◌&&◌, ◌||◌, ◌==◌, nat_le, List, [], ◌∷◌, map, Option, None, Some, option_map}
 use Rattle.std.specs.{List.{list_any}, Option.{option_or}, FinMap.{get}}
-use Rattle.nntp_wire.specs.{Command.{by_id, by_number, next, last, group, list_group, retrieve, list_active}, Answer.{Asked, to, Success, Response, group_is}}
-use Rattle.nntp_wire.specs.{Answer.{numbers_are, sends, active_are, success_code}, declared.{water_marks.WaterMarks.{WaterMarks}, command.What.{What}}}
-use Rattle.nntp_wire.specs.{declared.command.What.TheVariants.{Article, Head, Body, Stat}, Listing.{ActiveValue, listed_numbers, active_groups}}
+use Rattle.nntp_wire.specs.{Command.{by_id, by_number, next, last, group, list_group, retrieve, list_active, over}, Answer.{Asked, to, Success, Response}}
+use Rattle.nntp_wire.specs.{Answer.{group_is, numbers_are, sends, active_are, success_code}, declared.water_marks.WaterMarks.{WaterMarks}}
+use Rattle.nntp_wire.specs.{declared.command.What.{What, TheVariants.{Article, Head, Body, Stat}}, Listing.{ActiveValue, listed_numbers, active_groups}}
 use Rattle.nntp_wire.specs.Decided.{matches_name}
 use Rattle.nntp_article.specs.{Article.Parts.{Line, Id, is_empty, is_head, head_part}, Session.{Spool.{Name}, Machine.{Visible, is_same, are_zeros}}}
 use Rattle.nntp_article.specs.Session.Machine.{is_in_range}
@@ -18,6 +18,7 @@ is_success (to next) code = code == 223
 is_success (to last) code = code == 223
 is_success (to (retrieve what which)) code = code == success_code what
 is_success (to (list_active p)) code = code == 215
+is_success (to (over keyword which)) code = code == 224
 is_success asked code = false
 
 -- ---- what the answer and the prompt hold that a reason speaks of

@@ -3,8 +3,8 @@ use Rattle.std.specs.Prelude.{◌≡◌, ℕ, ◌+◌, ◌-◌, ◌≤◌, ◌�
 use Rattle.std.specs.{Prelude.{[], ◌∷◌, Option, None, Some, is_some, is_none, MatchOption, IfSome, unwrap_or, Contains, All, map, ⊤}, List.{list_any, list_all}}
 use Rattle.std.specs.{Option.{option_map_or, option_or}, Cmp.Lexicographic.{slice_cmp, pointwise}, Ordering.{nat_cmp}, FinMap.{FinMap, get, insert, len, empty}}
 use Rattle.nntp_wire.specs.Command.{Target, by_id, by_number, current, Request, capabilities, mode_reader, next, last, quit, opaque, ill_formed, group}
-use Rattle.nntp_wire.specs.{Command.{list_group, retrieve, list_active}, Answer.{Asked, greeting, to, Success, Response, group_is, numbers_are, sends}}
-use Rattle.nntp_wire.specs.{Answer.{active_are, plain, success_code}, declared.{water_marks.WaterMarks.{WaterMarks}, marks.Marks.{Marks}}}
+use Rattle.nntp_wire.specs.{Command.{list_group, retrieve, list_active, over}, Answer.{Asked, greeting, to, Success, Response, group_is, numbers_are, sends}}
+use Rattle.nntp_wire.specs.{Answer.{active_are, overviews_are, plain, success_code}, declared.{water_marks.WaterMarks.{WaterMarks}, marks.Marks.{Marks}}}
 use Rattle.nntp_wire.specs.declared.{marks.Marks.TheVariants.{Lenient, Strict}, range.Range.{Range}, command.What.{What, TheVariants.{Article, Head, Body}}}
 use Rattle.nntp_wire.specs.{declared.command.What.TheVariants.{Stat}, Listing.{ActiveValue, listed_numbers, active_groups}, Session.{closes}}
 use Rattle.nntp_wire.specs.{Wildmat.{MatchesName}, Decided.{matches_name}}
@@ -45,7 +45,7 @@ is_generic code = is_one_of (400 ∷ 401 ∷ 403 ∷ 480 ∷ 483 ∷ 500 ∷ 501
 abbrev pub is_greeting : ℕ → Bool
 is_greeting code = is_one_of (200 ∷ 201 ∷ 400 ∷ 502 ∷ []) code
 
--- the codes by which a command that isn't understood may be answered
+-- the codes by which a command that isn't understood may be answered, or one for overviews, of which nothing is concluded
 abbrev pub is_opaque : ℕ → Bool
 is_opaque code = code == 381 || nat_lt code 300 || nat_le 400 code
 
@@ -117,6 +117,7 @@ code_fits v (retrieve what (by_id word)) code = code == 430
 code_fits v (retrieve what (by_number n)) code = (code == 412 && is_none v.selected) || (code == 423 && is_some v.selected)
 code_fits v (retrieve what current) code = (code == 412 && is_none v.selected) || (code == 420 && is_some v.selected)
 code_fits v (list_active p) code = false
+code_fits v (over keyword which) code = is_opaque code
 code_fits v opaque code = is_opaque code
 code_fits v ill_formed code = false
 
@@ -133,6 +134,7 @@ fits profile v (to last) (sends sent) = sent.code == 223 && is_some v.selected &
 fits profile v (to (retrieve what which)) (sends sent) =
     sent.code == success_code what && number_fits profile v which sent.number sent.id && head_fits what sent.id sent.block
 fits profile v (to (list_active p)) (active_are lines) = list_all (active_fits profile p) (active_groups lines) && names_differ (active_groups lines)
+fits profile v (to (over keyword which)) (overviews_are lines) = true
 fits profile v asked response = false
 
 -- ---- the condition over the spool
@@ -164,6 +166,7 @@ CodeAgrees S s last code =
 CodeAgrees S s (retrieve what (by_id word)) code = get S.articles word ≡ None
 CodeAgrees S s (retrieve what (by_number n)) code = cond (code == 412) ⊤ (IfSome n (λ n. get (selected_numbers S s.visible) n ≡ None))
 CodeAgrees S s (retrieve what current) code = cond (code == 412) ⊤ (s.current ≡ None)
+CodeAgrees S s (over keyword which) code = ⊤
 CodeAgrees S s opaque code = ⊤
 CodeAgrees S s command code = ⊥
 
@@ -191,6 +194,7 @@ Agrees marks S s (to last) (sends sent) =
     MatchOption s.current ⊥ (λ c. IsNextBelow (selected_numbers S s.visible) c sent.number) × (get (selected_numbers S s.visible) sent.number ≡ Some sent.id)
 Agrees marks S s (to (retrieve what which)) (sends sent) = HasText S what sent.id sent.block × NumberAgrees S s which sent
 Agrees marks S s (to (list_active p)) (active_are lines) = ActivesAgree S p (active_groups lines)
+Agrees marks S s (to (over keyword which)) (overviews_are lines) = ⊤
 Agrees marks S s asked response = ⊥
 
 -- ---- the new state

@@ -2,9 +2,9 @@
 use Rattle.std.specs.Prelude.{ℕ, ◌+◌, ◌-◌, Bool, true, false, ◌&&◌, ◌||◌, ◌==◌, nat_lt, nat_le, if◌then◌else◌, List, [], ◌∷◌, map, Option, None, Some, is_some}
 use Rattle.std.specs.{Prelude.{unwrap_or}, List.{list_any}, Option.{option_map_or, option_or}, FinMap.{get}}
 use Rattle.nntp_wire.specs.Command.{Target, by_id, by_number, current, Request, capabilities, mode_reader, next, last, quit, opaque, ill_formed, group}
-use Rattle.nntp_wire.specs.{Command.{list_group, retrieve, list_active}, Answer.{Asked, greeting, to, Success, Response, group_is, numbers_are, sends}}
-use Rattle.nntp_wire.specs.{Answer.{active_are, plain, success_code}, declared.{water_marks.WaterMarks.{WaterMarks}, range.Range.{Range}, command.What.{What}}}
-use Rattle.nntp_wire.specs.{declared.command.What.TheVariants.{Article, Head, Body, Stat}, Listing.{ActiveValue, listed_numbers, active_groups}}
+use Rattle.nntp_wire.specs.{Command.{list_group, retrieve, list_active, over}, Answer.{Asked, greeting, to, Success, Response, group_is, numbers_are, sends}}
+use Rattle.nntp_wire.specs.{Answer.{active_are, overviews_are, plain, success_code}, declared.{water_marks.WaterMarks.{WaterMarks}, range.Range.{Range}}}
+use Rattle.nntp_wire.specs.{declared.command.What.{What, TheVariants.{Article, Head, Body, Stat}}, Listing.{ActiveValue, listed_numbers, active_groups}}
 use Rattle.nntp_wire.specs.{Decided.{matches_name}, Reason.{unless, first}}
 use Rattle.nntp_article.specs.{Article.Parts.{Line, Id, is_empty, is_head, said_id, head_part}, Session.{Spool.{Name}, Machine.{Visible, is_same, is_generic}}}
 use Rattle.nntp_article.specs.{Session.Machine.{is_greeting, is_article_number, are_zeros, is_in_range, code_fits}, declared.session.profile.Profile.{Profile}}
@@ -39,7 +39,7 @@ retrieve_codes is_selected what (by_number None) = codes_if_selected is_selected
 retrieve_codes is_selected what (by_number (Some n)) = codes_if_selected is_selected (success_code what ∷ 423 ∷ [])
 retrieve_codes is_selected what current = codes_if_selected is_selected (success_code what ∷ 420 ∷ [])
 
--- the codes that fit a command, successes and others: of a command that isn't understood only that of 300 to 399, where all others fit
+-- the codes that fit a command, successes and others: of a command that isn't understood, or for overviews, only that of 300 to 399, where all others fit
 abbrev pub command_codes : Bool → Request → List ℕ
 command_codes is_selected capabilities = 101 ∷ []
 command_codes is_selected mode_reader = 200 ∷ 201 ∷ []
@@ -51,6 +51,7 @@ command_codes is_selected next = codes_if_selected is_selected (223 ∷ 420 ∷ 
 command_codes is_selected last = codes_if_selected is_selected (223 ∷ 420 ∷ 422 ∷ [])
 command_codes is_selected (retrieve what which) = retrieve_codes is_selected what which
 command_codes is_selected (list_active p) = 215 ∷ []
+command_codes is_selected (over keyword which) = 381 ∷ []
 command_codes is_selected opaque = 381 ∷ []
 command_codes is_selected ill_formed = []
 
@@ -65,6 +66,7 @@ answered_code (group_is m name) = 211
 answered_code (numbers_are m name lines) = 211
 answered_code (sends sent) = sent.code
 answered_code (active_are lines) = 215
+answered_code (overviews_are lines) = 224
 answered_code (plain code) = code
 
 -- the code of the answer is at fault
@@ -187,4 +189,5 @@ misfit profile v (to last) (sends sent) = step_sent_misfit profile v (code_misfi
 misfit profile v (to (retrieve what which)) (sends sent) = sent_misfit profile v (code_misfit v (to (retrieve what which)) sent.code) what which sent
 misfit profile v (to (list_active p)) (active_are lines) =
     first (first (map (active_misfit profile p) (active_groups lines)) ∷ twice_misfit [] (active_groups lines) ∷ [])
+misfit profile v (to (over keyword which)) (overviews_are lines) = None
 misfit profile v asked response = Some (code_misfit v asked (answered_code response))

@@ -1,7 +1,7 @@
 -- What the values of src/standing.rt and src/explainer.rt mean.
 use Rattle.std.specs.Prelude.{◌≡◌, ℕ, zero, suc, ◌+◌, ◌≤◌, ◌<◌, ◌^◌, ◌⊎◌, Bool, List, [], ◌∷◌, ◌++◌, length, map, drop, Option, None, Contains}
 use Rattle.std.specs.{List.{AllByRecursion, flat_map}, Option.{option_copied, option_map, option_map_or}}
-use Rattle.nntp_wire.specs.{Answer.{Asked}, Misspelling.{misspelling}}
+use Rattle.nntp_wire.specs.{Answer.{Asked}, Misspelling.{misspelling}, Session.{ClientStream}}
 use Rattle.nntp_article.specs.{Session.Misfit.{misfit}, declared.session.profile.Profile.{Profile}}
 use Rattle.nntp_pair.specs.{Pairing.{Paired, Unpaired, asked_at, streams}, declared.class.Class.{Class}, Inner.Pairing.{lines_in}}
 use Rattle.nntp_theory.specs.{Conflict.{Placed, placed_of, SomeHas, told, told_with, below}, Inner.Conflict.{FitsThere}, Permitted.{ArePermittedBehind}}
@@ -55,7 +55,7 @@ begins title k = record {
 
 -- an answer in the selected group, at a position
 abbrev pub placed_at : Option Standing → Position → Paired → Placed
-placed_at stands position pair = record { selected = option_map (λ s. s.name) stands; position = position; asked = asked_at pair.line; response = pair.response }
+placed_at stands position pair = record { selected = option_map (λ s. s.name) stands; position = position; asked = asked_at pair.place; response = pair.response }
 
 -- the same with one more accepted answer, before which the session stood at this position
 abbrev pub keeps : Position → Paired → Kept → Kept
@@ -77,7 +77,7 @@ title_of k = option_map_or (title_line k.session) k.title []
 abbrev pub unfitting_told : Kept → Paired → List ℕ
 unfitting_told k pair =
     option_map_or (unfitting_lines k.session (drop k.others k.placed) (drop k.others k.cited) pair.response)
-    (misfit (profile_kept k.facts) k.facts.visible (asked_at pair.line) pair.response) []
+    (misfit (profile_kept k.facts) k.facts.visible (asked_at pair.place) pair.response) []
 
 -- ---- sessions that were read whole
 
@@ -111,7 +111,7 @@ abbrev pub title_told : ℕ → Option (List ℕ) → ℕ → List ℕ
 title_told number title bad = option_map_or (λ name. titled number name bad) title []
 
 -- answers of both streams were judged, this is kept of them, and this is told; and then this is left
-pub record AreTold (profile : Profile) (b : Before) (client server : List ℕ) (kept : Kept) (text : List ℕ) (left : Unpaired) : Type 0 where
+pub record AreTold (profile : Profile) (b : Before) (client : ClientStream) (server : List ℕ) (kept : Kept) (text : List ℕ) (left : Unpaired) : Type 0 where
   pub answers : List Judged
   pub judged : AreJudged (ArePermittedBehind profile b.earlier) [] (streams client server) answers left
   pub noted : HasNotedBehind profile kept.facts b.earlier (accepted_of answers)
@@ -132,7 +132,7 @@ pub record AreTold (profile : Profile) (b : Before) (client server : List ℕ) (
   pub text_is : text ≡ b.text ++ title_told (number_behind b.earlier) b.title (count_bad answers) ++ told
 
 -- both streams were read to their end, this is kept, and this is told; and so many lines have no answer
-pub record IsRead (profile : Profile) (b : Before) (client server : List ℕ) (kept : Kept) (text : List ℕ) (unanswered : ℕ) : Type 0 where
+pub record IsRead (profile : Profile) (b : Before) (client : ClientStream) (server : List ℕ) (kept : Kept) (text : List ℕ) (unanswered : ℕ) : Type 0 where
   pub read : ReadSession
   pub reading : IsReadingBy (ArePermittedBehind profile b.earlier) client server read.answers read.ending
   pub noted : HasNotedBehind profile kept.facts b.earlier (accepted_of read.answers)
@@ -188,7 +188,7 @@ abbrev pub HasReadNone : {A : Type 0} → Explainer A → Type 0
 HasReadNone e = AreKept (profile_kept e.facts) [] (kept_of e) × (e.bad ≡ 0) × (e.text.items ≡ [])
 
 -- what the explainer keeps and tells is that of answers of both streams
-abbrev pub HasTold : {A : Type 0} → Profile → Before → List ℕ → List ℕ → Explainer A → Unpaired → Type 0
+abbrev pub HasTold : {A : Type 0} → Profile → Before → ClientStream → List ℕ → Explainer A → Unpaired → Type 0
 HasTold profile b client server e left = AreTold profile b client server (kept_of e) e.text.items left
 
 -- this is kept before any answer of a session

@@ -23,8 +23,8 @@ pub record Moves (facts new : FactsKept) (pair : Paired) : Type 0 where
   pub marks : new.marks ≡ facts.marks
   pub has_failed : new.has_failed ≡ facts.has_failed
   pub count : new.count ≡ facts.count + 1
-  pub visible : new.visible ≡ visible_after facts.visible (asked_at pair.line) pair.response
-  pub position : new.position ≡ position_after facts.position (asked_at pair.line) pair.response
+  pub visible : new.visible ≡ visible_after facts.visible (asked_at pair.place) pair.response
+  pub position : new.position ≡ position_after facts.position (asked_at pair.place) pair.response
 
 -- ---- an exchange that may be noted
 
@@ -74,19 +74,19 @@ module _ (profile : Profile) (facts : FactsKept) (earlier : List (List Paired)) 
     )
       where
         After : Type 0
-        After = SomePermitsEach profile (map exchanged earlier ++ of_these (asked_of past ++ asked_at pair.line ∷ []) (responses_of past ++ pair.response ∷ []) ∷ [])
+        After = SomePermitsEach profile (map exchanged earlier ++ of_these (asked_of past ++ asked_at pair.place ∷ []) (responses_of past ++ pair.response ∷ []) ∷ [])
 
-        small : size (facts_of_all profile.marks (map exchanged earlier ++ of_these (asked_of past ++ asked_at pair.line ∷ []) (responses_of past ++ pair.response ∷ []) ∷ [])) < 2 ^ 210
+        small : size (facts_of_all profile.marks (map exchanged earlier ++ of_these (asked_of past ++ asked_at pair.place ∷ []) (responses_of past ++ pair.response ∷ []) ∷ [])) < 2 ^ 210
         small = subst (λ q. size (facts_of_all profile.marks (map exchanged earlier ++ q ∷ [])) < 2 ^ 210) (with_pair past pair) (small_behind profile.marks earlier (past ++ pair
             ∷ []) s.sessions s.earlier_few few)
 
-        follows : After ↔ MayFollow profile (visible_from start.visible (asked_of past) (responses_of past)) (position_from Nowhere (asked_of past) (responses_of past)) all (asked_at pair.line)
+        follows : After ↔ MayFollow profile (visible_from start.visible (asked_of past) (responses_of past)) (position_from Nowhere (asked_of past) (responses_of past)) all (asked_at pair.place)
             pair.response
-        follows = permitted_next profile (map exchanged earlier) (asked_of past) (responses_of past) (asked_at pair.line) pair.response (as_many past) small s.permitted
+        follows = permitted_next profile (map exchanged earlier) (asked_of past) (responses_of past) (asked_at pair.place) pair.response (as_many past) small s.permitted
 
-        next : After ↔ MayFollow profile facts.visible facts.position all (asked_at pair.line) pair.response
-        next = subst (λ at. After ↔ MayFollow profile facts.visible at all (asked_at pair.line) pair.response) (sym s.position)
-            (subst (λ v. After ↔ MayFollow profile v (position_from Nowhere (asked_of past) (responses_of past)) all (asked_at pair.line) pair.response) (sym s.visible) follows)
+        next : After ↔ MayFollow profile facts.visible facts.position all (asked_at pair.place) pair.response
+        next = subst (λ at. After ↔ MayFollow profile facts.visible at all (asked_at pair.place) pair.response) (sym s.position)
+            (subst (λ v. After ↔ MayFollow profile v (position_from Nowhere (asked_of past) (responses_of past)) all (asked_at pair.place) pair.response) (sym s.visible) follows)
 
     -- where it doesn't join, it is a contradiction
     pub noted_contradiction : (Join all new → ⊥) → IsNotedBehind profile earlier past pair facts facts Contradiction
@@ -100,12 +100,12 @@ module _ (profile : Profile) (facts : FactsKept) (earlier : List (List Paired)) 
         profile_is = ap₂ profile_of moves.limit moves.marks ∙ s.profile_is;
         is_whole = moves.has_failed ∙ s.is_whole;
         count = omega (arith, moves.count, s.count, length-append past (pair ∷ []));
-        visible = moves.visible ∙ ap (λ v. visible_after v (asked_at pair.line) pair.response) s.visible
+        visible = moves.visible ∙ ap (λ v. visible_after v (asked_at pair.place) pair.response) s.visible
             ∙ sym (ap (λ q. visible_from start.visible q.0 q.1) (ends past pair)
-            ∙ visible_next (asked_of past) (responses_of past) (asked_at pair.line) pair.response (as_many past));
-        position = moves.position ∙ ap (λ at. position_after at (asked_at pair.line) pair.response) s.position
+            ∙ visible_next (asked_of past) (responses_of past) (asked_at pair.place) pair.response (as_many past));
+        position = moves.position ∙ ap (λ at. position_after at (asked_at pair.place) pair.response) s.position
             ∙ sym (ap (λ q. position_from Nowhere q.0 q.1) (ends past pair) ∙ position_next (asked_of past) (responses_of past)
-            (asked_at pair.line) pair.response (as_many past));
+            (asked_at pair.place) pair.response (as_many past));
         kept = subst (λ facts. IsKept facts next.kept) whole now;
         permitted = permitted_if.1 joins;
         sessions = s.sessions;
@@ -115,13 +115,13 @@ module _ (profile : Profile) (facts : FactsKept) (earlier : List (List Paired)) 
       },
     )
       where
-        new_facts : new ≡ facts_of profile.marks (visible_from start.visible (asked_of past) (responses_of past)) (position_from Nowhere (asked_of past) (responses_of past)) (asked_at pair.line)
+        new_facts : new ≡ facts_of profile.marks (visible_from start.visible (asked_of past) (responses_of past)) (position_from Nowhere (asked_of past) (responses_of past)) (asked_at pair.place)
             pair.response
-        new_facts = ap₂ (λ v at. facts_of profile.marks v at (asked_at pair.line) pair.response) s.visible s.position
+        new_facts = ap₂ (λ v at. facts_of profile.marks v at (asked_at pair.place) pair.response) s.visible s.position
 
         own : said_by profile.marks past ++ new ≡ said_by profile.marks (past ++ pair ∷ [])
         own = ap (λ more. said_by profile.marks past ++ more) new_facts
-            ∙ sym (ap (λ q. facts_of_session profile.marks q.0 q.1) (ends past pair) ∙ facts_next profile.marks (asked_of past) (responses_of past) (asked_at pair.line) pair.response (as_many past))
+            ∙ sym (ap (λ q. facts_of_session profile.marks q.0 q.1) (ends past pair) ∙ facts_next profile.marks (asked_of past) (responses_of past) (asked_at pair.place) pair.response (as_many past))
 
         whole : all ++ new ≡ said_behind profile.marks earlier (past ++ pair ∷ [])
         whole = append_assoc (facts_of_all profile.marks (map exchanged earlier)) (said_by profile.marks past) new ∙ ap (λ own. facts_of_all profile.marks (map exchanged earlier) ++ own) own
@@ -131,31 +131,31 @@ module _ (profile : Profile) (facts : FactsKept) (earlier : List (List Paired)) 
 -- an exchange that may be noted, and what its answer says
 pub record Weighed (profile : Profile) (facts : FactsKept) (pair : Paired) (saying : Saying) : Type 0 where
   pub may : MayBeNoted profile facts pair
-  pub spelled : IsSpelled pair.line pair.initial pair.response
+  pub spelled : IsSpelled pair.place pair.initial pair.response
   pub tells : (all : List Fact) → IsSelectedShown facts.visible all → Tells all saying (said_then profile facts pair)
 
 -- whether it fits is what was tested
 tested_it : (profile used : Profile) (facts : FactsKept) (pair : Paired) (asked : Asked) (response : Response) (does : Bool) → profile_of facts.limit facts.marks ≡ profile
-    → asked ≡ asked_at pair.line → response ≡ pair.response → used ≡ profile_of facts.limit facts.marks → does ≡ fits used facts.visible asked response
-    → fits profile facts.visible (asked_at pair.line) pair.response ≡ does
+    → asked ≡ asked_at pair.place → response ≡ pair.response → used ≡ profile_of facts.limit facts.marks → does ≡ fits used facts.visible asked response
+    → fits profile facts.visible (asked_at pair.place) pair.response ≡ does
 tested_it profile used facts pair asked response does is to by judged tested =
     sym (tested ∙ ap (λ profile. fits profile facts.visible asked response) (judged ∙ is) ∙ ap₂ (λ asked response. fits profile facts.visible asked response) to by)
 
 -- it doesn't fit
 pub unfit : (profile used : Profile) (facts old : FactsKept) (earlier : List (List Paired)) (past : List Paired) (pair : Paired) (asked : Asked) (response : Response) (does : Bool)
     → facts ≡ old → HasNotedBehind profile facts earlier past
-    → asked ≡ asked_at pair.line → response ≡ pair.response → used ≡ profile_of facts.limit facts.marks → does ≡ fits used facts.visible asked response → does ≡ false
+    → asked ≡ asked_at pair.place → response ≡ pair.response → used ≡ profile_of facts.limit facts.marks → does ≡ fits used facts.visible asked response → does ≡ false
     → IsNotedBehind profile earlier past pair old old OutOfPlace
 unfit profile used facts old earlier past pair asked response does is s to by judged tested fails = (
-  subst (λ (f : FactsKept). IsFalse (fits profile f.visible (asked_at pair.line) pair.response)) is (tested_it profile used facts pair asked response does s.profile_is to by judged tested ∙ fails),
+  subst (λ (f : FactsKept). IsFalse (fits profile f.visible (asked_at pair.place) pair.response)) is (tested_it profile used facts pair asked response does s.profile_is to by judged tested ∙ fails),
   refl,
 )
 
 -- so it is, by what is said of the calls
 pub weighed : (profile used : Profile) (facts old : FactsKept) (pair : Paired) (asked : Asked)
     (response : Response) (saying : Saying) (name : Name) (numbers : List ℕ) (does : Bool)
-    → facts ≡ old → profile_of facts.limit facts.marks ≡ profile → IsDue old pair → pair.index < 2 ^ 63 → lines_in pair.response < 2 ^ 64 → IsSpelled pair.line pair.initial pair.response
-    → asked ≡ asked_at pair.line → response ≡ pair.response → used ≡ profile_of facts.limit facts.marks → does ≡ fits used facts.visible asked response → does ≡ true
+    → facts ≡ old → profile_of facts.limit facts.marks ≡ profile → IsDue old pair → pair.index < 2 ^ 63 → lines_in pair.response < 2 ^ 64 → IsSpelled pair.place pair.initial pair.response
+    → asked ≡ asked_at pair.place → response ≡ pair.response → used ≡ profile_of facts.limit facts.marks → does ≡ fits used facts.visible asked response → does ≡ true
     → name ≡ here facts.visible → numbers ≡ numbers_of response
     → ((profile : Profile) (v : Visible) (all : List Fact) → IsTrue (fits profile v asked response) → IsSelectedShown v all → name ≡ here v → numbers ≡ numbers_of response
     → TellsHere name all saying (facts_of facts.marks v facts.position asked response))
@@ -182,7 +182,7 @@ added_here : (profile : Profile) (facts : FactsKept) (kept : Kept) (earlier : Li
     (does : Bool) → Weighed profile facts pair saying → HasNotedBehind profile facts earlier past
     → Adds facts.kept kept saying does → AreAdded (said_behind profile.marks earlier past) (said_then profile facts pair) facts.kept kept does
 added_here profile facts kept earlier past pair saying does w s adds =
-    let formed = spelled_formed profile.marks facts.visible facts.position (asked_at pair.line) pair.response _ w.spelled.spells w.spelled.octets in
+    let formed = spelled_formed profile.marks facts.visible facts.position (asked_at pair.place) pair.response _ w.spelled.spells w.spelled.octets in
     adds (said_behind profile.marks earlier past) (said_then profile facts pair) s.kept (stand_together profile facts earlier past s) formed
     (w.tells (said_behind profile.marks earlier past) (shows_selected profile facts earlier past s))
 
@@ -197,7 +197,7 @@ pub refused : (profile : Profile) (facts old : FactsKept) (kept : Kept) (earlier
 refused profile facts old kept earlier past pair saying is w s adds =
     let added = added_here profile facts kept earlier past pair saying false w s adds in
     let noted = noted_contradiction profile facts earlier past s pair w.may added.0 in (
-      subst (λ (f : FactsKept). IsTrue (fits profile f.visible (asked_at pair.line) pair.response)) is noted.0,
+      subst (λ (f : FactsKept). IsTrue (fits profile f.visible (asked_at pair.place) pair.response)) is noted.0,
       noted.1,
       ap (with_kept facts) added.1 ∙ is,
     )

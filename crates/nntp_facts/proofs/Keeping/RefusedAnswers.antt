@@ -60,7 +60,7 @@ module _ (profile : Profile) (facts : FactsKept) (earlier : List (List Paired)) 
       facts_behind profile.marks before (exchanged (past ++ pair ∷ []))
       ∙ ap (λ own. all ++ own)
       (ap (λ (q : List Asked × List Response). facts_of_session profile.marks q.0 q.1) (ends past pair)
-      ∙ facts_next profile.marks (asked_of past) (responses_of past) (asked_at pair.line) pair.response (as_many past)
+      ∙ facts_next profile.marks (asked_of past) (responses_of past) (asked_at pair.place) pair.response (as_many past)
       ∙ ap (λ new. said_by profile.marks past ++ new) (there_said profile.marks bad here refl))
       ∙ sym (append_assoc all (said_by profile.marks past) (said_there profile.marks bad))
 
@@ -70,7 +70,7 @@ module _ (profile : Profile) (facts : FactsKept) (earlier : List (List Paired)) 
     fit_with =
         let ps = asked_of past in
         let own = responses_of past in
-        let asked = asked_at pair.line in
+        let asked = asked_at pair.place in
         let seen = visible_longer start.visible ps (asked ∷ []) own (as_few past) in
         let run = (all_back (Runs profile s.permitted.0) before (exchanged past ∷ []) s.permitted.2).0 in
         let fit = (said profile s.permitted.0 (ps ++ asked ∷ []) own (run_longer profile s.permitted.0 start ps (asked ∷ []) own run)).0 in

@@ -1,5 +1,5 @@
 -- What was said before is said again: all stands together as before, and what is kept is right still.
-use Rattle.std.proofs.Common.{◌≡◌, ℕ, ◌+◌, ◌-◌, ◌^◌, ◌<◌, Bool, true, false, not, ◌&&◌, ◌||◌, ◌==◌, cond, IsTrue, List, ◌++◌, Option, None, Some, is_some}
+use Rattle.std.proofs.Common.{◌≡◌, ℕ, ◌-◌, ◌^◌, ◌<◌, Bool, true, false, not, ◌&&◌, ◌||◌, ◌==◌, cond, IsTrue, List, ◌++◌, Option, None, Some, is_some}
 use Rattle.std.proofs.{Common.{MatchOption, inl, inr, refl, sym, ap, subst, ◌∙◌, arith}, Math.Bool.{or-false}, lemmas.Bool.{true≢false, and_parts, or_cases}}
 use Rattle.std.{proofs.lemmas.Bool.{or_from, eqb-true, eq-eqb, cases_lt, ltb-true, leb-true, false_from_ne_true}, specs.Prelude.{nat_lt, nat_le, IfSome}}
 use Rattle.std.specs.{List.{list_any}, Cmp.Lexicographic.{nat_list_cmp_total}, FinMap.{len, get, insert, slice_cmp-IsAntisymmetric, nat_cmp-IsAntisymmetric}}

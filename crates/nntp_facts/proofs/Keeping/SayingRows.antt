@@ -3,8 +3,8 @@ use Rattle.std.proofs.Common.{◌≡◌, ℕ, ◌<◌, ◌^◌, get_or, true, Is
 use Rattle.std.{proofs.lemmas.Bool.{true≢false}, specs.Prelude.{IfSome, unwrap_or}}
 use Rattle.nntp_article.specs.{Article.Parts.{Id}, Session.{Spool.{Name}, Machine.{Visible, fits}}, declared.session.profile.Profile.{Profile}}
 use Rattle.nntp_article.specs.Inner.Misfit.{groups_of, numbers_of}
-use Rattle.nntp_wire.specs.{Answer.{Asked, Response}, Command.{group, last}, Listing.{ActiveValue, active_groups, listed_numbers}, declared.marks.Marks.{Marks}}
-use Rattle.nntp_wire.specs.declared.{range.Range.{Range}, water_marks.WaterMarks.{WaterMarks}}
+use Rattle.nntp_wire.specs.{Answer.{Asked, Response}, Listing.{ActiveValue, active_groups, listed_numbers}, declared.{marks.Marks.{Marks}, range.Range.{Range}}}
+use Rattle.nntp_wire.specs.declared.water_marks.WaterMarks.{WaterMarks}
 use Rattle.nntp_said.specs.{declared.position.Position.{Position}, Asks.{Ask, Estimates, ListsIn, Has, Lacks, StandsAt, StandsNowhere, StepsUp, StepsDown}}
 use Rattle.nntp_said.specs.{Asks.{IsTop, IsBottom}, Facts.{Fact, ThereIs, Asks, IdAt, here, facts_of, group_of}}
 use Rattle.nntp_theory.specs.Given.{is_shown_group}

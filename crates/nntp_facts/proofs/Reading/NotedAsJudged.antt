@@ -11,11 +11,11 @@ use Rattle.nntp_facts.specs.Inner.Noted.{FactsKept, HasNotedBehind, IsNotedBehin
 
 -- a pair that some spool permits behind others fits
 permitted_fits : (profile : Profile) (earlier : List (List Paired)) (past : List Paired) (pair : Paired) → ArePermittedBehind profile earlier (past ++ pair ∷ [])
-    → fits profile (visible_behind past) (asked_at pair.line) pair.response ≡ true
+    → fits profile (visible_behind past) (asked_at pair.place) pair.response ≡ true
 permitted_fits profile earlier past pair permitted =
     let ps = asked_of past in
     let answers = responses_of past in
-    let asked = asked_at pair.line in
+    let asked = asked_at pair.place in
     let more = subst (λ q. SomePermitsEach profile (map exchanged earlier ++ q ∷ [])) (with_pair past pair) permitted in
     let run = (all_back (Runs profile more.0) (map exchanged earlier) (of_these (ps ++ asked ∷ []) (answers ++ pair.response ∷ []) ∷ []) more.2).0 in
     ap (λ v. fits profile v asked pair.response) (sym (visible_longer start.visible ps (asked ∷ []) answers (as_few past)))
@@ -27,8 +27,8 @@ consistent_accepted profile earlier past pair old new before after noted next = 
 
 -- whether it fits is told by what those before leave visible
 fits_behind : (profile : Profile) (earlier : List (List Paired)) (past : List Paired) (pair : Paired) (old : FactsKept) → HasNotedBehind profile old earlier past
-    → fits profile (visible_behind past) (asked_at pair.line) pair.response ≡ fits profile old.visible (asked_at pair.line) pair.response
-fits_behind profile earlier past pair old noted = ap (λ v. fits profile v (asked_at pair.line) pair.response) (sym noted.visible)
+    → fits profile (visible_behind past) (asked_at pair.place) pair.response ≡ fits profile old.visible (asked_at pair.place) pair.response
+fits_behind profile earlier past pair old noted = ap (λ v. fits profile v (asked_at pair.place) pair.response) (sym noted.visible)
 
 pub unfit_refused : (profile : Profile) (earlier : List (List Paired)) (past : List Paired) (pair : Paired) (old new : FactsKept) (before after : Unpaired) → HasNotedBehind profile old earlier past
     → IsNotedBehind profile earlier past pair old new NotedOutOfPlace → IsNext before pair after

@@ -44,19 +44,19 @@ pub placed_next : (past : List Paired) (pair : Paired) → placed_of (past ++ pa
 placed_next past pair =
     let ps = asked_of past in
     let answers = responses_of past in
-    let asked = asked_at pair.line in
+    let asked = asked_at pair.place in
     let few = as_few past in
     ap (λ (q : List Asked × List Response). placed_from start.visible Nowhere q.0 q.1) (ends past pair)
     ∙ placed_grow start.visible Nowhere (ps ++ asked ∷ []) answers asked pair.response (next_behind ps [] asked answers (as_many past))
     ∙ joined (placed_longer start.visible Nowhere ps (asked ∷ []) answers few) (visible_longer start.visible ps (asked ∷ []) answers few) (position_longer Nowhere ps (asked ∷ []) answers few)
   where
     joined : {xs ys : List Placed} {v w : Visible} {at bt : Position} → xs ≡ ys → v ≡ w → at ≡ bt
-        → xs ++ record { selected = v.selected; position = at; asked = asked_at pair.line; response = pair.response } ∷ []
-        ≡ ys ++ record { selected = w.selected; position = bt; asked = asked_at pair.line; response = pair.response } ∷ []
+        → xs ++ record { selected = v.selected; position = at; asked = asked_at pair.place; response = pair.response } ∷ []
+        ≡ ys ++ record { selected = w.selected; position = bt; asked = asked_at pair.place; response = pair.response } ∷ []
     joined {xs} {ys} {v} {w} {at} {bt} e f g =
-        ap (λ xs. xs ++ record { selected = v.selected; position = at; asked = asked_at pair.line; response = pair.response } ∷ []) e
-        ∙ ap (λ v. ys ++ record { selected = v.selected; position = at; asked = asked_at pair.line; response = pair.response } ∷ []) f
-        ∙ ap (λ at. ys ++ record { selected = w.selected; position = at; asked = asked_at pair.line; response = pair.response } ∷ []) g
+        ap (λ xs. xs ++ record { selected = v.selected; position = at; asked = asked_at pair.place; response = pair.response } ∷ []) e
+        ∙ ap (λ v. ys ++ record { selected = v.selected; position = at; asked = asked_at pair.place; response = pair.response } ∷ []) f
+        ∙ ap (λ at. ys ++ record { selected = w.selected; position = at; asked = asked_at pair.place; response = pair.response } ∷ []) g
 
 -- accepted answers fit where they stand
 pub accepted_fit : (profile : Profile) (facts : FactsKept) (past : List Paired) → HasNoted profile facts past → AllByRecursion (FitsThere profile) (placed_of past)
@@ -77,7 +77,7 @@ pub noted_conflicts : (profile : Profile) (past : List Paired) (pair : Paired) (
 noted_conflicts profile past pair old new stands due noted =
     let ps = asked_of past in
     let answers = responses_of past in
-    let asked = asked_at pair.line in
+    let asked = asked_at pair.place in
     let qs = ps ++ asked ∷ [] in
     let few = as_few past in
     let comes = next_behind ps [] asked answers (as_many past) in

@@ -64,11 +64,11 @@ pub record MayBeNoted (profile : Profile) (facts : FactsKept) (pair : Paired) : 
   pub due : IsDue facts pair
   pub low : pair.index < 2 ^ 63
   pub few : lines_in pair.response < 2 ^ 64
-  pub fitting : IsTrue (fits profile facts.visible (asked_at pair.line) pair.response)
+  pub fitting : IsTrue (fits profile facts.visible (asked_at pair.place) pair.response)
 
 -- what an exchange says behind the facts
 abbrev pub said_then : Profile → FactsKept → Paired → List Fact
-said_then profile facts pair = facts_of profile.marks facts.visible facts.position (asked_at pair.line) pair.response
+said_then profile facts pair = facts_of profile.marks facts.visible facts.position (asked_at pair.place) pair.response
 
 -- the facts with one exchange more, of which this is kept
 abbrev pub advanced : FactsKept → Paired → Kept → FactsKept
@@ -76,8 +76,8 @@ advanced facts pair kept = record {
   limit = facts.limit;
   marks = facts.marks;
   count = facts.count + 1;
-  visible = visible_after facts.visible (asked_at pair.line) pair.response;
-  position = position_after facts.position (asked_at pair.line) pair.response;
+  visible = visible_after facts.visible (asked_at pair.place) pair.response;
+  position = position_after facts.position (asked_at pair.place) pair.response;
   kept = kept;
   has_failed = facts.has_failed;
 }
@@ -87,9 +87,9 @@ advanced facts pair kept = record {
 -- the facts are as before
 abbrev pub IsNotedBehind : Profile → List (List Paired) → List Paired → Paired → FactsKept → FactsKept → Noted → Type 0
 IsNotedBehind profile earlier past pair old new Consistent = ArePermittedBehind profile earlier (past ++ pair ∷ []) × HasNotedBehind profile new earlier (past ++ pair ∷ [])
-IsNotedBehind profile earlier past pair old new OutOfPlace = IsFalse (fits profile old.visible (asked_at pair.line) pair.response) × (new ≡ old)
+IsNotedBehind profile earlier past pair old new OutOfPlace = IsFalse (fits profile old.visible (asked_at pair.place) pair.response) × (new ≡ old)
 IsNotedBehind profile earlier past pair old new Contradiction =
-    IsTrue (fits profile old.visible (asked_at pair.line) pair.response) × (ArePermittedBehind profile earlier (past ++ pair ∷ []) → ⊥) × (new ≡ old)
+    IsTrue (fits profile old.visible (asked_at pair.place) pair.response) × (ArePermittedBehind profile earlier (past ++ pair ∷ []) → ⊥) × (new ≡ old)
 
 -- in a first session
 abbrev pub IsNoted : Profile → List Paired → Paired → FactsKept → FactsKept → Noted → Type 0

@@ -1,7 +1,7 @@
 -- What an answer says of the spool, in parts (RFC 3977, sections 6 and 7.6.3).
 use Rattle.std.specs.Prelude.{◌≡◌, ℕ, true, IsTrue, List, [], ◌∷◌, ◌++◌, map, Option, None, Some, option_map, unwrap_or, IfSome, MatchOption, ⊤, ◌⊎◌}
 use Rattle.nntp_article.specs.{Article.Parts.{Id, Line}, Session.{Spool.{Name}, Machine.{Visible, head_fits}}}
-use Rattle.nntp_wire.specs.{declared.command.What.{What}, Answer.{Response, numbers_are, sends}, Listing.{ActiveValue, listed_numbers}}
+use Rattle.nntp_wire.specs.{declared.command.What.{What}, Answer.{Response, sends}, Listing.{ActiveValue}}
 use Rattle.nntp_said.specs.{Asks.{Ask, Has}, Facts.{Fact, ThereIs, ThereIsNo, Asks, IdAt, TextIs, NoArticle, GroupsAre, group_of}}
 use Rattle.nntp_theory.specs.Given.{is_shown_group}
 use Rattle.nntp_numbers.specs.Inner.{Part.{Said, Says}, PartOf.{IsSmall, nothing_said, part_with}, Summary.{AreBounded}}

@@ -10,6 +10,7 @@ ghost use Rattle.nntp_theory.specs.Inner.Conflict.{FitsThere};
 ghost use Rattle.nntp_facts.specs.Inner.Noted.{FactsKept, HasNoted, IsNoted, IsDue};
 ghost use Rattle.nntp_theory.specs.Permitted.{ArePermitted};
 ghost use Rattle.nntp_theory.specs.Reading.{Judged, Accepted, Refused, accepted_of, accepted_with, IsJudged, AreJudged, class_behind};
+ghost use Rattle.nntp_wire.specs.Session.{ClientStream};
 
 pub use nntp_theory::laws::reading::{
     accepted_answers_are_permitted, first_bad_answer_is_the_outcome,
@@ -19,13 +20,14 @@ pub use nntp_theory::laws::reading::{
 /// Behind answers that are judged the next one is judged by those that were accepted. The index
 /// counts all answers, and where a pair comes next, none of the accepted ones closed the connection.
 pub fn next_answer_is_judged()
-    ensures answers { (profile : Profile) (client server : List ℕ) (answers : List Judged) (answer : Judged) (left after : Unpaired)
+    ensures answers { (profile : Profile) (client : ClientStream) (server : List ℕ) (answers : List Judged) (answer : Judged) (left after : Unpaired)
         → AreJudged (ArePermitted profile) [] (streams client server) answers left → IsJudged (ArePermitted profile) (accepted_of answers) left answer after
         → AreJudged (ArePermitted profile) [] (streams client server) (answers ++ answer ∷ []) after }
     ensures accepted { (answers : List Judged) (answer : Judged) → accepted_of (answers ++ answer ∷ []) ≡ accepted_with (accepted_of answers) answer }
-    ensures index { (profile : Profile) (client server : List ℕ) (answers : List Judged) (left : Unpaired)
+    ensures index { (profile : Profile) (client : ClientStream) (server : List ℕ) (answers : List Judged) (left : Unpaired)
         → AreJudged (ArePermitted profile) [] (streams client server) answers left → left.index ≡ length answers }
-    ensures due { (profile : Profile) (client server : List ℕ) (answers : List Judged) (left after : Unpaired) (pair : Paired) (facts : FactsKept)
+    ensures due { (profile : Profile) (client : ClientStream) (server : List ℕ) (answers : List Judged) (left after : Unpaired) (pair : Paired)
+        (facts : FactsKept)
         → AreJudged (ArePermitted profile) [] (streams client server) answers left → HasNoted profile facts (accepted_of answers) → IsNext left pair after
         → IsDue facts pair }
 {}

@@ -2,7 +2,7 @@
 use Rattle.std.specs.Prelude.{List, [], ◌∷◌, ⊤}
 use Rattle.nntp_article.specs.Session.{Spool.{Spool}, Machine.{Visible, State, MayAnswer, visible_after, selected_numbers}}
 use Rattle.nntp_article.specs.declared.session.profile.Profile.{Profile}
-use Rattle.nntp_wire.specs.{Answer.{Asked, Response}, Command.{current}}
+use Rattle.nntp_wire.specs.Answer.{Asked, Response}
 use Rattle.nntp_said.specs.{declared.position.Position.{Position}, Asks.{position_after, current_in}}
 
 -- the state over a spool

@@ -24,9 +24,9 @@ SayThese numbers groups facts = AllByRecursion (SaysThese numbers groups) facts
 -- the state that the responses of pairs lead to
 abbrev pub state_after : Spool → State → List Paired → State
 state_after S s [] = s
-state_after S s (x ∷ pairs) = state_after S (after S s (asked_at x.line) x.response) pairs
+state_after S s (x ∷ pairs) = state_after S (after S s (asked_at x.place) x.response) pairs
 
 -- each response is permitted in the state that those before it lead to
 abbrev pub MayAnswerAll : Profile → Spool → State → List Paired → Type 0
 MayAnswerAll profile S s [] = ⊤
-MayAnswerAll profile S s (x ∷ pairs) = MayAnswer profile S s (asked_at x.line) x.response × MayAnswerAll profile S (after S s (asked_at x.line) x.response) pairs
+MayAnswerAll profile S s (x ∷ pairs) = MayAnswer profile S s (asked_at x.place) x.response × MayAnswerAll profile S (after S s (asked_at x.place) x.response) pairs

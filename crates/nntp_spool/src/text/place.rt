@@ -1,6 +1,7 @@
 //! The places of a text that is read, and what stands there.
 ghost use Rattle.std.specs.Prelude.{◌≡◌, ◌<◌, ◌+◌, ◌-◌, ◌^◌, true, length};
 ghost use Rattle.nntp_spool.specs.Fields.{is_decimal};
+ghost use Rattle.nntp_pair.specs.Pairing.{Place};
 
 use crate::value::content::Content;
 use std::alloc::Allocator;

@@ -7,10 +7,11 @@ use Rattle.nntp_theory.specs.{Permitted.{exchanged, ArePermitted}, Outcome.{No, 
 use Rattle.nntp_theory.{specs.Reading.{class_behind, IsReading}, proofs.{Given.SessionsByFacts.{permits_alone}, Session.OneMoreAnswer.{pairs_permitted}}}
 use Rattle.nntp_theory.proofs.Streams.{ExplainedOrBad.{explained_not_bad}, OneOutcome.{outcome_at_octets, outcome_at_response}, PairedStreams.{explained_end}}
 use Rattle.nntp_theory.proofs.Reading.{JudgedAnswers.{accepted_first, all_paired}, JudgedSession.{none_accepted}}
+use Rattle.nntp_wire.specs.Session.{ClientStream}
 
 -- ---- the first bad answer
 
-pub first_bad : (profile : Profile) (client server : List ℕ) (pairs : List Paired) (answer : Judged) (more : List Judged) (ending : Ending) (class : Class)
+pub first_bad : (profile : Profile) (client : ClientStream) (server : List ℕ) (pairs : List Paired) (answer : Judged) (more : List Judged) (ending : Ending) (class : Class)
     → IsReading profile client server (map Accepted pairs ++ answer ∷ more) ending → class_behind profile pairs answer ≡ Some class
     → IsOutcome profile client server (No (length pairs) class)
 first_bad profile client server pairs (Accepted pair) more ending class reading e = cc
@@ -21,16 +22,16 @@ first_bad profile client server pairs (Refused pair) more ending class reading e
     subst (λ class. IsOutcome profile client server (No (length pairs) class)) same
     (outcome_at_response profile client server pairs pair r.between r.rest.0 r.paired first.0 ((permits_alone profile (exchanged pairs)).0 r.stand)
     (λ h. first.1 ((permits_alone profile (exchanged (pairs ++ pair ∷ []))).1 h)))
-first_bad profile client server pairs (Unspelled index line initial block) more ending class reading e =
-    let r = accepted_first (ArePermitted profile) [] (streams client server) reading.left pairs (Unspelled index line initial block ∷ more) (none_accepted profile) reading.judged in
+first_bad profile client server pairs (Unspelled index place initial block) more ending class reading e =
+    let r = accepted_first (ArePermitted profile) [] (streams client server) reading.left pairs (Unspelled index place initial block ∷ more) (none_accepted profile) reading.judged in
     let first = r.rest.1 in
-    let pairing : IsPairing client server pairs (bad PairMalformed) = record { left = r.between; paired = r.paired; ends = passed-ends r.between r.rest.0 line initial block first.1 } in
+    let pairing : IsPairing client server pairs (bad PairMalformed) = record { left = r.between; paired = r.paired; ends = passed-ends r.between r.rest.0 place initial block first.1 } in
     let same : class_of PairMalformed ≡ class = cc in
     subst (λ class. IsOutcome profile client server (No (length pairs) class)) same
     (outcome_at_octets profile client server pairs PairMalformed pairing ((permits_alone profile (exchanged pairs)).0 r.stand))
 
 -- where all are accepted, octets that answer nothing are the first bad answer
-pub bad_at_octets : (profile : Profile) (client server : List ℕ) (pairs : List Paired) (class : PairClass)
+pub bad_at_octets : (profile : Profile) (client : ClientStream) (server : List ℕ) (pairs : List Paired) (class : PairClass)
     → IsReading profile client server (map Accepted pairs) (bad class) → IsOutcome profile client server (No (length pairs) (class_of class))
 bad_at_octets profile client server pairs class reading =
     let all = all_paired (ArePermitted profile) client server pairs (bad class) (none_accepted profile) reading in
@@ -57,10 +58,10 @@ accepted_or_bad (Accepted pair ∷ answers) = elim (accepted_or_bad answers) [
   | inr first ↦ inr (record { pairs = pair ∷ first.pairs; answer = first.answer; more = first.more; whole = ap (λ answers. Accepted pair ∷ answers) first.whole; is_bad = first.is_bad })
 ]
 accepted_or_bad (Refused pair ∷ answers) = inr (record { pairs = []; answer = Refused pair; more = answers; whole = refl; is_bad = λ profile past. (_, refl) })
-accepted_or_bad (Unspelled index line initial block ∷ answers) = inr
+accepted_or_bad (Unspelled index place initial block ∷ answers) = inr
     (record {
       pairs = [];
-      answer = Unspelled index line initial block;
+      answer = Unspelled index place initial block;
       more = answers;
       whole = refl;
       is_bad = λ profile past. (_, refl);
@@ -70,10 +71,10 @@ accepted_or_bad (Unspelled index line initial block ∷ answers) = inr
 abbrev IsGood : List Judged → Ending → Type 0
 IsGood answers ending = (answers ≡ map Accepted (accepted_of answers)) × (unanswered : ℕ) × (ending ≡ end unanswered)
 
-abbrev HasExplanation : Profile → List ℕ → List ℕ → Type 0
+abbrev HasExplanation : Profile → ClientStream → List ℕ → Type 0
 HasExplanation profile client server = (S : Spool) × (n : ℕ) × Explains profile S client server n
 
-pub good_explained : (profile : Profile) (client server : List ℕ) (answers : List Judged) (ending : Ending) → IsReading profile client server answers ending
+pub good_explained : (profile : Profile) (client : ClientStream) (server : List ℕ) (answers : List Judged) (ending : Ending) → IsReading profile client server answers ending
     → IsGood answers ending → HasExplanation profile client server
 good_explained profile client server answers ending reading (all, unanswered, ends) =
     let pairs = accepted_of answers in
@@ -84,10 +85,10 @@ good_explained profile client server answers ending reading (all, unanswered, en
     (p.0, length pairs, explained_end profile p.0 client server pairs unanswered both.0 p.1 p.2)
 
 -- where some spool explains the streams, no outcome is a no
-never_no : (profile : Profile) (client server : List ℕ) (k : ℕ) (class : Class) → HasExplanation profile client server → IsOutcome profile client server (No k class) → ⊥
+never_no : (profile : Profile) (client : ClientStream) (server : List ℕ) (k : ℕ) (class : Class) → HasExplanation profile client server → IsOutcome profile client server (No k class) → ⊥
 never_no profile client server k class (S, n, x) outcome = explained_not_bad profile S client server n k x outcome.0
 
-pub explained_good : (profile : Profile) (client server : List ℕ) (answers : List Judged) (ending : Ending) → IsReading profile client server answers ending
+pub explained_good : (profile : Profile) (client : ClientStream) (server : List ℕ) (answers : List Judged) (ending : Ending) → IsReading profile client server answers ending
     → HasExplanation profile client server → IsGood answers ending
 explained_good profile client server answers ending reading explained = elim (accepted_or_bad answers) [
   | inl (pairs, all) ↦

@@ -1,7 +1,7 @@
 -- Answers that are judged one after the other, whatever decides which exchanges stand: what they take, leave and add to those that were accepted.
 use Rattle.std.proofs.Common.{◌≡◌, ◌+◌, ◌<◌, ◌≤◌, false, ℕ, List, [], ◌∷◌, ◌++◌, length, map, refl, sym, ap, subst, ◌∙◌, arith, append_assoc, append-nil}
 use Rattle.std.proofs.{Common.{length-append, rules}, lemmas.{List.{map-append}, Grind.{common_steps}}}
-use Rattle.nntp_wire.specs.{Answer.{Response}, Frame.{frame_octets}}
+use Rattle.nntp_wire.specs.{Answer.{Response}, Frame.{frame_octets}, Session.{ClientStream}}
 use Rattle.nntp_article.{specs.Session.Machine.{Visible, start}, proofs.SessionLemmas.ClosingAnswers.{after-closes}}
 use Rattle.nntp_pair.specs.{declared.class.PairClass.TheVariants.{Malformed as PairMalformed}, Pairing.{Paired, Unpaired, IsNext, AreNext, Ending, bad}}
 use Rattle.nntp_pair.{specs.Pairing.{IsPairing, asked_at, asked_of, responses_of, streams}, proofs.{PairLemmas.{lines-few}, NextLemmas.{one-next, next-no-end}}}
@@ -20,7 +20,7 @@ pub accepted_behind : (past : List Paired) (answers : List Judged) → all_accep
 accepted_behind past [] = sym (append-nil past)
 accepted_behind past (Accepted pair ∷ answers) = accepted_behind (past ++ pair ∷ []) answers ∙ append_assoc past (pair ∷ []) (accepted_of answers)
 accepted_behind past (Refused pair ∷ answers) = accepted_behind past answers
-accepted_behind past (Unspelled index line initial block ∷ answers) = accepted_behind past answers
+accepted_behind past (Unspelled index place initial block ∷ answers) = accepted_behind past answers
 
 -- with one more answer these are accepted
 pub accepted_push : (past : List Paired) (answers : List Judged) (answer : Judged) → all_accepted past (answers ++ answer ∷ []) ≡ accepted_with (all_accepted past answers) answer
@@ -46,7 +46,7 @@ weight_append (x ∷ xs) ys = let rest = weight_append xs ys in omega (arith, re
 pub weight_next : (past : List Paired) (a b : Unpaired) (pair : Paired) → IsNext a pair b → weight (responses_of (past ++ pair ∷ [])) + length b.server ≤ weight (responses_of past) + length a.server
 weight_next past a b pair next =
     let front = frame_octets pair.initial next.answered.block in
-    let few = lines-few (asked_at pair.line) pair.response front next.answered.spells in
+    let few = lines-few (asked_at pair.place) pair.response front next.answered.spells in
     search (rules, length-append, map-append, weight_append)
 
 module _ (Stand : List Paired → Type 0) where
@@ -62,12 +62,12 @@ module _ (Stand : List Paired → Type 0) where
   one_judged past a b c (Refused x) (Refused y) (n, h) (m, k) = let one = one-next a b c x y n m in (ap Refused one.0, one.1)
   one_judged past a b c (Accepted x) (Refused y) (n, h) (m, none) = absurd (none (subst (λ pair. Stand (past ++ pair ∷ [])) (one-next a b c x y n m).0 h))
   one_judged past a b c (Refused x) (Accepted y) (n, none) (m, h) = absurd (none (subst (λ pair. Stand (past ++ pair ∷ [])) (sym (one-next a b c x y n m).0) h))
-  one_judged past a b c (Accepted x) (Unspelled i line initial block) (n, h) (at, passed) = absurd (next-no-end (bad PairMalformed) a b x n (passed-ends a c line initial block passed))
-  one_judged past a b c (Refused x) (Unspelled i line initial block) (n, h) (at, passed) = absurd (next-no-end (bad PairMalformed) a b x n (passed-ends a c line initial block passed))
-  one_judged past a b c (Unspelled i line initial block) (Accepted y) (at, passed) (m, k) = absurd (next-no-end (bad PairMalformed) a c y m (passed-ends a b line initial block passed))
-  one_judged past a b c (Unspelled i line initial block) (Refused y) (at, passed) (m, k) = absurd (next-no-end (bad PairMalformed) a c y m (passed-ends a b line initial block passed))
-  one_judged past a b c (Unspelled i line initial block) (Unspelled j also other next) (at, passed) (to, second) =
-      let one = one-passed a b c line also initial other block next passed second in
+  one_judged past a b c (Accepted x) (Unspelled i place initial block) (n, h) (at, passed) = absurd (next-no-end (bad PairMalformed) a b x n (passed-ends a c place initial block passed))
+  one_judged past a b c (Refused x) (Unspelled i place initial block) (n, h) (at, passed) = absurd (next-no-end (bad PairMalformed) a b x n (passed-ends a c place initial block passed))
+  one_judged past a b c (Unspelled i place initial block) (Accepted y) (at, passed) (m, k) = absurd (next-no-end (bad PairMalformed) a c y m (passed-ends a b place initial block passed))
+  one_judged past a b c (Unspelled i place initial block) (Refused y) (at, passed) (m, k) = absurd (next-no-end (bad PairMalformed) a c y m (passed-ends a b place initial block passed))
+  one_judged past a b c (Unspelled i place initial block) (Unspelled j also other next) (at, passed) (to, second) =
+      let one = one-passed a b c place also initial other block next passed second in
       search rules
 
   -- ---- several answers
@@ -89,7 +89,7 @@ module _ (Stand : List Paired → Type 0) where
       by : (answer : Judged) → IsJudged Stand past a answer m → m.index ≡ a.index + 1
       by (Accepted pair) (next, h) = next.next_index
       by (Refused pair) (next, h) = next.next_index
-      by (Unspelled index line initial block) (at, passed) = passed.next_index
+      by (Unspelled index place initial block) (at, passed) = passed.next_index
 
   -- those that are accepted stand
   pub accepted_stand : (past : List Paired) (a b : Unpaired) (answers : List Judged) → Stand past → AreJudged Stand past a answers b → Stand (all_accepted past answers)
@@ -99,7 +99,7 @@ module _ (Stand : List Paired → Type 0) where
       by : (answer : Judged) → IsJudged Stand past a answer m → Stand (accepted_with past answer)
       by (Accepted pair) (next, h) = h
       by (Refused pair) (next, h) = stand
-      by (Unspelled index line initial block) (at, passed) = stand
+      by (Unspelled index place initial block) (at, passed) = stand
 
   -- and weigh no more than the octets that they take
   pub accepted_weight : (past : List Paired) (a b : Unpaired) (answers : List Judged)
@@ -113,10 +113,10 @@ module _ (Stand : List Paired → Type 0) where
       by : (answer : Judged) → IsJudged Stand past a answer m → weight (responses_of (accepted_with past answer)) + length m.server ≤ weight (responses_of past) + length a.server
       by (Accepted pair) (next, h) = weight_next past a m pair next
       by (Refused pair) (next, h) = let less = next-shorter a m pair next in omega (arith, less)
-      by (Unspelled index line initial block) (at, passed) = let less = passed-shorter a m line initial block passed in omega (arith, less)
+      by (Unspelled index place initial block) (at, passed) = let less = passed-shorter a m place initial block passed in omega (arith, less)
 
   -- so those of both streams weigh no more than the server's octets
-  pub accepted_light : (client server : List ℕ) (answers : List Judged) (left : Unpaired) → AreJudged Stand [] (streams client server) answers left
+  pub accepted_light : (client : ClientStream) (server : List ℕ) (answers : List Judged) (left : Unpaired) → AreJudged Stand [] (streams client server) answers left
       → weight (responses_of (accepted_of answers)) ≤ length server
   accepted_light client server answers left judged = search (rules, accepted_weight, accepted_behind)
 
@@ -145,7 +145,7 @@ module _ (Stand : List Paired → Type 0) where
       search (rules, append_assoc, accepted_first (past ++ pair ∷ []) m c pairs more h judged)
 
   -- the pairing ends as the reading does
-  pub all_paired : (client server : List ℕ) (pairs : List Paired) (ending : Ending) → Stand [] → IsReadingBy Stand client server (map Accepted pairs) ending
+  pub all_paired : (client : ClientStream) (server : List ℕ) (pairs : List Paired) (ending : Ending) → Stand [] → IsReadingBy Stand client server (map Accepted pairs) ending
       → IsPairing client server pairs ending × Stand pairs
   all_paired client server pairs ending none reading =
       let whole = subst (λ answers. AreJudged Stand [] (streams client server) answers reading.left) (sym (append-nil (map Accepted pairs))) reading.judged in

@@ -6,22 +6,23 @@ use Rattle.nntp_theory.specs.{Given.{facts_of_session}, Inner.Given.{size}, Perm
 use Rattle.nntp_theory.{specs.Reading.{IsJudged, AreJudged}, proofs.Given.{FirstBadAnswer.{none_permitted}, SessionsByFacts.{permits_alone}}}
 use Rattle.nntp_theory.proofs.{Ids.SizeOfASession.{session_size}, Reading.JudgedAnswers.{accepted_behind, judged_push, accepted_push, judged_count}}
 use Rattle.nntp_theory.proofs.Reading.JudgedAnswers.{accepted_stand, accepted_light}
+use Rattle.nntp_wire.specs.Session.{ClientStream}
 
 -- no pairs are permitted
 pub none_accepted : (profile : Profile) → ArePermitted profile []
 none_accepted profile = (permits_alone profile (exchanged [])).1 (none_permitted profile [] [])
 
-pub permitted_in_session : (profile : Profile) (client server : List ℕ) (answers : List Judged) (left : Unpaired)
+pub permitted_in_session : (profile : Profile) (client : ClientStream) (server : List ℕ) (answers : List Judged) (left : Unpaired)
     → AreJudged (ArePermitted profile) [] (streams client server) answers left → ArePermitted profile (accepted_of answers)
 permitted_in_session profile client server answers left judged =
     subst (ArePermitted profile) (accepted_behind [] answers) (accepted_stand (ArePermitted profile) [] (streams client server) left answers (none_accepted profile) judged)
 
-pub size_in_session : (profile : Profile) (client server : List ℕ) (answers : List Judged) (left : Unpaired) → AreJudged (ArePermitted profile) [] (streams client server) answers left
+pub size_in_session : (profile : Profile) (client : ClientStream) (server : List ℕ) (answers : List Judged) (left : Unpaired) → AreJudged (ArePermitted profile) [] (streams client server) answers left
     → size (facts_of_session profile.marks (asked_of (accepted_of answers)) (responses_of (accepted_of answers))) ≤ length server
 size_in_session profile client server answers left judged = grind (arith, session_size, accepted_light)
 
 -- one answer more
-pub one_more_in_session : (profile : Profile) (client server : List ℕ) (answers : List Judged) (answer : Judged) (left after : Unpaired)
+pub one_more_in_session : (profile : Profile) (client : ClientStream) (server : List ℕ) (answers : List Judged) (answer : Judged) (left after : Unpaired)
     → AreJudged (ArePermitted profile) [] (streams client server) answers left → IsJudged (ArePermitted profile) (accepted_of answers) left answer after
     → AreJudged (ArePermitted profile) [] (streams client server) (answers ++ answer ∷ []) after
 one_more_in_session profile client server answers answer left after judged is = search (arith, judged_push, accepted_behind)
@@ -30,6 +31,6 @@ pub accepted_one_more : (answers : List Judged) (answer : Judged) → accepted_o
 accepted_one_more answers answer =
     sym (accepted_behind [] (answers ++ answer ∷ [])) ∙ accepted_push [] answers answer ∙ ap (λ past. accepted_with past answer) (accepted_behind [] answers)
 
-pub index_in_session : (profile : Profile) (client server : List ℕ) (answers : List Judged) (left : Unpaired)
+pub index_in_session : (profile : Profile) (client : ClientStream) (server : List ℕ) (answers : List Judged) (left : Unpaired)
     → AreJudged (ArePermitted profile) [] (streams client server) answers left → left.index ≡ length answers
 index_in_session profile client server answers left judged = let count = judged_count (ArePermitted profile) [] (streams client server) left answers judged in omega (arith, count)

@@ -8,6 +8,7 @@ use Rattle.nntp_theory.specs.{Inner.Given.{weight}, Permitted.{exchanged, ArePer
 use Rattle.nntp_theory.{specs.Reading.{IsJudged, AreJudged, IsReadingBy, IsReading}, proofs.Given.GivenSpoolExists.{some_or_none}}
 use Rattle.nntp_theory.proofs.{Given.SessionsByFacts.{permits_alone}, Ids.SizeOfASession.{session_size}, Reading.JudgedAnswers.{one_judged, judged_shorter}}
 use Rattle.nntp_theory.proofs.Reading.JudgedAnswers.{weight_next, accepted_weight}
+use Rattle.nntp_wire.specs.Session.{ClientStream}
 
 module _ (Stand : List Paired → Type 0) where
   -- ---- one at most
@@ -26,7 +27,7 @@ module _ (Stand : List Paired → Type 0) where
       ((λ i. one.0 i ∷ rest.0 i), rest.1)
 
   -- two streams have one reading
-  pub one_reading : (client server : List ℕ) (answers others : List Judged) (ending other : Ending)
+  pub one_reading : (client : ClientStream) (server : List ℕ) (answers others : List Judged) (ending other : Ending)
       → IsReadingBy Stand client server answers ending → IsReadingBy Stand client server others other → (answers ≡ others) × (ending ≡ other)
   one_reading client server answers others ending other x y = grind (arith, one_run, one-end)
 
@@ -81,13 +82,14 @@ module _ (Stand : List Paired → Type 0) where
     ]
 
     -- two streams have a reading
-    pub some_reading_by : (client server : List ℕ) → length server ≤ most → (answers : List Judged) × (ending : Ending) × IsReadingBy Stand client server answers ending
+    pub some_reading_by : (client : ClientStream) (server : List ℕ) → length server ≤ most → (answers : List Judged) × (ending : Ending) × IsReadingBy Stand client server answers ending
     some_reading_by client server small =
         let r = read_on [] (streams client server) (length server) (omega arith) (omega (arith, small)) in
         (r.0, r.3.0, record { left = r.1; judged = r.2; ends = r.3.1; passed_over = r.3.2 })
 
 -- it is decided whether some spool permits exchanges
-pub some_reading : (profile : Profile) (client server : List ℕ) → length server < 2 ^ 210 → (answers : List Judged) × (ending : Ending) × IsReading profile client server answers ending
+pub some_reading : (profile : Profile) (client : ClientStream) (server : List ℕ) → length server < 2 ^ 210
+    → (answers : List Judged) × (ending : Ending) × IsReading profile client server answers ending
 some_reading profile client server small = some_reading_by (ArePermitted profile) (length server) decided client server (omega arith)
   where
     decided : (past : List Paired) → weight (responses_of past) ≤ length server → ArePermitted profile past ⊎ (ArePermitted profile past → ⊥)

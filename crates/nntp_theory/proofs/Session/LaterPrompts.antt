@@ -1,18 +1,17 @@
 -- Prompts behind those that are answered: they change nothing.
-use Rattle.nntp_wire.specs.{declared.marks.Marks.{Marks}, Command.{request_of}, Lines.{lines_of_stream}, Answer.{Asked, Response, greeting, to}}
-use Rattle.nntp_wire.{specs.Session.{prompts_of, Spelled}, proofs.StreamLemmas.{lines-joined}}
+use Rattle.nntp_wire.specs.{declared.marks.Marks.{Marks}, Command.{request_as}, Lines.{lines_of_stream}, Answer.{Asked, Response, greeting, to}}
+use Rattle.nntp_wire.{specs.Session.{prompts_of, Spelled, ClientStream, further}, proofs.StreamLemmas.{lines-joined}}
 use Rattle.std.proofs.{Common.{◌≡◌, ◌↔◌, ℕ, ◌+◌, ◌≤◌, List, [], ◌∷◌, ◌++◌, length, map, Some, refl, ap, ◌∙◌, arith}, lemmas.List.{map-append}}
 use Rattle.nntp_article.specs.{declared.session.profile.Profile.{Profile}, Session.{Spool.{Spool}, Machine.{Visible, State, Run, start, visible_after}}}
 use Rattle.nntp_said.specs.{Asks.{position_after}, declared.position.Position.{Position}, Facts.{facts_of, facts_from}}
 use Rattle.nntp_theory.specs.{Classes.{visible_from, position_from, asked_next}, Inner.Permits.{SomePermits}}
 
 -- octets behind the client's leave its prompts
-pub prompts_joined : (client more : List ℕ) → (later : List Asked) × (prompts_of (client ++ more) ≡ prompts_of client ++ later)
+pub prompts_joined : (client : ClientStream) (more : List ℕ) → (later : List Asked) × (prompts_of (further client more) ≡ prompts_of client ++ later)
 prompts_joined client more =
-    let l = lines-joined client more in (
-      map (λ line. to (request_of line)) l.0,
-      ap (λ lines. greeting ∷ map (λ line. to (request_of line)) lines) l.1 ∙ ap (λ ps. greeting ∷ ps) (map-append (λ line. to (request_of line)) (lines_of_stream client) l.0),
-    )
+    let l = lines-joined client.octets more in
+    let asked = λ (line : List ℕ). to (request_as client.overviews line) in
+    (map asked l.0, ap (λ lines. greeting ∷ map asked lines) l.1 ∙ ap (λ ps. greeting ∷ ps) (map-append asked (lines_of_stream client.octets) l.0))
 
 -- answers are spelled behind these prompts, whatever prompts follow
 pub spelled_longer : (ps qs : List Asked) (answers : List Response) (octets : List ℕ) → Spelled ps answers octets → Spelled (ps ++ qs) answers octets

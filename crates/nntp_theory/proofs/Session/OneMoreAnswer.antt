@@ -1,5 +1,5 @@
 -- Answers one by one: what one more says, and what pairs say.
-use Rattle.nntp_wire.specs.{declared.marks.Marks.{Marks}, Answer.{Asked, Response}, Session.{prompts_of, Spelled}}
+use Rattle.nntp_wire.specs.{declared.marks.Marks.{Marks}, Answer.{Asked, Response}, Session.{prompts_of, Spelled, ClientStream}}
 use Rattle.std.proofs.Common.{◌≡◌, ℕ, ◌≤◌, ◌↔◌, false, IsTrue, List, [], ◌∷◌, ◌++◌, map, length, Some, sym, ap, ◌∙◌, arith, append_assoc, append-nil}
 use Rattle.std.proofs.lemmas.List.{length-map}
 use Rattle.nntp_article.specs.{Session.{Spool.{Spool}, Machine.{Visible, Run, start, fits, visible_after}}, declared.session.profile.Profile.{Profile}}
@@ -48,24 +48,24 @@ fitting_grows profile v ps answers asked response e = grind arith
 -- pairs answer the first of the places
 asked_places : (before left : Unpaired) (pairs : List Paired) → AreNext before pairs left → map asked_at before.places ≡ asked_of pairs ++ map asked_at left.places
 asked_places before left [] e = ap (λ (u : Unpaired). map asked_at u.places) e
-asked_places before left (pair ∷ pairs) (between, first, more) = ap (λ ps. map asked_at ps) first.place ∙ ap (λ ps. asked_at pair.line ∷ ps) (asked_places between left pairs more)
+asked_places before left (pair ∷ pairs) (between, first, more) = ap (λ ps. map asked_at ps) first.place ∙ ap (λ ps. asked_at pair.place ∷ ps) (asked_places between left pairs more)
 
 -- and so the first of the prompts
-pub prompts_of_pairs : (client server : List ℕ) (pairs : List Paired) (left : Unpaired)
+pub prompts_of_pairs : (client : ClientStream) (server : List ℕ) (pairs : List Paired) (left : Unpaired)
     → AreNext (streams client server) pairs left → (more : List Asked) × (prompts_of client ≡ asked_of pairs ++ more)
 prompts_of_pairs client server pairs left paired = (map asked_at left.places, sym (places-prompts client) ∙ asked_places (streams client server) left pairs paired)
 
 -- there is one for each response
 pub as_few : (pairs : List Paired) → length (responses_of pairs) ≤ length (asked_of pairs)
-as_few pairs = omega (arith, length-map pairs (λ pair. pair.response), length-map pairs (λ pair. asked_at pair.line))
+as_few pairs = omega (arith, length-map pairs (λ pair. pair.response), length-map pairs (λ pair. asked_at pair.place))
 
 -- to permit the responses asks for these prompts alone
-pub pairs_run : (profile : Profile) (S : Spool) (client server : List ℕ) (pairs : List Paired) (left : Unpaired) → AreNext (streams client server) pairs left
+pub pairs_run : (profile : Profile) (S : Spool) (client : ClientStream) (server : List ℕ) (pairs : List Paired) (left : Unpaired) → AreNext (streams client server) pairs left
     → Run profile S start (prompts_of client) (responses_of pairs) ↔ Run profile S start (asked_of pairs) (responses_of pairs)
 pairs_run profile S client server pairs left paired = grind (arith, prompts_of_pairs, run_shorter, as_few, run_longer)
 
 -- of some spool, too
-pub pairs_permitted : (profile : Profile) (client server : List ℕ) (pairs : List Paired) (left : Unpaired) → AreNext (streams client server) pairs left
+pub pairs_permitted : (profile : Profile) (client : ClientStream) (server : List ℕ) (pairs : List Paired) (left : Unpaired) → AreNext (streams client server) pairs left
     → SomePermits profile (prompts_of client) (responses_of pairs) ↔ SomePermits profile (asked_of pairs) (responses_of pairs)
 pairs_permitted profile client server pairs left paired = (
   λ h. (h.0, h.1, (pairs_run profile h.0 client server pairs left paired).0 h.2),
@@ -73,7 +73,7 @@ pairs_permitted profile client server pairs left paired = (
 )
 
 -- and what they say is said by these alone
-pub facts_by_pairs : (how : Marks) (client server : List ℕ) (pairs : List Paired) (left : Unpaired) → AreNext (streams client server) pairs left
+pub facts_by_pairs : (how : Marks) (client : ClientStream) (server : List ℕ) (pairs : List Paired) (left : Unpaired) → AreNext (streams client server) pairs left
     → facts_of_session how (prompts_of client) (responses_of pairs) ≡ facts_of_session how (asked_of pairs) (responses_of pairs)
 facts_by_pairs how client server pairs left paired = grind (arith, prompts_of_pairs, facts_longer, as_few)
 

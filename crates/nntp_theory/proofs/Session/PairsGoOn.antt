@@ -62,13 +62,13 @@ position_next ps answers asked response e =
 
 -- there are as many prompts as answers
 pub as_many : (past : List Paired) → length (asked_of past) ≡ length (responses_of past)
-as_many past = length-map past (λ pair. asked_at pair.line) ∙ sym (length-map past (λ pair. pair.response))
+as_many past = length-map past (λ pair. asked_at pair.place) ∙ sym (length-map past (λ pair. pair.response))
 
 -- the prompts and answers of one exchange more
 pub ends : (past : List Paired) (pair : Paired)
-    → ◌≡◌ {A = List Asked × List Response} (asked_of (past ++ pair ∷ []), responses_of (past ++ pair ∷ [])) (asked_of past ++ asked_at pair.line ∷ [], responses_of past ++ pair.response ∷ [])
-ends past pair = ap₂ (λ (ps : List Asked) (answers : List Response). (ps, answers)) (map-append (λ pair. asked_at pair.line) past (pair ∷ [])) (map-append (λ pair. pair.response) past (pair ∷ []))
+    → ◌≡◌ {A = List Asked × List Response} (asked_of (past ++ pair ∷ []), responses_of (past ++ pair ∷ [])) (asked_of past ++ asked_at pair.place ∷ [], responses_of past ++ pair.response ∷ [])
+ends past pair = ap₂ (λ (ps : List Asked) (answers : List Response). (ps, answers)) (map-append (λ pair. asked_at pair.place) past (pair ∷ [])) (map-append (λ pair. pair.response) past (pair ∷ []))
 
 -- and the session with it
-pub with_pair : (past : List Paired) (pair : Paired) → exchanged (past ++ pair ∷ []) ≡ of_these (asked_of past ++ asked_at pair.line ∷ []) (responses_of past ++ pair.response ∷ [])
+pub with_pair : (past : List Paired) (pair : Paired) → exchanged (past ++ pair ∷ []) ≡ of_these (asked_of past ++ asked_at pair.place ∷ []) (responses_of past ++ pair.response ∷ [])
 with_pair past pair = ap (λ (q : List Asked × List Response). of_these q.0 q.1) (ends past pair)

@@ -1,7 +1,7 @@
 -- Where the pairing of two streams ends at octets, they have the class of that end.
 use Rattle.std.proofs.{Common.{◌≡◌, ◌↔◌, ℕ, false, List, [], ◌∷◌, length, map, Option, None, Some, refl, sym, ap, ◌∙◌, arith}, lemmas.List.{length-map}}
-use Rattle.nntp_wire.specs.{Answer.{Asked}, Session.{prompts_of}}
-use Rattle.nntp_pair.specs.{Pairing.{Paired, Unpaired, AreNext, IsBad, responses_of, asked_at, streams}, Inner.Pairing.{IsLasting}}
+use Rattle.nntp_wire.specs.{Answer.{Asked}, Session.{prompts_of, ClientStream}}
+use Rattle.nntp_pair.specs.{Pairing.{Paired, Unpaired, AreNext, IsBad, responses_of, asked_at, streams, Place}, Inner.Pairing.{IsLasting}}
 use Rattle.nntp_pair.specs.{declared.class.{PairClass.{PairClass, TheVariants.{Surplus as surplus}}, Class.{Class}}, Classes.{class_of}}
 use Rattle.nntp_pair.proofs.SpelledLemmas.{places-prompts, pairs-spelled}
 use Rattle.nntp_article.specs.Session.{Spool.{Spool, IsSpool}, Machine.{Visible, start, visible_after, Run}, Explains.{ExplainsUpTo}}
@@ -9,7 +9,7 @@ use Rattle.nntp_article.{specs.declared.session.profile.Profile.{Profile}, proof
 use Rattle.nntp_theory.{specs.Classes.{visible_from, asked_next, AnswersFirst, IsClass, HasClass, IsSettled}, proofs.Streams.OneClass.{closed_before}}
 
 -- what is asked at the first of the places
-abbrev pub first_asked : List (Option (List ℕ)) → Option Asked
+abbrev pub first_asked : List Place → Option Asked
 first_asked [] = None
 first_asked (place ∷ places) = Some (asked_at place)
 
@@ -25,7 +25,7 @@ paired_up v before left [] same e = grind arith
 paired_up v before left (pair ∷ pairs) same (between, first, more) =
     let opened : v.closed ≡ false = sym same ∙ first.is_open in
     let response = pair.response in
-    let asked = asked_at pair.line in
+    let asked = asked_at pair.place in
     grind (arith, after-closes, paired_up (visible_after v asked response) between left pairs (first.closing ∙ sym (after-closes v asked response opened)) more)
 
 -- ---- the end
@@ -39,17 +39,17 @@ pub count : (pairs : List Paired) → length (responses_of pairs) ≡ length pai
 count pairs = length-map pairs (λ pair. pair.response)
 
 -- pairs are the first answers of both streams
-pub pairs_before : (client server : List ℕ) (pairs : List Paired) (left : Unpaired) → AreNext (streams client server) pairs left → AnswersFirst client server (length pairs)
+pub pairs_before : (client : ClientStream) (server : List ℕ) (pairs : List Paired) (left : Unpaired) → AreNext (streams client server) pairs left → AnswersFirst client server (length pairs)
 pairs_before client server pairs left paired = grind (arith, pairs-spelled, count)
 
 -- and leave the connection open or closed, as these do
-pub pairs_close : (client server : List ℕ) (pairs : List Paired) (left : Unpaired) → AreNext (streams client server) pairs left
+pub pairs_close : (client : ClientStream) (server : List ℕ) (pairs : List Paired) (left : Unpaired) → AreNext (streams client server) pairs left
     → left.is_closed ≡ (visible_from start.visible (prompts_of client) (responses_of pairs)).closed
 pairs_close client server pairs left paired =
     (paired_up start.visible (streams client server) left pairs refl paired).closed ∙ ap (λ ps. (visible_from start.visible ps (responses_of pairs)).closed) (places-prompts client)
 
 -- so the octets that they leave are settled where the end of a pairing there stays
-pub settled_lasts : (client server : List ℕ) (pairs : List Paired) (left : Unpaired) (class : PairClass) → AreNext (streams client server) pairs left
+pub settled_lasts : (client : ClientStream) (server : List ℕ) (pairs : List Paired) (left : Unpaired) (class : PairClass) → AreNext (streams client server) pairs left
     → IsSettled client server (length pairs) (class_of class) ↔ IsLasting class left
 unfolding pairs_before
 settled_lasts client server pairs left surplus paired = (
@@ -59,7 +59,7 @@ settled_lasts client server pairs left surplus paired = (
 settled_lasts client server pairs left class paired = grind arith
 
 -- the octets that pairs leave have the class that they have where they stand
-pub has_class : (profile : Profile) (client server : List ℕ) (pairs : List Paired) (left : Unpaired) (class : Class) → AreNext (streams client server) pairs left
+pub has_class : (profile : Profile) (client : ClientStream) (server : List ℕ) (pairs : List Paired) (left : Unpaired) (class : Class) → AreNext (streams client server) pairs left
     → IsClass left.is_closed profile (visible_from start.visible (prompts_of client) (responses_of pairs)) (first_asked left.places) left.server class
     → HasClass profile client server (length pairs) class
 unfolding pairs_before
@@ -72,12 +72,13 @@ has_class profile client server pairs left class paired h =
           grind (arith, pairs_close);
     }
 
-pub end_has_class : (profile : Profile) (client server : List ℕ) (pairs : List Paired) (left : Unpaired) (class : PairClass) → AreNext (streams client server) pairs left → IsBad class left
+pub end_has_class : (profile : Profile) (client : ClientStream) (server : List ℕ) (pairs : List Paired) (left : Unpaired) (class : PairClass) → AreNext (streams client server) pairs left
+    → IsBad class left
     → HasClass profile client server (length pairs) (class_of class)
 end_has_class profile client server pairs left class paired h = grind (arith, has_class, end_class)
 
 -- who permits the responses of the pairs explains them
-pub explained_pairs : (profile : Profile) (S : Spool) (client server : List ℕ) (pairs : List Paired) (left : Unpaired) → AreNext (streams client server) pairs left
+pub explained_pairs : (profile : Profile) (S : Spool) (client : ClientStream) (server : List ℕ) (pairs : List Paired) (left : Unpaired) → AreNext (streams client server) pairs left
     → IsSpool profile.limit S → Run profile S start (prompts_of client) (responses_of pairs) → ExplainsUpTo profile S client server (length pairs) left.server
 unfolding pairs_before
 explained_pairs profile S client server pairs left paired spool run = grind (arith, pairs_before, count, pairs-spelled, length-map)

@@ -4,7 +4,7 @@ use Rattle.std.proofs.{Common.{subst, ◌∙◌, arith, length-append, append_as
 use Rattle.std.proofs.lemmas.List.{append_cancel_left, length-take, nil_from_length}
 use Rattle.nntp_article.specs.Session.{Spool.{Spool, IsSpool}, Machine.{Run, start}, Explains.{ExplainsUpTo, Explains, ExplainsFirst, BadAmong, Bad}}
 use Rattle.nntp_article.specs.declared.session.profile.Profile.{Profile}
-use Rattle.nntp_wire.{specs.{Session.{Spelled, prompts_of}, Answer.{Asked, Response, Spells}}, proofs.SpellsDecided.{one-spelling, some-spelling}}
+use Rattle.nntp_wire.{specs.{Session.{Spelled, prompts_of, ClientStream}, Answer.{Asked, Response, Spells}}, proofs.SpellsDecided.{one-spelling, some-spelling}}
 use Rattle.nntp_theory.{specs.Inner.Given.{weight}, proofs.{Ids.SizeOfASession.{session_size}, Given.FirstBadAnswer.{run_fewer, none_permitted, holds_or_ends}}}
 use Rattle.nntp_theory.proofs.Given.GivenSpoolExists.{some_or_none}
 use Rattle.nntp_pair.proofs.PairLemmas.{lines-few}
@@ -91,7 +91,7 @@ light (p ∷ ps) (a ∷ answers) sp (b, tail, s, ss, whole) =
     grind (arith, length-append, light ps answers tail ss)
 
 -- who explains m answers explains fewer
-pub first_explained : (profile : Profile) (S : Spool) (client server : List ℕ) (n m : ℕ) (rest : List ℕ) → n ≤ m
+pub first_explained : (profile : Profile) (S : Spool) (client : ClientStream) (server : List ℕ) (n m : ℕ) (rest : List ℕ) → n ≤ m
     → ExplainsUpTo profile S client server m rest → (left : List ℕ) × ExplainsUpTo profile S client server n left
 first_explained profile S client server n m rest le x =
     let f = first_spelled (prompts_of client) x.answers x.octets n x.spelled (omega arith) in
@@ -100,7 +100,7 @@ first_explained profile S client server n m rest le x =
 
 -- ---- of the spools with P
 
-module _ (P : Spool → Type 0) (profile : Profile) (client server : List ℕ) where
+module _ (P : Spool → Type 0) (profile : Profile) (client : ClientStream) (server : List ℕ) where
   -- one answer is bad at most
   pub bad_once : (k j : ℕ) → BadAmong P profile client server k → BadAmong P profile client server j → k ≡ j
   bad_once k j (x, none) (y, none') =
@@ -189,11 +189,12 @@ module _ (P : Spool → Type 0) (profile : Profile) (client server : List ℕ) w
 -- ---- of all spools
 
 -- where one explains all, no answer is bad
-pub explained_not_bad : (profile : Profile) (S : Spool) (client server : List ℕ) (n k : ℕ) → Explains profile S client server n → Bad profile client server k → ⊥
+pub explained_not_bad : (profile : Profile) (S : Spool) (client : ClientStream) (server : List ℕ) (n k : ℕ) → Explains profile S client server n → Bad profile client server k → ⊥
 explained_not_bad profile S client server n k = explained_not_bad_among (λ S. ⊤) profile client server S n k tt
 
 -- one explains all, or an answer is bad
-pub explained_or_bad : (profile : Profile) (client server : List ℕ) → length server < 2 ^ 210 → ((S : Spool) × (n : ℕ) × Explains profile S client server n) ⊎ ((k : ℕ) × Bad profile client server k)
+pub explained_or_bad : (profile : Profile) (client : ClientStream) (server : List ℕ) → length server < 2 ^ 210
+    → ((S : Spool) × (n : ℕ) × Explains profile S client server n) ⊎ ((k : ℕ) × Bad profile client server k)
 explained_or_bad profile client server small =
     let base = none_permitted profile (prompts_of client) [] in
     elim (explained_or_bad_among (λ S. ⊤) profile client server (base.0, base.1, tt, tt) decided) [ inl x ↦ inl (x.0, x.1, x.3) | inr bad ↦ inr bad ]

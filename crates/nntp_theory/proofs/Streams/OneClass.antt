@@ -1,7 +1,7 @@
 -- The class of a bad answer: there is one, and octets that follow leave it where it is settled.
 use Rattle.std.proofs.Common.{◌≡◌, ℕ, ◌+◌, Bool, true, false, IsTrue, List, [], ◌∷◌, ◌++◌, length, Option, None, Some, inl, inr, refl, sym, ap, subst, ◌∙◌}
 use Rattle.std.proofs.{Common.{arith, append_assoc, ◌⊎◌}, lemmas.{List.{append_cancel_left, append-nil}, Bool.{cases_Bool, true≢false}}}
-use Rattle.nntp_wire.specs.{Answer.{Asked, Response, Spells}, Frame.{HasFrame, frame_octets}, Session.{prompts_of, Spelled}}
+use Rattle.nntp_wire.specs.{Answer.{Asked, Response, Spells}, Frame.{HasFrame, frame_octets}, Session.{prompts_of, Spelled, ClientStream, further}}
 use Rattle.nntp_wire.proofs.{SpellLemmas.{spelling-frame, one-frame}, SpellsDecided.{one-spelling, dec_spelling}, FramesDecided.{dec_frame, frame-longer}}
 use Rattle.nntp_article.specs.Session.{Spool.{Spool}, Machine.{Visible, State, Run, start, fits}, Explains.{ExplainsFirst, BadAmong}}
 use Rattle.nntp_article.specs.declared.session.profile.Profile.{Profile}
@@ -74,11 +74,11 @@ as_many (p ∷ ps) (x ∷ answers) (y ∷ others) sp tp rest more (b, tail, s, s
     ((λ i. same.0 i ∷ r.0 i), r.1)
 
 -- so two streams begin with k answers in one way
-pub one_before : (client server : List ℕ) (k : ℕ) (b c : AnswersFirst client server k) → (b.answers ≡ c.answers) × (b.rest ≡ c.rest)
+pub one_before : (client : ClientStream) (server : List ℕ) (k : ℕ) (b c : AnswersFirst client server k) → (b.answers ≡ c.answers) × (b.rest ≡ c.rest)
 one_before client server k b c = grind (arith, as_many)
 
 -- and are closed there, or not
-pub closed_before : (client server : List ℕ) (k : ℕ) (b c : AnswersFirst client server k) → (left_visible client server k b).closed ≡ (left_visible client server k c).closed
+pub closed_before : (client : ClientStream) (server : List ℕ) (k : ℕ) (b c : AnswersFirst client server k) → (left_visible client server k b).closed ≡ (left_visible client server k c).closed
 closed_before client server k b c = ap (λ answers. (visible_from start.visible (prompts_of client) answers).closed) (one_before client server k b c).0
 
 -- ---- one class
@@ -120,24 +120,24 @@ some_class false profile v (Some asked) octets = elim (dec_spelling asked octets
 some_class closed profile v next octets = grind arith
 
 -- octets behind answers have a class
-pub class_there : (profile : Profile) (client server : List ℕ) (k : ℕ) → AnswersFirst client server k → (class : Class) × HasClass profile client server k class
+pub class_there : (profile : Profile) (client : ClientStream) (server : List ℕ) (k : ℕ) → AnswersFirst client server k → (class : Class) × HasClass profile client server k class
 class_there profile client server k before =
     let v = left_visible client server k before in
     let c = some_class v.closed profile v (asked_next (prompts_of client) before.answers) before.rest in
     (c.0, record { before = before; is_class = c.1 })
 
 -- and one only
-pub one_class : (profile : Profile) (client server : List ℕ) (k : ℕ) (c d : Class) → HasClass profile client server k c → HasClass profile client server k d → c ≡ d
+pub one_class : (profile : Profile) (client : ClientStream) (server : List ℕ) (k : ℕ) (c d : Class) → HasClass profile client server k c → HasClass profile client server k d → c ≡ d
 one_class profile client server k c d h g = grind (arith, one_before, class_once, as_many, not_cut, not_malformed, one_fitting)
 
 -- the answers before a bad one
-pub before_bad : (P : Spool → Type 0) (profile : Profile) (client server : List ℕ) (k : ℕ) → BadAmong P profile client server k → AnswersFirst client server k
+pub before_bad : (P : Spool → Type 0) (profile : Profile) (client : ClientStream) (server : List ℕ) (k : ℕ) → BadAmong P profile client server k → AnswersFirst client server k
 before_bad P profile client server k ((S, rest, p, x, some), none) = grind arith
 
 -- ---- octets that follow
 
 -- the reading of both streams stays, with more octets left
-before_longer : (client server more_client more_server : List ℕ) (k : ℕ) → AnswersFirst client server k → AnswersFirst (client ++ more_client) (server ++ more_server) k
+before_longer : (client : ClientStream) (server more_client more_server : List ℕ) (k : ℕ) → AnswersFirst client server k → AnswersFirst (further client more_client) (server ++ more_server) k
 before_longer client server more_client more_server k b =
     let p = prompts_joined client more_client in
     record {
@@ -162,7 +162,7 @@ settled Surplus closed = closed ≡ true
 settled Cut closed = ⊥
 settled class closed = IsTrue true
 
-settled_by : (profile : Profile) (client server : List ℕ) (k : ℕ) (class : Class) (h : HasClass profile client server k class)
+settled_by : (profile : Profile) (client : ClientStream) (server : List ℕ) (k : ℕ) (class : Class) (h : HasClass profile client server k class)
     → IsSettled client server k class → settled class (left_visible client server k h.before).closed
 settled_by profile client server k Surplus h s = closed_before client server k h.before s.before ∙ s.closed
 settled_by profile client server k Cut h s = absurd s
@@ -190,30 +190,32 @@ class_longer false profile v ps qs answers octets more class s h = by (asked_nex
     by (Some asked) e h = subst (λ next. IsClass false profile v next (octets ++ more) class) (sym (asked_longer ps qs answers asked e)) (open_longer profile v asked octets more class s h)
 
 -- a connection that is closed before an answer stays so
-closed_longer : (client server more_client more_server : List ℕ) (k : ℕ) → IsClosedBefore client server k → IsClosedBefore (client ++ more_client) (server ++ more_server) k
+closed_longer : (client : ClientStream) (server more_client more_server : List ℕ) (k : ℕ) → IsClosedBefore client server k → IsClosedBefore (further client more_client) (server ++ more_server) k
 unfolding before_longer
 closed_longer client server more_client more_server k c =
     let b = c.before in
     let q = prompts_joined client more_client in
-    let same : visible_from start.visible (prompts_of (client ++ more_client)) b.answers ≡ left_visible client server k b =
+    let same : visible_from start.visible (prompts_of (further client more_client)) b.answers ≡ left_visible client server k b =
     ap (λ ps. visible_from start.visible ps b.answers) q.1 ∙ visible_longer start.visible (prompts_of client) q.0 b.answers (spelled_count (prompts_of client) b.answers b.octets b.spelled) in
     record { before = before_longer client server more_client more_server k b; closed = ap (λ (v : Visible). v.closed) same ∙ c.closed }
 
 -- and a settled class stays settled
-pub settled_stays : (client server more_client more_server : List ℕ) (k : ℕ) (class : Class) → IsSettled client server k class → IsSettled (client ++ more_client) (server ++ more_server) k class
+pub settled_stays : (client : ClientStream) (server more_client more_server : List ℕ) (k : ℕ) (class : Class) → IsSettled client server k class
+    → IsSettled (further client more_client) (server ++ more_server) k class
 settled_stays client server more_client more_server k class s = grind (arith, closed_longer)
 
 -- below, answer k is bad, of a settled class
-module _ (profile : Profile) (client server more_client more_server : List ℕ) (k : ℕ) (class : Class) (h : HasClass profile client server k class) (s : IsSettled client server k class) where
+module _ (profile : Profile) (client : ClientStream) (server more_client more_server : List ℕ) (k : ℕ) (class : Class) (h : HasClass profile client server k class)
+    (s : IsSettled client server k class) where
   -- the class is the same
-  pub class_stays : HasClass profile (client ++ more_client) (server ++ more_server) k class
+  pub class_stays : HasClass profile (further client more_client) (server ++ more_server) k class
   unfolding before_longer
   class_stays =
       let b = h.before in
       let count = spelled_count (prompts_of client) b.answers b.octets b.spelled in
       let q = prompts_joined client more_client in
       let v = left_visible client server k b in
-      let same : visible_from start.visible (prompts_of (client ++ more_client)) b.answers ≡ v = ap
+      let same : visible_from start.visible (prompts_of (further client more_client)) b.answers ≡ v = ap
       (λ ps. visible_from start.visible ps b.answers) q.1
       ∙ visible_longer start.visible (prompts_of client) q.0 b.answers count in
       let there = class_longer v.closed profile v (prompts_of client) q.0 b.answers b.rest more_server class (settled_by profile client server k class h s) h.is_class in
@@ -223,7 +225,7 @@ module _ (profile : Profile) (client server more_client more_server : List ℕ) 
       }
 
   -- who explains one answer more of the longer streams explains it of the shorter ones
-  explains_shorter : (T : Spool) → (ExplainsFirst profile T client server k → ⊥) → ExplainsFirst profile T (client ++ more_client) (server ++ more_server) k → ⊥
+  explains_shorter : (T : Spool) → (ExplainsFirst profile T client server k → ⊥) → ExplainsFirst profile T (further client more_client) (server ++ more_server) k → ⊥
   explains_shorter T none (more, y) = by (cases_Bool v.closed)
     where
       b : AnswersFirst client server k
@@ -232,7 +234,7 @@ module _ (profile : Profile) (client server more_client more_server : List ℕ) 
       v : Visible
       v = left_visible client server k h.before
 
-      q : (qs : List Asked) × (prompts_of (client ++ more_client) ≡ prompts_of client ++ qs)
+      q : (qs : List Asked) × (prompts_of (further client more_client) ≡ prompts_of client ++ qs)
       q = prompts_joined client more_client
 
       run : Run profile T start (prompts_of client ++ q.0) y.answers
@@ -295,7 +297,7 @@ module _ (profile : Profile) (client server more_client more_server : List ℕ) 
           (subst (λ closed. IsClass closed profile v (asked_next (prompts_of client) h.before.answers) h.before.rest class) opened h.is_class)
 
   -- the answer is still bad among the same spools
-  pub bad_stays : (P : Spool → Type 0) → BadAmong P profile client server k → BadAmong P profile (client ++ more_client) (server ++ more_server) k
+  pub bad_stays : (P : Spool → Type 0) → BadAmong P profile client server k → BadAmong P profile (further client more_client) (server ++ more_server) k
   bad_stays P ((S, rest, p, x, some), none) =
       let q = prompts_joined client more_client in (
         (

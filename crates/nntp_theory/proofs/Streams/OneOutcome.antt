@@ -1,7 +1,7 @@
 -- Two streams have one outcome; the ways in which a pairing leads to it.
 use Rattle.std.{specs.Prelude.{⊤}, proofs.Common.{◌≡◌, ℕ, ◌<◌, ◌^◌, ◌↔◌, false, IsTrue, List, [], ◌∷◌, ◌++◌, length, inl, inr, refl, sym, ap, subst, ◌∙◌}}
 use Rattle.std.proofs.{Common.{arith, length-append}, lemmas.{Bool.{true≢false}, List.{map-append}}}
-use Rattle.nntp_wire.specs.Session.{prompts_of}
+use Rattle.nntp_wire.specs.Session.{prompts_of, ClientStream}
 use Rattle.nntp_pair.specs.Pairing.{Paired, Unpaired, IsNext, AreNext, end, bad, IsPairing, responses_of, asked_of, asked_at, streams}
 use Rattle.nntp_pair.{specs.{declared.class.{PairClass.{PairClass}, Class.TheVariants.{OutOfPlace}}, Classes.{class_of}}, proofs.PairingLemmas.{one-run}}
 use Rattle.nntp_pair.proofs.PairingLemmas.{AreNext-push}
@@ -18,7 +18,8 @@ use Rattle.nntp_theory.proofs.Session.{OneMoreAnswer.{pairs_permitted, prompts_o
 -- ---- one outcome
 
 -- explanations of two streams have the same answers
-pub same_answers : (profile : Profile) (S T : Spool) (client server : List ℕ) (n m : ℕ) (x : Explains profile S client server n) (y : Explains profile T client server m) → x.answers ≡ y.answers
+pub same_answers : (profile : Profile) (S T : Spool) (client : ClientStream) (server : List ℕ) (n m : ℕ) (x : Explains profile S client server n) (y : Explains profile T client server m)
+    → x.answers ≡ y.answers
 same_answers profile S T client server n m x y =
     let p = by_pairs profile S client server n [] x in
     let q = by_pairs profile T client server m [] y in
@@ -26,14 +27,14 @@ same_answers profile S T client server n m x y =
     sym p.3 ∙ ap responses_of one.0 ∙ q.3
 
 -- what they say is bounded by the octets
-few_facts : (profile : Profile) (S : Spool) (client server : List ℕ) (n : ℕ) (x : Explains profile S client server n)
+few_facts : (profile : Profile) (S : Spool) (client : ClientStream) (server : List ℕ) (n : ℕ) (x : Explains profile S client server n)
     → length server < 2 ^ 210 → size (facts_of_session profile.marks (prompts_of client) x.answers) < 2 ^ 210
 few_facts profile S client server n x small =
     let most = size_by_octets profile.marks (prompts_of client) x.answers x.octets x.spelled in
     grind (arith, length-append)
 
 -- where some spool explains two streams, the given one is their least explanation
-pub given_explains : (profile : Profile) (S G : Spool) (client server : List ℕ) (n : ℕ) (x : Explains profile S client server n)
+pub given_explains : (profile : Profile) (S G : Spool) (client : ClientStream) (server : List ℕ) (n : ℕ) (x : Explains profile S client server n)
     → size (facts_of_session profile.marks (prompts_of client) x.answers) < 2 ^ 210
     → IsGiven (facts_of_session profile.marks (prompts_of client) x.answers) G → IsLeastExplanation profile client server G n
 given_explains profile S G client server n x small given =
@@ -48,7 +49,7 @@ given_explains profile S G client server n x small given =
     }
 
 -- two streams have one outcome at most
-pub one_outcome : (profile : Profile) (client server : List ℕ) (h k : Outcome) → IsOutcome profile client server h → IsOutcome profile client server k → h ≡ k
+pub one_outcome : (profile : Profile) (client : ClientStream) (server : List ℕ) (h k : Outcome) → IsOutcome profile client server h → IsOutcome profile client server k → h ≡ k
 one_outcome profile client server (Yes S n) (Yes T m) x y =
     let answers = same_answers profile S T client server n m x.explains y.explains in
     grind (arith, given_once)
@@ -59,7 +60,7 @@ one_outcome profile client server (No k c) (No j d) x y =
 one_outcome profile client server h k x y = search (arith, explained_not_bad)
 
 -- and they have one
-pub some_outcome : (profile : Profile) (client server : List ℕ) → length server < 2 ^ 210 → (h : Outcome) × IsOutcome profile client server h
+pub some_outcome : (profile : Profile) (client : ClientStream) (server : List ℕ) → length server < 2 ^ 210 → (h : Outcome) × IsOutcome profile client server h
 some_outcome profile client server small = elim (explained_or_bad profile client server small) [
   | inl (S, n, x) ↦
       let G = made_for profile (prompts_of client) x.answers in
@@ -70,14 +71,15 @@ some_outcome profile client server small = elim (explained_or_bad profile client
 ]
 
 -- it is a yes exactly if some spool explains the streams
-pub yes_explained : (profile : Profile) (client server : List ℕ) (h : Outcome) → IsOutcome profile client server h → IsTrue (is_yes h) ↔ ((S : Spool) × (n : ℕ) × Explains profile S client server n)
+pub yes_explained : (profile : Profile) (client : ClientStream) (server : List ℕ) (h : Outcome) → IsOutcome profile client server h
+    → IsTrue (is_yes h) ↔ ((S : Spool) × (n : ℕ) × Explains profile S client server n)
 yes_explained profile client server (Yes S n) x = (λ t. (S, n, x.explains), λ e. refl)
 yes_explained profile client server (No k class) x = (λ t. absurd (true≢false (sym t)), λ e. absurd (explained_not_bad profile e.0 client server e.1 k e.2 x.0))
 
 -- ---- the ways to it
 
 -- at the end of the server's octets
-pub outcome_at_end : (profile : Profile) (client server : List ℕ) (pairs : List Paired) (unanswered : ℕ) (G : Spool)
+pub outcome_at_end : (profile : Profile) (client : ClientStream) (server : List ℕ) (pairs : List Paired) (unanswered : ℕ) (G : Spool)
     → size (facts_of_session profile.marks (asked_of pairs) (responses_of pairs)) < 2 ^ 210
     → IsPairing client server pairs (end unanswered)
     → SomePermits profile (asked_of pairs) (responses_of pairs)
@@ -91,13 +93,13 @@ outcome_at_end profile client server pairs unanswered G small pairing permitted 
     given_explains profile p.0 G client server (length pairs) x (subst (λ facts. size facts < 2 ^ 210) facts small) (subst (λ facts. IsGiven facts G) facts given)
 
 -- at octets that answer nothing
-pub outcome_at_octets : (profile : Profile) (client server : List ℕ) (pairs : List Paired) (class : PairClass) → IsPairing client server pairs (bad class)
+pub outcome_at_octets : (profile : Profile) (client : ClientStream) (server : List ℕ) (pairs : List Paired) (class : PairClass) → IsPairing client server pairs (bad class)
     → SomePermits profile (asked_of pairs) (responses_of pairs) → IsOutcome profile client server (No (length pairs) (class_of class))
 outcome_at_octets profile client server pairs class pairing (S, spool, run) =
     bad_end (λ S. ⊤) profile client server pairs class pairing S spool tt ((pairs_run profile S client server pairs pairing.left pairing.paired).1 run)
 
 -- below, a pair comes next
-module _ (profile : Profile) (client server : List ℕ) (pairs : List Paired) (pair : Paired) (before after : Unpaired)
+module _ (profile : Profile) (client : ClientStream) (server : List ℕ) (pairs : List Paired) (pair : Paired) (before after : Unpaired)
     (paired : AreNext (streams client server) pairs before) (next : IsNext before pair after) where
   -- the visible state before it
   abbrev v : Visible
@@ -110,25 +112,25 @@ module _ (profile : Profile) (client server : List ℕ) (pairs : List Paired) (p
   -- a response that none of the spools with P permits behind those that one of them permits is bad among these
   pub bad_response : (P : Spool → Type 0) (S : Spool) → IsSpool profile.limit S → P S → Run profile S start (asked_of pairs) (responses_of pairs)
       → ((T : Spool) → IsSpool profile.limit T → P T → Run profile T start (asked_of (pairs ++ pair ∷ [])) (responses_of (pairs ++ pair ∷ [])) → ⊥)
-      → BadAmong P profile client server (length pairs) × HasClass profile client server (length pairs) (class_by (fits profile v (asked_at pair.line) pair.response))
+      → BadAmong P profile client server (length pairs) × HasClass profile client server (length pairs) (class_by (fits profile v (asked_at pair.place) pair.response))
   bad_response P S spool p run none =
       let longer = AreNext-push pairs (streams client server) before after pair paired next in
       let responses : responses_of (pairs ++ pair ∷ []) ≡ responses_of pairs ++ pair.response ∷ [] = map-append (λ pair. pair.response) pairs (pair ∷ []) in (
         bad_answer profile client server pairs pair before after paired next P S spool p ((pairs_run profile S client server pairs before paired).1 run)
             (grind (arith, pairs_run)),
-        answer_has_class profile client server pairs pair before after paired next _ (ap (λ v. fits profile v (asked_at pair.line) pair.response) same_visible),
+        answer_has_class profile client server pairs pair before after paired next _ (ap (λ v. fits profile v (asked_at pair.place) pair.response) same_visible),
       )
 
   -- so at one that no spool permits behind them the outcome is a no
   pub outcome_at_response : SomePermits profile (asked_of pairs) (responses_of pairs) → (SomePermits profile (asked_of (pairs ++ pair ∷ [])) (responses_of (pairs ++ pair ∷ [])) → ⊥)
-      → IsOutcome profile client server (No (length pairs) (class_by (fits profile v (asked_at pair.line) pair.response)))
+      → IsOutcome profile client server (No (length pairs) (class_by (fits profile v (asked_at pair.place) pair.response)))
   outcome_at_response (S, spool, run) none = bad_response (λ S. ⊤) S spool tt run (λ T spool u run. none (T, spool, run))
 
   -- one that doesn't fit is such
-  pub outcome_at_unfitting : SomePermits profile (asked_of pairs) (responses_of pairs) → fits profile v (asked_at pair.line) pair.response ≡ false
+  pub outcome_at_unfitting : SomePermits profile (asked_of pairs) (responses_of pairs) → fits profile v (asked_at pair.place) pair.response ≡ false
       → IsOutcome profile client server (No (length pairs) OutOfPlace)
   outcome_at_unfitting (S, spool, run) e =
-      let unfit = ap (λ v. fits profile v (asked_at pair.line) pair.response) same_visible ∙ e in (
+      let unfit = ap (λ v. fits profile v (asked_at pair.place) pair.response) same_visible ∙ e in (
         bad_answer profile client server pairs pair before after paired next (λ S. ⊤) S spool tt ((pairs_run profile S client server pairs before paired).1 run)
             (λ T spool u run. unfitting profile client server pairs pair before after paired next unfit (T, spool, run)),
         answer_has_class profile client server pairs pair before after paired next false unfit,

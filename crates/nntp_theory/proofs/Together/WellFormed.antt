@@ -1,8 +1,9 @@
 -- What octets spell is well formed.
 use Rattle.nntp_wire.specs.{declared.marks.Marks.{Marks}, Octets.{crlf, is_clean}, Inner.Octets.{are_octets}, Name.{IsGroupName, IsMessageId}, Block.{stuffed}}
 use Rattle.nntp_wire.specs.{Block.{sent, AreClean}, Listing.{active_groups}, Answer.{Asked, Response, group_is, numbers_are, sends, active_are, plain, Spells}}
-use Rattle.nntp_wire.specs.Answer.{SaysByLines, SaysGroup, SaysNumbers, SaysArticle, SaysActive, SaysCapabilities, SaysCode, block_octets, IsCleanBlock}
-use Rattle.nntp_wire.proofs.{AnswerLemmas.{says-ways}, OctetLemmas.{octets-parts, unstuffed-octets}, ListingLemmas.{active_groups-named}}
+use Rattle.nntp_wire.specs.Answer.{SaysByLines, SaysGroup, SaysNumbers, SaysArticle, SaysActive, SaysOverviews, SaysCapabilities, SaysCode, block_octets}
+use Rattle.nntp_wire.{specs.Answer.{IsCleanBlock, overviews_are}, proofs.{AnswerLemmas.{says-ways}, OctetLemmas.{octets-parts, unstuffed-octets}}}
+use Rattle.nntp_wire.proofs.ListingLemmas.{active_groups-named}
 use Rattle.std.{proofs.{Common.{◌≡◌, ℕ, true, IsTrue, List, [], ◌∷◌, ◌++◌, ◌⊎◌, Option, arith}, lemmas.Bool.{and_from}}, specs.Prelude.{IfSome, ⊤}}
 use Rattle.std.specs.List.{AllByRecursion}
 use Rattle.nntp_article.specs.{Session.{Spool.{is_line}, Machine.{Visible}}, declared.session.profile.Profile.{Profile}}
@@ -26,6 +27,7 @@ IsProper (group_is m name) = IsGroupName name
 IsProper (numbers_are m name lines) = IsGroupName name
 IsProper (sends s) = IsMessageId s.id × IfSome s.block (λ lines. AllByRecursion (λ line. IsTrue (is_line line)) lines)
 IsProper (active_are lines) = AllByRecursion (λ line. IsGroupName line.name) (active_groups lines)
+IsProper (overviews_are lines) = ⊤
 IsProper (plain code) = ⊤
 
 -- so are those of one that names a group
@@ -50,6 +52,11 @@ active_proper : (block : Option (List (List ℕ))) (response : Response) → Say
 unfolding IsProper
 active_proper block response h = grind (arith, active_groups-named)
 
+-- or lists overviews
+overviews_proper : (block : Option (List (List ℕ))) (response : Response) → SaysByLines SaysOverviews block response → IsProper response
+unfolding IsProper
+overviews_proper block response h = grind arith
+
 -- or is a code
 code_proper : (code : ℕ) (response : Response) → SaysCode code response → IsProper response
 unfolding IsProper
@@ -63,9 +70,10 @@ said_proper : (code : ℕ) (bytes : List ℕ) (block : Option (List (List ℕ)))
     → SaysGroup bytes response ⊎ (SaysByLines (SaysNumbers bytes) block response
     ⊎ (SaysArticle code bytes block response
     ⊎ (SaysByLines SaysActive block response
-    ⊎ (SaysByLines (SaysCapabilities code) block response ⊎ SaysCode code response))))
+    ⊎ (SaysByLines SaysOverviews block response
+    ⊎ (SaysByLines (SaysCapabilities code) block response ⊎ SaysCode code response)))))
     → IsProper response
-said_proper code bytes block response lines h = grind (arith, group_proper, numbers_proper, article_proper, active_proper, capabilities_proper, code_proper)
+said_proper code bytes block response lines h = grind (arith, group_proper, numbers_proper, article_proper, active_proper, overviews_proper, capabilities_proper, code_proper)
 
 -- and of one that they spell
 spelled_proper : (asked : Asked) (response : Response) (bytes : List ℕ) → Spells asked response bytes → are_octets bytes ≡ true → IsProper response

@@ -1,6 +1,6 @@
 -- What is said with the words of `Checking.antt`, and needn't be believed.
 use Rattle.std.specs.Prelude.{◌≡◌, ℕ, ◌+◌, ◌^◌, ◌<◌, Bool, true, false, List, [], ◌∷◌, ◌++◌, length, map, Option, None, Some}
-use Rattle.nntp_wire.specs.declared.{limit.Limit.{Limit}, marks.Marks.{Marks}}
+use Rattle.nntp_wire.specs.{declared.{limit.Limit.{Limit}, marks.Marks.{Marks}, overviews.Overviews.TheVariants.{Opaque}}, Session.{ClientStream, taken}}
 use Rattle.nntp_article.specs.{Session.Limit.{profile_of}, declared.session.profile.Profile.{Profile}}
 use Rattle.nntp_pair.specs.{Pairing.{Paired, HasNext}, Inner.{Sides.{given, count_of}, Feeding.{Fed, IsFed, left_of}}}
 use Rattle.nntp_pair.specs.declared.{octet_counts.OctetCounts.{OctetCounts}, side.Side.{Side, TheVariants.{Client, Server}}, pair_error.PairError.{PairError}}
@@ -36,7 +36,7 @@ counts_of failed = record { client = 0; server = 0 }
 
 -- a session of which nothing came yet
 abbrev pub unrecorded : Recorded
-unrecorded = record { client = []; server = [] }
+unrecorded = record { client = taken Opaque []; server = [] }
 
 -- sessions have ended, each with so many answers, and exchanges of one more have passed; some spool permits all of these, and the facts are theirs
 pub record Keeps (profile : Profile) (before : List Recorded) (session : Recorded) (facts : FactsKept) (answers : List ℕ) (fed : Fed) : Type 0 where
@@ -74,11 +74,11 @@ pub record IsDecided (limit : Limit) (marks : Marks) (judgement : JudgementOfAll
 abbrev pub StandsForAll : Limit → Marks → Checked → List Recorded → Recorded → Type 0
 StandsForAll limit marks (judging facts answers fed) before session = HasPassed (profile_of limit marks) before session facts answers fed
 StandsForAll limit marks (decided judgement counts) before session =
-    IsDecided limit marks judgement before session × (counts.client ≡ length session.client) × (counts.server ≡ length session.server)
+    IsDecided limit marks judgement before session × (counts.client ≡ length session.client.octets) × (counts.server ≡ length session.server)
 StandsForAll limit marks failed before session = ⊥
 
 -- these octets of both streams of one session came, and no session before it
-abbrev pub StandsFor : Limit → Marks → Checked → List ℕ → List ℕ → Type 0
+abbrev pub StandsFor : Limit → Marks → Checked → ClientStream → List ℕ → Type 0
 StandsFor limit marks held client server = StandsForAll limit marks held [] (record { client = client; server = server })
 
 -- ---- what its calls do
@@ -105,7 +105,7 @@ pub record IsFinishedOfAll (held : Checked) (judgement : JudgementOfAll) : Type 
 -- it is the verdict on the octets that came of one
 pub record IsFinished (held : Checked) (judgement : Judgement) : Type 0 where
   pub worked : has_failed held ≡ false
-  pub verdict : (limit : Limit) (marks : Marks) (client server : List ℕ) → StandsFor limit marks held client server → IsVerdict limit marks client server judgement
+  pub verdict : (limit : Limit) (marks : Marks) (client : ClientStream) (server : List ℕ) → StandsFor limit marks held client server → IsVerdict limit marks client server judgement
 
 -- no verdict is given, for this reason
 abbrev pub IsUnfinished : PairError → Checked → Type 0

@@ -1,7 +1,7 @@
 -- What the values of src/answer.rt mean.
 use Rattle.std.specs.Prelude.{ℕ, Bool, ◌≡◌, List, Option, None, Some, is_some, drop, ⊤}
-use Rattle.nntp_wire.specs.{Inner.Block.{Sends}, Answer.{Asked, Response, group_is, numbers_are, sends, active_are, plain, Says, status_of, kind_of}}
-use Rattle.nntp_wire.specs.{Answer.{is_block_due}, declared.answer.Answer.{Answer, TheVariants.{Group, Numbers, Sent, Active, Plain}}}
+use Rattle.nntp_wire.specs.{Inner.Block.{Sends}, Answer.{Asked, Response, group_is, numbers_are, sends, active_are, overviews_are, plain, Says, status_of}}
+use Rattle.nntp_wire.specs.{Answer.{kind_of, is_block_due}, declared.answer.Answer.{Answer, TheVariants.{Group, Numbers, Sent, Active, Overviews, Plain}}}
 
 -- the response, without where its parts lie in memory
 abbrev pub response : Answer → Response
@@ -9,6 +9,7 @@ response (Group marks name) = group_is marks name
 response (Numbers marks name lines) = numbers_are marks name lines
 response (Sent code number id lines) = sends (record { code = code; number = number; id = id; block = lines })
 response (Active lines) = active_are lines
+response (Overviews lines) = overviews_are lines
 response (Plain code) = plain code
 
 -- the answer has the property, and if there is none no response has it

@@ -80,7 +80,7 @@ fn command_codes(is_selected: bool, command: &Command<'_>) -> &'static [u64]
         Command::Last => codes_if_selected(is_selected, &[223, 420, 422]),
         Command::Retrieve { what, which } => retrieve_codes(is_selected, *what, which),
         Command::ListActive(_) => &[215],
-        Command::Opaque => &[381],
+        Command::Over { .. } | Command::Opaque => &[381],
         Command::IllFormed => &[],
     }
 }

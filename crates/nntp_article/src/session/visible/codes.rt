@@ -58,7 +58,7 @@ impl<A: Allocator> Visible<A> {
                 Which::Number(_) => (code == 412 && !is_selected) || (code == 423 && is_selected),
                 Which::Current => (code == 412 && !is_selected) || (code == 420 && is_selected),
             },
-            Command::Opaque => code == 381 || code < 300 || code >= 400,
+            Command::Over { .. } | Command::Opaque => code == 381 || code < 300 || code >= 400,
             _ => false,
         }
     }

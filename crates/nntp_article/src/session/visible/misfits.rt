@@ -3,12 +3,13 @@ ghost use Rattle.std.specs.Prelude.{◌≡◌, ℕ, List, map, IfOk, option_copi
 ghost use Rattle.std.specs.Option.{option_map_or, option_or};
 ghost use Rattle.nntp_wire.specs.Inner.View.{active_value, asked};
 ghost use Rattle.nntp_wire.specs.Inner.AnswerView.{response};
-ghost use Rattle.nntp_wire.specs.Answer.{plain, sends, group_is, numbers_are, active_are};
+ghost use Rattle.nntp_wire.specs.Answer.{plain, sends, group_is, numbers_are, active_are, overviews_are};
 ghost use Rattle.nntp_wire.specs.Listing.{active_groups, listed_numbers};
 ghost use Rattle.nntp_article.specs.Session.Machine.{fits, is_same};
 ghost use Rattle.nntp_article.specs.Session.Misfit.{name_misfit, misfit};
 ghost use Rattle.nntp_article.specs.Inner.Misfit.{groups_of, numbers_of};
 ghost use Rattle.nntp_article.specs.Inner.MisfitView.{why, why_if};
+ghost use Rattle.nntp_wire.specs.declared.overviews.Overviews.{Overviews};
 
 use crate::session::misfit::Misfit;
 use crate::session::profile::Profile;
@@ -91,6 +92,7 @@ impl<A: Allocator + Copy> Visible<A> {
                 block,
             } => Ok(self.sent_misfit(profile, prompt, *code, *number, id.as_slice(), block)),
             Answer::Active(_) => self.active_misfit(profile, prompt, groups),
+            Answer::Overviews(_) => Ok(self.overviews_misfit(prompt)),
         }
     }
 
@@ -214,6 +216,16 @@ impl<A: Allocator + Copy> Visible<A> {
                 head_misfit(*what, id, block)
             }
             _ => Some(wrong_code),
+        }
+    }
+
+    /// 224 to OVER or XOVER.
+    fn overviews_misfit(&self, prompt: &Prompt<'_>) -> Option<Misfit<'static>>
+        ensures { (profile : Profile) (lines : List (List ℕ)) → why_if result ≡ misfit profile self.now (asked prompt.now) (overviews_are lines) }
+    {
+        match prompt {
+            Prompt::To(Command::Over { .. }) => None,
+            _ => Some(self.code_misfit(prompt, 224)),
         }
     }
 

@@ -1,7 +1,7 @@
 use Rattle.std.{proofs.Common.{◌∙◌, sym, ap, subst}, specs.{Prelude.{count_by, is_some, drop}, Option.{option_copied}}}
 use Rattle.nntp_article.specs.declared.session.profile.Profile.{Profile}
 use Rattle.nntp_wire.specs.Inner.View.{asked}
-use Rattle.nntp_pair.specs.Pairing.{Unpaired, line_ahead, streams}
+use Rattle.nntp_pair.specs.Pairing.{Unpaired, line_ahead, streams, has_line}
 use Rattle.nntp_several.specs.Sessions.{Recorded}
 use Rattle.nntp_explain.{specs.Inner.ExplainingView.{kept_of, AreTold, HasTold}, proofs.{ExplainLemmas.{told_unspelled}, EndLemmas.{read_at_end}}}
 use Rattle.nntp_explain.proofs.EndLemmas.{read_at_octets}
@@ -46,7 +46,7 @@ loop-exchange-preserved g c = λ profile b h.
     let told = subst (AreTold profile b client server kept text) (sym c.in-Bad.ensures.step.2) (c.loop-exchange.invariant profile b h) in
     let frame = c.pass_over-malformed.result.frame in
     told_unspelled profile b client server kept (kept_of c.refuse_malformed.new.self) text c.refuse_malformed.new.self.text.items c.next.new.self c.pass_over-malformed.new.self
-    c.index-index.result (asked c.pass_over-malformed.result.prompt) (option_copied c.pass_over-malformed.result.line) frame.initial frame.block
+    c.index-index.result (asked c.pass_over-malformed.result.prompt) c.pass_over-malformed.result.place frame.initial frame.block
     c.in_ok-refuse_malformed-in-Malformed.ensures.kept c.pass_over-malformed.ensures.prompt c.in_ok-refuse_malformed-in-Malformed.ensures.text
     told c.index-index.ensures.value c.pass_over-malformed.ensures.passed
 
@@ -64,7 +64,7 @@ returns-in_default g c = λ profile b h.
     (c.index-index.ensures.value ∙ ap (λ (u : Unpaired). u.index) step.2)
     (c.ahead.ensures.line ∙ ap (λ (u : Unpaired). line_ahead u.places) step.2)
     (c.ahead.ensures.rest ∙ ap (λ (u : Unpaired). u.server) step.2)
-    (c.count_lines_behind-unanswered.ensures ∙ ap (λ (u : Unpaired). count_by is_some (drop 1 u.places)) step.2)
+    (c.count_lines_behind-unanswered.ensures ∙ ap (λ (u : Unpaired). count_by has_line (drop 1 u.places)) step.2)
     put.kept put.text
 
 pub returns-in-End : goal.returns-in-End

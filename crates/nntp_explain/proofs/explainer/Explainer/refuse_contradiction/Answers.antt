@@ -19,7 +19,7 @@ before g c =
     let kept = c.in_ok-put_bad.ensures.kept in
     let selected = c.selected.ensures ∙ ap (λ (k : Kept). option_map (λ s. s.name) k.stands) kept in
     let placed = c.new-bad.ensures
-    ∙ ap (λ (name : Option Name). record { selected = name; position = c.args.position; asked = asked_at c.args.exchange.line; response = c.args.exchange.response }) selected in
+    ∙ ap (λ (name : Option Name). record { selected = name; position = c.args.position; asked = asked_at c.args.exchange.place; response = c.args.exchange.response }) selected in
     λ i. (kept i, placed i)
 
 -- so are the contradictions
@@ -44,7 +44,7 @@ returns-then-not-branch-clause-text g c facts refused =
     let old = c.args.self.now.text.items ++ title_of (kept_of c.args.self.now) in
     let lines = ap (λ (q : ℕ × Option (List ℕ) × List ℕ). old ++ front_lines q.0 Contradiction q.1 q.2 ++ place_lines c.args.self.now.bad stands)
     (λ i. (c.index.ensures.value i, c.line-line.ensures i, c.initial.ensures i)) in
-    told_reason c.args.self.now.bad stands pair.index Contradiction pair.line pair.initial _
+    told_reason c.args.self.now.bad stands pair.index Contradiction pair.place.line pair.initial _
     old c.put_bad.new.self.text.items [] false
     (sym c.if-not-branch.true ∙ c.in_ok-put_bad.ensures.told)
     (c.in_ok-put_bad.ensures.text ∙ lines ∙ sym (append-nil _))
@@ -100,7 +100,7 @@ returns-clause-text g c =
     on_ok c.tell_conflict.result c.tell_conflict.ensures.text c.tell_conflict.ensures.text
     (λ tells _ facts refused.
     let goes = tells facts (subst (λ (q : Kept × Placed). IsRefused q.0 facts q.1) (sym (before g (goal.at.returns-clause-text g c).After-new-bad)) refused) in
-    told_reason self.bad stands pair.index Contradiction pair.line pair.initial
+    told_reason self.bad stands pair.index Contradiction pair.place.line pair.initial
     (TellsNext (kept_of self) facts bad)
     old c.tell_conflict.new.self.text.items goes.0 true
     (sym c.if-not-branch.false ∙ c.in_ok-put_bad.ensures.told)

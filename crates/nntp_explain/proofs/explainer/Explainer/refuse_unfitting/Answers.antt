@@ -40,7 +40,7 @@ returns-in_ok-put_unfitting-clause-text g c =
     let told : _ ≡ reason (kept_of c.put_bad.new.self) =
     ap (λ (q : List Placed × List Cited × Response × Option Misfit). option_map_or (unfitting_lines c.put_bad.new.self.session q.0 q.1 q.2) q.3 [])
     (λ i. (placed i, told_by i, c.answer.ensures.value i, c.in_ok-reason.ensures i)) in
-    told_reason c.args.self.now.bad stands pair.index OutOfPlace pair.line pair.initial (λ r. r ≡ reason (kept_of c.args.self.now))
+    told_reason c.args.self.now.bad stands pair.index OutOfPlace pair.place.line pair.initial (λ r. r ≡ reason (kept_of c.args.self.now))
     old c.put_unfitting.new.text.items (reason (kept_of c.put_bad.new.self)) true
     (sym c.if-branch.true ∙ c.in_ok-put_bad.ensures.told)
     (c.in_ok-put_unfitting.ensures ∙ ap (λ r. c.put_bad.new.self.text.items ++ r) told ∙ ap (λ t. t ++ reason (kept_of c.put_bad.new.self)) (c.in_ok-put_bad.ensures.text ∙ lines))
@@ -53,7 +53,7 @@ returns-else-branch-clause-text g c =
     let old = c.args.self.now.text.items ++ title_of (kept_of c.args.self.now) in
     let lines = ap (λ (q : ℕ × Option (List ℕ) × List ℕ). old ++ front_lines q.0 OutOfPlace q.1 q.2 ++ place_lines c.args.self.now.bad stands)
     (λ i. (c.index.ensures.value i, c.line-line.ensures i, c.initial.ensures i)) in
-    told_reason c.args.self.now.bad stands pair.index OutOfPlace pair.line pair.initial (λ r. r ≡ unfitting_told (kept_of c.args.self.now) pair)
+    told_reason c.args.self.now.bad stands pair.index OutOfPlace pair.place.line pair.initial (λ r. r ≡ unfitting_told (kept_of c.args.self.now) pair)
     old c.put_bad.new.self.text.items [] false
     (sym c.if-branch.false ∙ c.in_ok-put_bad.ensures.told)
     (c.in_ok-put_bad.ensures.text ∙ lines ∙ sym (append-nil _))

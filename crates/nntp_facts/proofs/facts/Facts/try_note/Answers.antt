@@ -1,4 +1,4 @@
-use Rattle.std.proofs.{Common.{◌≡◌, Bool, true, false, map, Option, None, Some, is_some, refl, sym, ap, subst, ◌∙◌}, Math.Path.{ap₂}, lemmas.Bool.{true≢false}}
+use Rattle.std.proofs.{Common.{◌≡◌, true, false, map, Option, None, Some, is_some, refl, sym, ap, subst, ◌∙◌}, Math.Path.{ap₂}, lemmas.Bool.{true≢false}}
 use Rattle.std.specs.Prelude.{is_none}
 use Rattle.nntp_wire.specs.Inner.{View.{active_value, asked}, AnswerView.{response}}
 use Rattle.nntp_article.{specs.Session.Machine.{visible_after}, proofs.SessionLemmas.Misfits.{fits_by_reason}}

@@ -1,4 +1,4 @@
-use Rattle.std.proofs.Common.{List, [], ◌∷◌, ◌++◌, None, ◌+◌, map, take, take_all, sym, ap, subst, arith}
+use Rattle.std.proofs.Common.{[], ◌∷◌, ◌++◌, None, map, take, take_all, sym, subst, arith}
 use Rattle.nntp_wire.specs.{Listing.{ActiveValue}, Inner.View.{active_value}}
 use Rattle.nntp_article.proofs.SessionLemmas.LinesLeft.{one_more}
 use Rattle.nntp_said.specs.{Asks.{Bounds}, Facts.{GroupsAre}}

@@ -1,4 +1,4 @@
-use Rattle.std.proofs.{Common.{[], ◌∷◌, map, refl, sym, subst, ◌∙◌}, lemmas.List.{length-map}}
+use Rattle.std.proofs.{Common.{[], ◌∷◌, map, refl, sym, subst}, lemmas.List.{length-map}}
 use Rattle.nntp_wire.specs.Inner.View.{active_value}
 use Rattle.nntp_said.specs.Facts.{GroupsAre}
 use Rattle.nntp_facts.{specs.Inner.Kept.{IsKept}, proofs.Keeping.SaidOfArticles.{articles_kept}}

@@ -1,4 +1,4 @@
-use Rattle.std.{proofs.Common.{ℕ, List, ◌<◌, ◌^◌, length, refl, sym, subst, arith}, specs.Option.{option_copied}}
+use Rattle.std.proofs.Common.{ℕ, List, ◌<◌, ◌^◌, length, refl, sym, subst, arith}
 use Rattle.nntp_wire.specs.{Answer.{Spells}, Frame.{frame_octets}, Inner.AnswerView.{response}}
 use Rattle.nntp_pair.{specs.{Inner.Pairing.{IsSpelled}, Pairing.{asked_at}}, proofs.PairLemmas.{spelled}}
 use Rattle.nntp_pair.proofs.exchange.Exchange.new.Goals as goal
@@ -6,7 +6,7 @@ use Rattle.nntp_pair.proofs.exchange.Exchange.new.Goals as goal
 pub invariant_of-result : goal.invariant_of-result
 invariant_of-result c =
     let frame = c.args.frame.now in
-    let place = option_copied c.args.line in
+    let place = c.args.place in
     let small : length c.args.server.now < 2 ^ 64 = omega arith in
     let spells = subst (λ a. Spells a (response c.args.answer) (frame_octets frame.initial frame.block)) c.requires.prompt c.requires.answer in
     let both = spelled place c.args.server.now frame.initial frame.block _ (response c.args.answer) (asked_at place) refl c.requires.frame spells c.type_inv.server small in

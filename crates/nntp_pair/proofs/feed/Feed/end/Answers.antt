@@ -1,17 +1,22 @@
-use Rattle.std.{proofs.Common.{◌≢◌, ◌∙◌, ℕ, List, [], Option, MatchOption, refl, sym, ap, subst, rules}, specs.Prelude.{⊤}}
-use Rattle.nntp_wire.specs.Inner.Search.{IsFrameThrough}
-use Rattle.nntp_pair.specs.{Pairing.{Awaits, IsBad, HasNext}, Inner.{Feeding.{IsEnding, EndsForGood, left_of}, Searching.{left_from, IsForNext}}}
+use Rattle.std.{proofs.Common.{◌≢◌, ◌∙◌, length, [], MatchOption, refl, sym, ap, subst}, specs.Prelude.{⊤, nat_lt}}
+use Rattle.nntp_wire.specs.{Lines.{lines_of_stream}, Inner.Search.{IsFrameThrough}, Session.{taken}}
+use Rattle.nntp_pair.specs.{Pairing.{Awaits, IsBad, HasNext, Place}, Inner.{Feeding.{IsEnding, EndsForGood, left_of}, Searching.{left_from, IsForNext}}}
 use Rattle.nntp_pair.{specs.declared.class.PairClass.{PairClass}, proofs.{FeedLemmas.{is-empty, not-empty, cut-left, surplus-left}, PairLemmas.{lines-count}}}
 use Rattle.nntp_pair.proofs.feed.Feed.end.Goals.{in-Some, in-None}
 use Rattle.nntp_pair.specs.declared.ending.Ending.TheVariants as ending
 use Rattle.nntp_pair.proofs.feed.Feed.end.Goals as goal
 
 pub returns-then-is_empty : goal.returns-then-is_empty
-returns-then-is_empty g c = search (rules, is-empty, lines-count)
+returns-then-is_empty g c =
+    let sound = ap (λ fed. fed.has_failed) c.self.view_is ∙ c.requires.0 in
+    let none = sym c.as_slice.ensures ∙ is-empty c.as_slice.result.now (sym c.is_empty.ensures ∙ c.if-is_empty.true) in
+    let count = c.count_lines-unanswered.ensures ∙ ap (λ t. length (lines_of_stream t)) c.as_slice-then-is_empty.ensures
+    ∙ sym (lines-count (nat_lt 0 c.self.inside.index) (taken c.self.inside.overviews c.self.inside.client)) in
+    subst (λ fed. IsEnding fed (ending.End c.count_lines-unanswered.result)) c.self.view_is (sound, (none, count))
 
 pub returns : goal.returns
 returns g c =
-    let left = left_from c.self.inside.index c.self.inside.is_closed c.self.inside.client c.self.inside.server in
+    let left = left_from c.self.inside.index c.self.inside.is_closed (taken c.self.inside.overviews c.self.inside.client) c.self.inside.server in
     let sound = ap (λ fed. fed.has_failed) c.self.view_is ∙ c.requires.0 in
     let no_next = subst (λ fed. ¬ (HasNext (left_of fed))) (sym c.self.view_is) c.requires.1 in
     let no_good = subst (λ fed. (class : PairClass) → ¬ (EndsForGood class (left_of fed))) (sym c.self.view_is) c.requires.2 in
@@ -22,7 +27,7 @@ returns g c =
           let bad = subst (λ class. IsBad class left) (sym w.class-is) (is.place, is.awaits, cut-left left is.place is.awaits no_next no_good) in
           subst (λ fed. IsEnding fed (ending.Bad c.self.inside.index c.match-self.class)) c.self.view_is (sound, refl, (some, bad)))
       | in-None w ↦ (
-          let none = subst (λ f. MatchOption f ((place : Option (List ℕ)) → ¬ (Awaits left place)) (IsFrameThrough left.server)) w.in-None.is c.self.invariant.through.frame in
+          let none = subst (λ f. MatchOption f ((place : Place) → ¬ (Awaits left place)) (IsFrameThrough left.server)) w.in-None.is c.self.invariant.through.frame in
           let bad = subst (λ class. IsBad class left) (sym w.class-is) (surplus-left left none) in
           subst (λ fed. IsEnding fed (ending.Bad c.self.inside.index c.match-self.class)) c.self.view_is (sound, refl, (some, bad)))
     ]

@@ -1,11 +1,12 @@
-use Rattle.std.{proofs.Common.{false, refl, ◌∙◌}, specs.Option.{option_copied}}
+use Rattle.std.proofs.Common.{false, refl, ◌∙◌}
 use Rattle.nntp_pair.proofs.FeedLemmas.{begins-awaits}
+use Rattle.nntp_wire.specs.Session.{taken}
 use Rattle.nntp_pair.proofs.searches.Searches.begin_frame.Goals as goal
 
 pub returns : goal.returns
 returns c = λ server. record {
-  place = option_copied c.in_ok-line.line;
-  awaits = begins-awaits c.args.index false c.args.client.now server (option_copied c.in_ok-line.line) c.in_ok-line.field-0-1.now refl c.in_ok-line.ensures;
-  kind = c.new.ensures.kind ∙ c.kind_at.ensures;
+  place = c.in_ok-place.place;
+  awaits = begins-awaits c.args.index false (taken c.args.overviews c.args.client.now) server c.in_ok-place.place c.in_ok-place.field-0-1.now refl c.in_ok-place.ensures;
+  kind = c.new.ensures.kind ∙ c.kind.ensures;
   searched = c.new.ensures.searched server;
 }

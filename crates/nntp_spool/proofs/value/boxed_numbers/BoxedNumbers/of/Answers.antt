@@ -1,5 +1,4 @@
-use Rattle.std.proofs.{Common.{◌≡◌, ℕ, Bool, true, false, Option, None, Some, is_some, not, ap, sym, ◌∙◌}, lemmas.Bool.{true≢false}}
-use Rattle.std.specs.Cmp.{nat_cmp_total}
+use Rattle.std.{proofs.{Common.{◌≡◌, ℕ, false, Option, None, Some, is_some, not, ap, sym, ◌∙◌}, lemmas.Bool.{true≢false}}, specs.Cmp.{nat_cmp_total}}
 use Rattle.nntp_article.specs.{Inner.Spool.{IsFirst}, Session.Spool.{Numbers}}
 use Rattle.std.specs.FinMap as map
 use Rattle.nntp_spool.proofs.value.boxed_numbers.BoxedNumbers.of.Goals as goal
