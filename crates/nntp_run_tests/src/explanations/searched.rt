@@ -5,7 +5,7 @@ use std::alloc::{AllocError, Global};
 use std::test::Fail;
 
 /// A group, and so many ids that are denied, in both streams; with the greeting these are two answers more.
-fn denied(alloc: Global, ids: u64) -> Result<(String, String), AllocError> {
+fn denied(alloc: Global, ids: u32) -> Result<(String, String), AllocError> {
     let mut client = String::from_str(alloc, "GROUP g\r\n")?;
     let mut server = String::from_str(alloc, "200 hi\r\n211 9 1 9 g\r\n")?;
     for k in 1..=ids {
@@ -20,7 +20,7 @@ fn denied(alloc: Global, ids: u64) -> Result<(String, String), AllocError> {
 fn shown(
     alloc: Global,
     (client, server): (&mut String, &mut String),
-    id: u64,
+    id: u32,
 ) -> Result<(), AllocError> {
     let line = format!(in alloc; "STAT <{id}@x>\r\n")?;
     client.push_str(line.as_str())?;
@@ -29,7 +29,7 @@ fn shown(
 }
 
 /// Adds what is printed of that answer before its reasons.
-fn shown_told(alloc: Global, report: &mut String, index: u64, id: u64) -> Result<(), AllocError> {
+fn shown_told(alloc: Global, report: &mut String, index: u64, id: u32) -> Result<(), AllocError> {
     let lines = format!(in alloc;
         "bad answer {index} Contradiction\ncommand STAT <{id}@x>\nanswer 223 0 <{id}@x>\nin g since 1 at first\n\
         about article <{id}@x>\nsays article <{id}@x>\n"
@@ -38,10 +38,10 @@ fn shown_told(alloc: Global, report: &mut String, index: u64, id: u64) -> Result
 }
 
 /// Adds the answer that denied the id, as its reason.
-fn denied_told(alloc: Global, report: &mut String, id: u64) -> Result<(), AllocError> {
+fn denied_told(alloc: Global, report: &mut String, id: u32) -> Result<(), AllocError> {
     let lines = format!(in alloc;
         "because answer {}\ncommand STAT <{id}@x>\nanswer 430 no\nin g since 1 at first\nsays no article <{id}@x>\n",
-        id + 1
+        u64::from(id) + 1
     )?;
     Ok(report.push_str(lines.as_str())?)
 }
@@ -50,19 +50,22 @@ fn denied_told(alloc: Global, report: &mut String, id: u64) -> Result<(), AllocE
 fn reasons_are_looked_for_below_a_product(rt: HostRuntime) -> Result<(), Fail> {
     let alloc = rt.alloc();
     // 250 answers are accepted: 79 times as many are 19,750, and 80 times as many are 20,000.
-    for count in [80, 81] {
+    for count in [80u32, 81] {
         let (mut client, mut server) = denied(alloc, 248)?;
         let mut report = String::new(alloc);
         for id in 1..=count {
             shown(alloc, (&mut client, &mut server), id)?;
-            shown_told(alloc, &mut report, 249 + id, id)?;
+            shown_told(alloc, &mut report, 249 + u64::from(id), id)?;
             if id <= 80 {
                 denied_told(alloc, &mut report, id)?;
             } else {
                 report.push_str("because some of 0 to 249\n")?;
             }
         }
-        let last = format!(in alloc; "end answers={} bad={count} unanswered=0\n", 250 + count)?;
+        let last = format!(in alloc;
+            "end answers={} bad={count} unanswered=0\n",
+            250 + u64::from(count)
+        )?;
         report.push_str(last.as_str())?;
         let streams = (client.as_str(), server.as_str());
         expect_told(&rt, alloc, streams, report.as_str())?;
@@ -77,7 +80,7 @@ fn what_takes_no_search_is_told_beyond_it(rt: HostRuntime) -> Result<(), Fail> {
     let mut report = String::new(alloc);
     for id in 1..=80 {
         shown(alloc, (&mut client, &mut server), id)?;
-        shown_told(alloc, &mut report, 249 + id, id)?;
+        shown_told(alloc, &mut report, 249 + u64::from(id), id)?;
         denied_told(alloc, &mut report, id)?;
     }
     // The first of them again, and one that contradicts itself.
@@ -102,7 +105,7 @@ fn reasons_of_three_are_looked_for_in_any_case(rt: HostRuntime) -> Result<(), Fa
     let mut report = String::new(alloc);
     for id in 1..=4 {
         shown(alloc, (&mut client, &mut server), id)?;
-        shown_told(alloc, &mut report, 9999 + id, id)?;
+        shown_told(alloc, &mut report, 9999 + u64::from(id), id)?;
         if id <= 3 {
             denied_told(alloc, &mut report, id)?;
         } else {
