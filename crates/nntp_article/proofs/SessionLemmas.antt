@@ -1,6 +1,4 @@
 pub mod LeastNumber
-pub mod FiniteMapsDecided
-pub mod AgreementDecided
 pub mod Examples
 pub mod ClosingAnswers
 pub mod AscendingNumbers

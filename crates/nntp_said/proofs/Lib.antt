@@ -1,4 +1,6 @@
 pub mod CurrentArticle
 pub mod FactsHold
+pub mod FiniteMapsDecided
+pub mod PermittingDecided
 pub mod PlacedIds
 pub mod Rows

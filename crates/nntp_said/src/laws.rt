@@ -1,10 +1,10 @@
 //! Laws that follow from the definitions alone.
-ghost use Rattle.std.specs.Prelude.{◌↔◌, List};
+ghost use Rattle.std.specs.Prelude.{◌↔◌, ◌⊎◌, List};
 ghost use Rattle.std.specs.List.{AllByRecursion};
 ghost use Rattle.nntp_wire.specs.Answer.{Asked, Response};
 ghost use Rattle.nntp_article.specs.Session.Spool.{Spool};
 ghost use Rattle.nntp_article.specs.declared.session.profile.Profile.{Profile};
-ghost use Rattle.nntp_article.specs.Session.Machine.{Run, start};
+ghost use Rattle.nntp_article.specs.Session.Machine.{Run, State, start};
 ghost use Rattle.nntp_said.specs.Inner.Asks.{RunsAt};
 ghost use Rattle.nntp_said.specs.Inner.Facts.{FitsAll};
 ghost use Rattle.nntp_said.specs.Facts.{Holds, facts_from};
@@ -22,4 +22,10 @@ pub fn permitted_by_facts()
     ensures { (profile : Profile) (S : Spool) (prompts : List Asked) (answers : List Response)
         → RunsAt profile S start.visible Nowhere prompts answers
         ↔ (FitsAll profile start.visible prompts answers × AllByRecursion (Holds S) (facts_from profile.marks start.visible Nowhere prompts answers)) }
+{}
+
+/// A spool permits the answers to these prompts from this state on, or it doesn't.
+pub fn permitting_is_decided()
+    ensures { (profile : Profile) (S : Spool) (s : State) (prompts : List Asked) (answers : List Response)
+        → Run profile S s prompts answers ⊎ (Run profile S s prompts answers → ⊥) }
 {}

@@ -2,8 +2,7 @@
 use Rattle.std.proofs.Common.{◌≡◌, ◌+◌, ◌≤◌, suc, length, length-append, map, ap, arith, Bool, ◌⊎◌, IsTrue, List, [], ◌∷◌, ◌++◌, Option, None, Some, inl, inr}
 use Rattle.std.proofs.{Common.{refl, sym, subst, ◌∙◌}, lemmas.{Bool.{or_left, or_right, or_cases, and_from, and_parts}, List.Folds.{list_any-append}}}
 use Rattle.std.specs.{List.{AllByRecursion, list_any, list_all, flat_map}, Prelude.{Contains}, Option.{option_or}}
-use Rattle.nntp_article.proofs.SessionLemmas.FiniteMapsDecided.{Dec}
-use Rattle.nntp_said.specs.Facts.{Fact}
+use Rattle.nntp_said.{proofs.FiniteMapsDecided.{Dec}, specs.Facts.{Fact}}
 use Rattle.nntp_theory.specs.Given.{first_given}
 
 -- x is an element of xs

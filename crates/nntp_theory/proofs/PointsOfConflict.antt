@@ -4,9 +4,9 @@ use Rattle.std.proofs.{Common.{sym, ap, subst, ◌∙◌, arith}, lemmas.Bool.{t
 use Rattle.std.{proofs.lemmas.Bool.{false_from_ne_true, cases_lt}, specs.{Prelude.{IsFalse, IfSome, ⊤, not}, List.{AllByRecursion, list_any, flat_map}}}
 use Rattle.std.specs.Cmp.Lexicographic.{same_text}
 use Rattle.nntp_wire.specs.declared.{command.What.{What}, marks.Marks.{Marks, TheVariants.{Lenient}}}
-use Rattle.nntp_article.{proofs.SessionLemmas.FiniteMapsDecided.{Dec, dec_some, dec_texts, dec_lists}, specs.{Article.Parts.{Id, Line}, Session.Spool.{Name}}}
-use Rattle.nntp_article.specs.{Session.{Spool.{Numbers, numbers}, Machine.{is_same}}, declared.session.profile.Profile.{Profile}}
-use Rattle.nntp_said.specs.{Asks.{Ask}, Facts.{Fact, ThereIs, IdAt, TextIs, GroupsAre}}
+use Rattle.nntp_article.specs.{Article.Parts.{Id, Line}, Session.{Spool.{Name, Numbers, numbers}, Machine.{is_same}}}
+use Rattle.nntp_article.specs.declared.session.profile.Profile.{Profile}
+use Rattle.nntp_said.{proofs.FiniteMapsDecided.{Dec, dec_some, dec_texts, dec_lists}, specs.{Asks.{Ask}, Facts.{Fact, ThereIs, IdAt, TextIs, GroupsAre}}}
 use Rattle.nntp_theory.specs.Given.{asks_of, is_shown_group, shows_group, first_given, id_in, head_in, body_in, is_known, is_denied, demand, IsGivenNumber}
 use Rattle.nntp_theory.specs.{Given.{HasGivenNumbers}, Inner.{Given.{size}, Together.{IsWellFormed, Together}, Conflict.{FitsThere}}, Together.{is_possible}}
 use Rattle.nntp_theory.specs.{Together.{MeetsDemand, IsFewFor, denies_group, number_in, shows_article, denies_article, GiveOne}, Conflict.{Placed, told}}

@@ -5,9 +5,8 @@ use Rattle.std.specs.{Prelude.{unwrap_or}, List.{AllByRecursion, list_any, Sorte
 use Rattle.std.specs.{Ordering.{nat_cmp}, Cmp.{nat_cmp_total, Lexicographic.{slice_cmp, nat_list_cmp_total, same_text}}, FinMap.{get, empty, keys, get-empty}}
 use Rattle.std.specs.FinMap.{same_map, nat_cmp-IsAntisymmetric}
 use Rattle.nntp_wire.{proofs.OptionLemmas.{none_of}, specs.{Limit.{greatest}, declared.limit.Limit.{Limit}}}
-use Rattle.nntp_article.{proofs.SessionLemmas.FiniteMapsDecided.{dec_texts}, specs.{Article.Parts.{Id}, Session.{Machine.{is_same}, Spool.{Spool, Name}}}}
-use Rattle.nntp_article.specs.Session.Spool.{Numbers, IsNumber, IsSpool, numbers}
-use Rattle.nntp_said.specs.Facts.{Fact}
+use Rattle.nntp_article.specs.{Article.Parts.{Id}, Session.{Machine.{is_same}, Spool.{Spool, Name, Numbers, IsNumber, IsSpool, numbers}}}
+use Rattle.nntp_said.{proofs.FiniteMapsDecided.{dec_texts}, specs.Facts.{Fact}}
 use Rattle.nntp_theory.{specs.Given.{id_shown, IsGiven}, proofs.{Maps.{key_of, of_key}, Members.{In, all_at, all_from, any_in, in_map, from_map}}}
 use Rattle.nntp_facts.specs.Inner.Readers.{ShownGroup}
 use Rattle.nntp_spool.specs.{Inner.Building.{Building, Builds, group_fault}, Content.{with_group}, declared.value.spool_fault.SpoolFault.{SpoolFault}}

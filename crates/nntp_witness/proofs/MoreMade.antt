@@ -3,9 +3,8 @@ use Rattle.std.proofs.Common.{◌≡◌, ◌≢◌, ◌⊎◌, ℕ, Bool, true, 
 use Rattle.std.specs.{Prelude.{unwrap_or}, declared.cmp.Ordering.{Ordering}, Ordering.{nat_cmp, eq_by_cmp}, Cmp.{IsTotalOrder, nat_cmp_total, Equal-is}}
 use Rattle.std.specs.{Cmp.Lexicographic.{slice_cmp, nat_list_cmp_total}, FinMap.{FinMap, get, insert, empty, get-insert, get-empty, IsAntisymmetric}}
 use Rattle.std.specs.FinMap.{nat_cmp-IsAntisymmetric}
-use Rattle.nntp_article.{proofs.SessionLemmas.FiniteMapsDecided.{dec_texts}, specs.{Article.Parts.{Id}, Session.Spool.{Spool, Name, Numbers, Text, IsGroup}}}
-use Rattle.nntp_article.specs.Session.Spool.{numbers}
-use Rattle.nntp_said.specs.Facts.{Fact}
+use Rattle.nntp_article.specs.{Article.Parts.{Id}, Session.Spool.{Spool, Name, Numbers, Text, IsGroup, numbers}}
+use Rattle.nntp_said.{proofs.FiniteMapsDecided.{dec_texts}, specs.Facts.{Fact}}
 use Rattle.nntp_theory.specs.Given.{id_shown}
 use Rattle.nntp_spool.{specs.Content.{with_group}, proofs.{MapEntries.{tied_itself, got_more}, ShownMaps.{octet_keys}}}
 use Rattle.nntp_witness.specs.Inner.Making.{IsPart}

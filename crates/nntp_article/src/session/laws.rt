@@ -1,9 +1,9 @@
 //! Laws of the machine's definitions alone.
-ghost use Rattle.std.specs.Prelude.{◌≡◌, ◌≤◌, ◌↔◌, ◌==◌, ℕ, IsTrue, IsFalse, ◌⊎◌, List, None, Some, MatchOption};
+ghost use Rattle.std.specs.Prelude.{◌≡◌, ◌≤◌, ◌↔◌, ◌==◌, ℕ, IsTrue, IsFalse, List, None, Some, MatchOption};
 ghost use Rattle.nntp_article.specs.Session.Spool.{Name, Spool, Numbers, least};
 ghost use Rattle.nntp_article.specs.Inner.Spool.{IsFirst};
 ghost use Rattle.nntp_article.specs.declared.session.profile.Profile.{Profile};
-ghost use Rattle.nntp_article.specs.Session.Machine.{Visible, State, is_one_of, is_same, is_article_number, fits, Permits, Run};
+ghost use Rattle.nntp_article.specs.Session.Machine.{Visible, State, is_one_of, is_same, is_article_number, fits, Permits};
 ghost use Rattle.nntp_article.specs.Article.Parts.{Id, said_id};
 ghost use Rattle.nntp_article.specs.Session.Misfit.{misfit, wrong_code, wrong_name, wrong_number, wrong_id, below_low, wrong_marks, beyond_limit, not_above};
 ghost use Rattle.nntp_article.specs.Session.Misfit.{beyond_range, unmatched, listed_twice, no_head, other_id};
@@ -33,12 +33,6 @@ pub fn new_state_is_determined()
 /// has no first one.
 pub fn first_is_least()
     ensures { (N : Numbers) → IsFirst N (least N) }
-{}
-
-/// A spool permits the answers to these prompts from this state on, or it doesn't.
-pub fn permitting_is_decided()
-    ensures { (profile : Profile) (S : Spool) (s : State) (prompts : List Asked) (answers : List Response)
-        → Run profile S s prompts answers ⊎ (Run profile S s prompts answers → ⊥) }
 {}
 
 /// A reason is given exactly for the answers that don't fit.

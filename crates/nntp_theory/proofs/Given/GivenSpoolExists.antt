@@ -1,8 +1,7 @@
 -- What stands together is given a spool, and whether some spool permits a session is decided.
 use Rattle.std.proofs.Common.{◌<◌, ◌^◌, ◌⊎◌, List, inl, inr, arith}
-use Rattle.nntp_article.{proofs.SessionLemmas.{FiniteMapsDecided.{Dec, dec_both}, AgreementDecided.{dec_run}}, specs.Session.Spool.{Spool, IsSpool}}
-use Rattle.nntp_article.specs.{Session.Machine.{Run, start}, declared.session.profile.Profile.{Profile}}
-use Rattle.nntp_said.specs.Inner.Facts.{FitsAll}
+use Rattle.nntp_article.specs.{Session.{Spool.{Spool, IsSpool}, Machine.{Run, start}}, declared.session.profile.Profile.{Profile}}
+use Rattle.nntp_said.{proofs.{FiniteMapsDecided.{Dec, dec_both}, PermittingDecided.{dec_run}}, specs.Inner.Facts.{FitsAll}}
 use Rattle.nntp_theory.{specs.{Given.{IsGiven, facts_of_session}, Inner.Given.{size}}, proofs.Given.GivenPermits.{stands, given_permits}}
 use Rattle.nntp_theory.proofs.Given.{ConstructedSpool.{made}, GivenHasFacts.{given_of_facts}, SpoolsDecided.{dec_spool}}
 use Rattle.nntp_theory.proofs.Session.{NumbersOfShownGroups.{session_placed}, FittingFacts.{session_fitting}}

@@ -1,9 +1,8 @@
 -- Several sessions by what they say: a spool permits each of them exactly if they fit and it has all their facts; so some spool permits them exactly if they fit and all of it stands together.
 use Rattle.std.{proofs.Common.{◌<◌, ◌^◌, ◌⊎◌, ◌↔◌, List, [], ◌∷◌, inl, inr, arith}, specs.List.{AllByRecursion}}
-use Rattle.nntp_article.{proofs.SessionLemmas.{FiniteMapsDecided.{Dec, dec_both}, AgreementDecided.{dec_run}}, specs.Session.Spool.{Spool, IsSpool}}
-use Rattle.nntp_article.specs.{Session.Machine.{start}, declared.session.profile.Profile.{Profile}}
-use Rattle.nntp_said.{specs.{declared.position.Position.TheVariants.{Nowhere}, Facts.{Fact, Holds}}, proofs.CurrentArticle.{run_from}}
-use Rattle.nntp_said.proofs.FactsHold.{run_of_facts}
+use Rattle.nntp_article.specs.{Session.{Spool.{Spool, IsSpool}, Machine.{start}}, declared.session.profile.Profile.{Profile}}
+use Rattle.nntp_said.proofs.{FiniteMapsDecided.{Dec, dec_both}, PermittingDecided.{dec_run}, CurrentArticle.{run_from}, FactsHold.{run_of_facts}}
+use Rattle.nntp_said.specs.{declared.position.Position.TheVariants.{Nowhere}, Facts.{Fact, Holds}}
 use Rattle.nntp_theory.specs.{Given.{IsGiven, HasAtLeast}, Inner.{Given.{size}, Permits.{SomePermits}, Together.{Together}, Answered.{FitEach}}}
 use Rattle.nntp_theory.{specs.Answered.{Answered, PermitsEach, SomePermitsEach, facts_in, facts_of_all}, proofs.Members.{all_from, all_both, all_front}}
 use Rattle.nntp_theory.proofs.{Members.{all_back}, Session.{FittingFacts.{IsFitting, session_fitting}, NumbersOfShownGroups.{Among, Placed, placed_among}}}

@@ -3,7 +3,7 @@ use Rattle.std.proofs.{Common.{◌≡◌, ℕ, ◌≤◌, IsTrue, ◌++◌, Opti
 use Rattle.std.{proofs.lemmas.List.Elements.{recursion_from_All, All-from_recursion}, specs.{Prelude.{unwrap_or}, declared.cmp.Ordering.{Ordering}}}
 use Rattle.std.specs.{List.{AllByRecursion}, Cmp.{IsTotalOrder, nat_cmp_total, Lexicographic.{nat_list_cmp_total}}, FinMap.{FinMap, get, entries, empty}}
 use Rattle.std.specs.FinMap.{IsAntisymmetric, nat_cmp-IsAntisymmetric}
-use Rattle.nntp_article.proofs.SessionLemmas.FiniteMapsDecided.{Dec, dec_true, dec_le, dec_both, dec_three, dec_by, dec_to, dec_texts}
+use Rattle.nntp_said.proofs.FiniteMapsDecided.{Dec, dec_true, dec_le, dec_both, dec_three, dec_by, dec_to, dec_texts}
 use Rattle.nntp_article.specs.{Article.Parts.{is_head, said_id, Id}, Session.Spool.{Spool, Text, Numbers, numbers, IsSpool, Name, is_line}}
 use Rattle.nntp_theory.proofs.{Members.{all_at, all_from, dec_each_in}, Given.{GivenHolds.{group_of_number}, ConstructedSpool.{names_apart}}, Maps.{get_in}}
 use Rattle.nntp_theory.proofs.Maps.{in_get}

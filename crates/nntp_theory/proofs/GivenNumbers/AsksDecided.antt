@@ -3,13 +3,12 @@ use Rattle.std.proofs.{Common.{◌≡◌, ℕ, Bool, true, false, ◌||◌, ◌=
 use Rattle.std.{proofs.lemmas.Bool.{not-true, not-false, eqb-true, eq-eqb, leb-true, le-leb, or_cases, or_left, or_right, cases_lt}, specs.Prelude.{not}}
 use Rattle.std.specs.{Prelude.{nat_le, IsFalse}, List.{AllByRecursion, list_all}, Cmp.{nat_cmp_total}, FinMap.{get, len, keys, contains_key-keys}}
 use Rattle.std.specs.FinMap.{nat_cmp-IsAntisymmetric}
-use Rattle.nntp_article.{proofs.SessionLemmas.FiniteMapsDecided.{Dec, dec_true, dec_by, dec_all, each_key, passes, fails}, specs.Session.Spool.{Numbers}}
-use Rattle.nntp_article.specs.Session.Spool.{IsNumber}
+use Rattle.nntp_article.specs.Session.Spool.{Numbers, IsNumber}
+use Rattle.nntp_said.{proofs.FiniteMapsDecided.{Dec, dec_true, dec_by, dec_all, each_key, passes, fails}, specs.Asks.{Ask}}
 use Rattle.nntp_theory.specs.{declared.demand.Demand.{Demand, TheVariants.{NoDemand, NotEmpty, OnlyOne, SecondIs, Impossible}}, Given.{demand, is_known}}
 use Rattle.nntp_theory.specs.{Given.{is_denied, IsGivenNumber, HasGivenNumbers}, Together.{MeetsDemand, IsFewFor}, Conflict.{AreTooMany}}
 use Rattle.nntp_theory.proofs.{Members.{all_at, all_from}, GivenNumbers.{LeastNumber.{Empty, Begins, firsts}, GivenNumbersMeet.{same_demand}}}
 use Rattle.nntp_theory.proofs.GivenNumbers.CountOfGivenNumbers.{as_many_given}
-use Rattle.nntp_said.specs.Asks.{Ask}
 
 -- whether the numbers meet a demand
 dec_demand : (N : Numbers) (d : Demand) → Dec (MeetsDemand d (IsNumber N))

@@ -1,0 +1,173 @@
+-- Whether a spool permits a session can be decided.
+use Rattle.std.proofs.Common.{◌≡◌, ℕ, suc, ◌↔◌, ◌≤◌, Bool, true, false, ◌&&◌, ◌||◌, IsTrue, Option, None, Some, is_some, IsSome, MatchOption, List, [], ◌∷◌}
+use Rattle.std.proofs.{Common.{map, inl, inr, refl, sym, ap, ◌∙◌, arith}, lemmas.Bool.{and_parts, and_from, leb-true, le-leb, or_cases, or_left, or_right}}
+use Rattle.std.proofs.lemmas.{Bool.{cases_lt, cases_eq, true≢false}, Map.Views.{Contains-from_any, list_any-from_Contains, tells_apart}}
+use Rattle.std.proofs.lemmas.{Map.Lookups.{exact_unsigned, exact_bytes, CmpEqualImpliesEq}, List.Elements.{recursion_from_All, All-from_recursion}}
+use Rattle.std.specs.{Prelude.{nat_le, IfSome, Contains, option_map}, List.{list_any, list_all}, Ordering.{eq_by_cmp}, Cmp.{IsTotalOrder, nat_cmp_total}}
+use Rattle.std.specs.{Cmp.{eq_by_cmp_equiv, Lexicographic.{nat_list_cmp_total}}, FinMap.{FinMap, get, len, IsAntisymmetric, nat_cmp-IsAntisymmetric}}
+use Rattle.std.specs.{FinMap.{slice_cmp-IsAntisymmetric}, declared.cmp.Ordering.{Ordering}}
+use Rattle.nntp_article.specs.Session.Spool.{Spool, Numbers, IsNumber, numbers, IsNextAbove, IsNextBelow, NoneAbove, NoneBelow, Lists, IsInRange, text_of}
+use Rattle.nntp_article.specs.Session.Machine.{Visible, State, AreEnds, Bound, ActivesAgree, Run, fits, visible_after}
+use Rattle.nntp_article.specs.declared.session.profile.Profile.{Profile}
+use Rattle.nntp_said.specs.Asks.{Ask, Estimates, Bounds, ListsIn, Has, Lacks, StandsAt, StandsNowhere, StepsUp, StepsDown, IsTop, IsBottom, Meets, current_in}
+use Rattle.nntp_said.specs.{declared.position.Position.{Position, TheVariants.{Nowhere, Known}}, Inner.{Asks.{state_at}, Facts.{FitsAll}}, Facts.{Fact}}
+use Rattle.nntp_said.{specs.Facts.{ThereIs, ThereIsNo, Asks, IdAt, TextIs, NoArticle, GroupsAre, Holds, facts_from}, proofs.CurrentArticle.{read_off, run_from}}
+use Rattle.nntp_said.proofs.{FactsHold.{permits_by_facts}, FiniteMapsDecided.{Dec, dec_true, dec_le, dec_both, dec_three, dec_by, dec_none, dec_some_text}}
+use Rattle.nntp_said.proofs.FiniteMapsDecided.{each_key, dec_some, dec_option, dec_lists, dec_to, passes, fails, dec_all}
+use Rattle.nntp_wire.specs.{Answer.{Asked, Response}, declared.{water_marks.WaterMarks.{WaterMarks}, marks.Marks.{Marks, TheVariants.{Lenient, Strict}}}}
+use Rattle.nntp_wire.specs.{declared.range.Range.{Range}, Listing.{ActiveValue}, Wildmat.{MatchesName}, Decided.{matches_name}}
+use Rattle.nntp_wire.proofs.{DecidedLemmas.{matches_name-iff}, OptionLemmas.{none_of}}
+
+each_number : (N : Numbers) (p : ℕ → Bool) → Dec ((n : ℕ) → IsNumber N n → IsTrue (p n))
+each_number N p = each_key nat_cmp_total nat_cmp-IsAntisymmetric p N
+
+not_some : {A : Type 0} (o : Option A) → o ≡ None → IsSome o → ⊥
+not_some o e h = true≢false (sym h ∙ ap is_some e)
+
+dec_none_above : (N : Numbers) (c : ℕ) → Dec (NoneAbove N c)
+dec_none_above N c =
+    dec_by (λ h m l. none_of (get N m) (λ i. let a = leb-true m c (h m i) in omega arith))
+    (λ h m i. elim (cases_lt c m) [ inl l ↦ absurd (not_some (get N m) (h m l) i) | inr g ↦ le-leb m c g ])
+    (each_number N (λ m. nat_le m c))
+
+dec_none_below : (N : Numbers) (c : ℕ) → Dec (NoneBelow N c)
+dec_none_below N c =
+    dec_by (λ h m l. none_of (get N m) (λ i. let a = leb-true c m (h m i) in omega arith))
+    (λ h m i. elim (cases_lt m c) [ inl l ↦ absurd (not_some (get N m) (h m l) i) | inr g ↦ le-leb c m g ])
+    (each_number N (λ m. nat_le c m))
+
+dec_ends : (marks : Marks) (N : Numbers) (m : WaterMarks) → Dec (AreEnds marks N m)
+dec_ends Lenient N m = inl tt
+dec_ends Strict N m =
+    dec_by (λ h n i. and_parts (is_some (get N m.low)) (is_some (get N m.high)) (h n i))
+    (λ h n i. and_from (is_some (get N m.low)) (is_some (get N m.high)) (h n i).0 (h n i).1)
+    (each_number N (λ n. is_some (get N m.low) && is_some (get N m.high)))
+
+dec_between : (N : Numbers) (low high : ℕ) → Dec ((n : ℕ) → IsNumber N n → (low ≤ n) × (n ≤ high))
+dec_between N low high =
+    dec_by (λ h n i. let p = and_parts (nat_le low n) (nat_le n high) (h n i) in (leb-true low n p.0, leb-true n high p.1))
+    (λ h n i. and_from (nat_le low n) (nat_le n high) (le-leb low n (h n i).0) (le-leb n high (h n i).1))
+    (each_number N (λ n. nat_le low n && nat_le n high))
+
+dec_bound : (marks : Marks) (N : Numbers) (m : WaterMarks) → Dec (Bound marks N m)
+dec_bound marks N m = dec_three (dec_le (len N) m.estimate) (dec_between N m.low m.high) (dec_ends marks N m)
+
+dec_next_above : (N : Numbers) (c n : ℕ) → Dec (IsNextAbove N c n)
+dec_next_above N c n =
+    dec_three (dec_le (suc c) n) (dec_true (is_some (get N n)))
+    (dec_by (λ h m l i. elim (or_cases (nat_le m c) (nat_le n m) (h m i)) [ inl a ↦ (let b = leb-true m c a in absurd (omega arith)) | inr a ↦ leb-true n m a ])
+    (λ h m i. elim (cases_lt c m) [ inl l ↦ or_right (nat_le m c) (nat_le n m) (le-leb n m (h m l i)) | inr g ↦ or_left (nat_le m c) (nat_le n m) (le-leb m c g) ])
+    (each_number N (λ m. nat_le m c || nat_le n m)))
+
+dec_match : (o : Option ℕ) (Q : ℕ → Type 0) → ((c : ℕ) → Dec (Q c)) → Dec (MatchOption o ⊥ Q)
+dec_match o Q d = grind arith
+
+dec_next_below : (N : Numbers) (c n : ℕ) → Dec (IsNextBelow N c n)
+dec_next_below N c n =
+    dec_three (dec_le (suc n) c) (dec_true (is_some (get N n)))
+    (dec_by (λ h m l i. elim (or_cases (nat_le c m) (nat_le m n) (h m i)) [ inl a ↦ (let b = leb-true c m a in absurd (omega arith)) | inr a ↦ leb-true m n a ])
+    (λ h m i. elim (cases_lt m c) [ inl l ↦ or_right (nat_le c m) (nat_le m n) (le-leb m n (h m l i)) | inr g ↦ or_left (nat_le c m) (nat_le m n) (le-leb c m g) ])
+    (each_number N (λ m. nat_le c m || nat_le m n)))
+
+dec_if_some : {A : Type 0} (o : Option A) {Q : A → Type 0} → ((x : A) → Dec (Q x)) → Dec (IfSome o Q)
+dec_if_some o d = grind arith
+
+dec_in_range : (r : Range) (n : ℕ) → Dec (IsInRange r n)
+dec_in_range r n = dec_both (dec_le r.first n) (dec_if_some r.last (dec_le n))
+
+abbrev test_of : {P : Type 0} → Dec P → Bool
+test_of (inl p) = true
+test_of (inr p) = false
+
+from_test : {P : Type 0} (d : Dec P) → IsTrue (test_of d) → P
+from_test d h = grind arith
+
+to_test : {P : Type 0} (d : Dec P) → P → IsTrue (test_of d)
+to_test d h = grind arith
+
+module _ {K : Type 0} {R : K → K → Ordering} (o : IsTotalOrder R) (exact : CmpEqualImpliesEq R) where
+  among : (ns : List K) (n : K) → Dec (Contains ns n)
+  among ns n = by (list_any (eq_by_cmp R n) ns) refl
+    where
+      by : (b : Bool) → list_any (eq_by_cmp R n) ns ≡ b → Dec (Contains ns n)
+      by true e = inl (Contains-from_any (tells_apart exact) n ns e)
+      by false e = inr (λ h. true≢false (sym (list_any-from_Contains (eq_by_cmp_equiv o) n ns h) ∙ e))
+
+  -- each of the listed passes the test, or one doesn't
+  each_listed : IsAntisymmetric R → (ns : List K) (p : K → Bool) → Dec ((n : K) → Contains ns n → IsTrue (p n))
+  each_listed same ns p = by (list_all p ns) refl
+    where
+      by : (b : Bool) → list_all p ns ≡ b → Dec ((n : K) → Contains ns n → IsTrue (p n))
+      by true e = inl (λ n h. passes o same p ns n e (list_any-from_Contains (eq_by_cmp_equiv o) n ns h))
+      by false e = inr (λ h. let f = fails o same p ns e in true≢false (sym (h f.0 (Contains-from_any (tells_apart exact) f.0 ns f.2)) ∙ f.1))
+
+-- the listed keys are those that have the property: the keys of the map that pass the test
+dec_same_keys : {K X : Type 0} {R : K → K → Ordering} (o : IsTotalOrder R) (same : IsAntisymmetric R)
+    (exact : CmpEqualImpliesEq R) (m : FinMap R X) (P : K → Type 0) → ((q : K) → Dec (P q)) → (ks : List K)
+    → Dec ((q : K) → Contains ks q ↔ (IsSome (get m q) × P q))
+dec_same_keys o same exact m P d ks =
+    dec_by
+    (λ h q. (λ c. from_test (dec_both (dec_true (is_some (get m q))) (d q)) (h.0 q c), λ i. from_test (dec_to (d q) (among o exact ks q)) (h.1 q i.0) i.1))
+    (λ h. (λ q c. to_test (dec_both (dec_true (is_some (get m q))) (d q)) ((h q).0 c), λ q i. to_test (dec_to (d q) (among o exact ks q)) (λ g. (h q).1 (i, g))))
+    (dec_both (each_listed o exact same ks (λ q. test_of (dec_both (dec_true (is_some (get m q))) (d q)))) (each_key o same (λ q. test_of (dec_to (d q) (among o exact ks q))) m))
+
+dec_listing : (N : Numbers) (r : Range) (ns : List ℕ) → Dec (Lists N r ns)
+dec_listing N r ns = dec_same_keys nat_cmp_total nat_cmp-IsAntisymmetric exact_unsigned N (IsInRange r) (dec_in_range r) ns
+
+dec_matched : (p : Option (List ℕ)) (name : List ℕ) → Dec (IfSome p (λ w. MatchesName w name))
+dec_matched p name = dec_if_some p (λ w. let iff = matches_name-iff w name in dec_by iff.0 iff.1 (dec_true (matches_name w name)))
+
+dec_actives : (S : Spool) (p : Option (List ℕ)) (lines : List ActiveValue) → Dec (ActivesAgree S p lines)
+dec_actives S p lines =
+    dec_both
+    (dec_same_keys nat_list_cmp_total (slice_cmp-IsAntisymmetric nat_cmp-IsAntisymmetric) exact_bytes S.groups _ (dec_matched p) (map (λ line. line.name) lines))
+    (dec_by (All-from_recursion _ lines) (recursion_from_All _ lines) (dec_all _ (λ line. dec_between (numbers S line.name) line.low line.high) lines))
+
+-- whether numbers meet what is asked of them
+dec_meets : (N : Numbers) (ask : Ask) → Dec (Meets N ask)
+dec_meets N (Estimates how m) = dec_bound how N m
+dec_meets N (Bounds low high) = dec_between N low high
+dec_meets N (ListsIn r ns) = dec_listing N r ns
+dec_meets N (Has n) = dec_true (is_some (get N n))
+dec_meets N (Lacks n) = dec_none (get N n)
+dec_meets N (StandsAt at n) = dec_some cases_eq (current_in N at) n
+dec_meets N (StandsNowhere at) = dec_none (current_in N at)
+dec_meets N (StepsUp at n) = dec_match (current_in N at) _ (λ c. dec_next_above N c n)
+dec_meets N (StepsDown at n) = dec_match (current_in N at) _ (λ c. dec_next_below N c n)
+dec_meets N (IsTop at) = dec_match (current_in N at) _ (dec_none_above N)
+dec_meets N (IsBottom at) = dec_match (current_in N at) _ (dec_none_below N)
+
+-- whether a fact holds of a spool
+dec_holds : (S : Spool) (fact : Fact) → Dec (Holds S fact)
+dec_holds S (ThereIs name) = dec_true (is_some (get S.groups name))
+dec_holds S (ThereIsNo name) = dec_none (get S.groups name)
+dec_holds S (Asks name ask) = dec_meets (numbers S name) ask
+dec_holds S (IdAt name n id) = dec_some_text (get (numbers S name) n) id
+dec_holds S (TextIs what id lines) = dec_some (dec_option dec_lists) (option_map (text_of what) (get S.articles id)) lines
+dec_holds S (NoArticle id) = dec_none (get S.articles id)
+dec_holds S (GroupsAre p lines) = dec_actives S p lines
+
+dec_open : (closed : Bool) → Dec (closed ≡ false)
+dec_open true = inr (λ h. cc)
+dec_open false = inl refl
+
+-- whether the visible condition holds at each place
+dec_fits_all : (profile : Profile) (v : Visible) (ps : List Asked) (answers : List Response) → Dec (FitsAll profile v ps answers)
+dec_fits_all profile v ps [] = inl tt
+dec_fits_all profile v [] (a ∷ more) = inr (λ h. h)
+dec_fits_all profile v (p ∷ ps) (a ∷ more) = dec_three (dec_open v.closed) (dec_true (fits profile v p a)) (dec_fits_all profile (visible_after v p a) ps more)
+
+-- whether a spool permits answers from a position on: by what they say
+dec_run_at : (profile : Profile) (S : Spool) (v : Visible) (at : Position) (ps : List Asked) (answers : List Response) → Dec (Run profile S (state_at S v at) ps answers)
+dec_run_at profile S v at ps answers =
+    dec_by (λ h. run_from profile S v at ps answers ((permits_by_facts profile S v at ps answers).1 h))
+    (λ r. (permits_by_facts profile S v at ps answers).0 (read_off profile S v at ps answers r))
+    (dec_both (dec_fits_all profile v ps answers) (dec_all (Holds S) (dec_holds S) (facts_from profile.marks v at ps answers)))
+
+-- whether a spool permits answers from a state on, since each state is one at a position
+pub dec_run : (profile : Profile) (S : Spool) (s : State) (ps : List Asked) (answers : List Response) → Dec (Run profile S s ps answers)
+dec_run profile S s ps answers = by s.current
+  where
+    by : (current : Option ℕ) → Dec (Run profile S (record { visible = s.visible; current = current }) ps answers)
+    by None = dec_run_at profile S s.visible Nowhere ps answers
+    by (Some n) = dec_run_at profile S s.visible (Known n) ps answers
