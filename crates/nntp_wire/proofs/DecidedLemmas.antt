@@ -1,12 +1,12 @@
 -- The tests that compute are the relations of nntp_wire.
-use Rattle.std.proofs.Common.{◌≡◌, ◌↔◌, ℕ, ◌<◌, ◌≤◌, Bool, true, false, ◌&&◌, ◌||◌, ◌==◌, not, IsTrue, List, [], ◌∷◌, ◌++◌, length, map, length-append, inl}
-use Rattle.std.proofs.{Common.{inr, refl, sym, ap, subst, ◌∙◌, arith}, lemmas.Bool.{and_parts, and_from, or_cases, or_left, or_right, cases_Bool, leb-true}}
-use Rattle.std.proofs.lemmas.{Bool.{le-leb, lt-ltb, ltb-true, eqb-true, true≢false, not-true, Decides.{nat_tests}}, Str.{IsUtf8-from_is_utf8}}
-use Rattle.std.proofs.lemmas.{Str.{is_utf8-from_IsUtf8, chars-encodes, chars-nil}, List.Elements.{recursion_from_All, All-from_recursion}}
-use Rattle.std.specs.{Prelude.{nat_le, nat_lt}, List.{list_all, list_any, AllByRecursion}, Str.{chars, is_utf8, encode_utf8_all}}
+use Rattle.std.proofs.Common.{◌≡◌, ◌↔◌, ℕ, ◌<◌, Bool, true, false, ◌&&◌, ◌||◌, ◌==◌, not, IsTrue, List, [], ◌∷◌, ◌++◌, length, map, length-append, inl, inr}
+use Rattle.std.proofs.{Common.{refl, sym, ap, subst, ◌∙◌, arith}, lemmas.Bool.{and_parts, and_from, or_cases, or_left, or_right, cases_Bool, leb-true, le-leb}}
+use Rattle.std.proofs.lemmas.{Bool.{lt-ltb, ltb-true, eqb-true, true≢false, not-true, Decides.{nat_tests}}, Str.{IsUtf8-from_is_utf8, is_utf8-from_IsUtf8}}
+use Rattle.std.{proofs.lemmas.{Str.{chars-encodes, chars-nil}, List.Elements.{recursion_from_All, All-from_recursion}}, specs.Prelude.{nat_le, nat_lt}}
+use Rattle.std.specs.{List.{list_all, list_any, AllByRecursion}, Str.{chars, is_utf8, encode_utf8_all}}
 use Rattle.nntp_wire.specs.{Name.{IsIdOctet, IsMessageId, IsGroupName, is_name_char}, Wildmat.{Item, star, question, character, Matches, MatchesPattern}}
-use Rattle.nntp_wire.specs.{Wildmat.{IsChosen, MatchesName, item_of, patterns_of, is_negated, without_negation}, Decided.{is_id_octet, ends_id, begins_id}}
-use Rattle.nntp_wire.specs.Decided.{is_message_id, is_group_name, suffixes, matches, matches_pattern, is_chosen, matches_name}
+use Rattle.nntp_wire.specs.{Wildmat.{IsChosen, MatchesName, item_of, is_negated, without_negation}, Decided.{is_id_octet, ends_id, is_message_id}}
+use Rattle.nntp_wire.specs.Decided.{is_group_name, suffixes, matches, matches_pattern, is_chosen, matches_name}
 
 -- ---- message ids
 
@@ -25,50 +25,15 @@ ends_inside (c ∷ d ∷ cs) e h =
     other c n s = grind (arith, nat_tests)
 
 octet_test : (c : ℕ) → IsIdOctet c → (not (c == 62) ≡ true) × (is_id_octet c ≡ true)
-octet_test c h = (differs c h.1, and_from (nat_le 33 c) (nat_le c 126) (le-leb 33 c h.0.0) (le-leb c 126 h.0.1))
-  where
-    differs : (c : ℕ) → (c ≡ 62 → ⊥) → not (c == 62) ≡ true
-    differs c n = elim (cases_Bool (c == 62)) [ inl e ↦ absurd (n (eqb-true c 62 e)) | inr f ↦ ap not f ]
+octet_test c h = grind arith
 
 inside_ends : (inside : List ℕ) → AllByRecursion IsIdOctet inside → (ends_id (inside ++ 62 ∷ []) ≡ true) × (list_all is_id_octet (inside ++ 62 ∷ []) ≡ true)
 inside_ends [] h = (refl, refl)
 inside_ends (c ∷ []) h = let t = octet_test c h.0 in (and_from (not (c == 62)) true t.0 refl, and_from (is_id_octet c) true t.1 refl)
-inside_ends (c ∷ d ∷ inside) h =
-    let t = octet_test c h.0 in
-    let rest = inside_ends (d ∷ inside) h.1 in
-    (and_from (not (c == 62)) (ends_id (d ∷ (inside ++ 62 ∷ []))) t.0 rest.0, and_from (is_id_octet c) (list_all is_id_octet (d ∷ (inside ++ 62 ∷ []))) t.1 rest.1)
+inside_ends (c ∷ d ∷ inside) h = grind (arith, octet_test, inside_ends (d ∷ inside) h.1, and_from)
 
 pub message_id-iff : (id : List ℕ) → IsTrue (is_message_id id) ↔ IsMessageId id
-message_id-iff id = (sound id, complete id)
-  where
-    sound : (id : List ℕ) → IsTrue (is_message_id id) → IsMessageId id
-    sound [] h = cc
-    sound (c ∷ cs) h =
-        let a = and_parts (nat_le 3 (length (c ∷ cs)) && nat_le (length (c ∷ cs)) 250 && list_all is_id_octet (c ∷ cs)) (begins_id (c ∷ cs)) h in
-        let b = and_parts (nat_le 3 (length (c ∷ cs)) && nat_le (length (c ∷ cs)) 250) (list_all is_id_octet (c ∷ cs)) a.0 in
-        let sizes = and_parts (nat_le 3 (length (c ∷ cs))) (nat_le (length (c ∷ cs)) 250) b.0 in
-        let begins = and_parts (c == 60) (ends_id cs) a.1 in
-        let octets = and_parts (is_id_octet c) (list_all is_id_octet cs) b.1 in
-        let ends = ends_inside cs begins.1 octets.1 in
-        let first : c ≡ 60 = eqb-true c 60 begins.0 in
-        let long : 3 ≤ length (c ∷ cs) = leb-true 3 (length (c ∷ cs)) sizes.0 in
-        let size : length (c ∷ cs) ≡ length (c ∷ (ends.0 ++ 62 ∷ [])) = ap (λ t. length (c ∷ t)) ends.1 in
-        (ends.0, (λ i. first i ∷ ends.1 i), omega (arith, long, size, length-append ends.0 (62 ∷ [])), leb-true (length (c ∷ cs)) 250 sizes.1, All-from_recursion IsIdOctet ends.0 ends.2)
-
-    complete : (id : List ℕ) → IsMessageId id → IsTrue (is_message_id id)
-    complete id (inside, whole, some, short, each) =
-        let ends = inside_ends inside (recursion_from_All IsIdOctet inside each) in
-        subst (λ id. is_message_id id ≡ true) (sym whole)
-        (let size = length-append inside (62 ∷ []) in
-        let few : length (60 ∷ (inside ++ 62 ∷ [])) ≤ 250 = subst (λ id. length id ≤ 250) whole short in
-        and_from (nat_le 3 (length (60 ∷ (inside ++ 62 ∷ []))) && nat_le (length (60 ∷ (inside ++ 62 ∷ []))) 250
-        && list_all is_id_octet (60 ∷ (inside ++ 62 ∷ []))) (begins_id (60 ∷ (inside ++ 62 ∷ [])))
-        (and_from (nat_le 3 (length (60 ∷ (inside ++ 62 ∷ []))) && nat_le (length (60 ∷ (inside ++ 62 ∷ []))) 250) (list_all is_id_octet (60 ∷ (inside ++ 62 ∷ [])))
-        (and_from (nat_le 3 (length (60 ∷ (inside ++ 62 ∷ [])))) (nat_le (length (60 ∷ (inside ++ 62 ∷ []))) 250)
-        (le-leb 3 (length (60 ∷ (inside ++ 62 ∷ []))) (omega (arith, some, size)))
-        (le-leb (length (60 ∷ (inside ++ 62 ∷ []))) 250 few))
-        ends.1)
-        ends.0)
+message_id-iff id = grind (arith, and_parts, ends_inside, eqb-true, leb-true, length-append, All-from_recursion, inside_ends, recursion_from_All, and_from, le-leb)
 
 -- ---- group names
 
@@ -80,12 +45,7 @@ group_name-iff name = (sound name, complete name)
     not_empty (c ∷ cs) bytes e some = omega arith
 
     sound : (name : List ℕ) → IsTrue (is_group_name name) → IsGroupName name
-    sound name h =
-        let a = and_parts (nat_lt 0 (length name) && is_utf8 name) (list_all is_name_char (chars name)) h in
-        let b = and_parts (nat_lt 0 (length name)) (is_utf8 name) a.0 in
-        let u = IsUtf8-from_is_utf8 name b.1 in
-        let same : chars name ≡ u.0 = ap chars (sym u.1.1) ∙ chars-encodes u.0 u.1.0 in
-        (u.0, u.1, not_empty u.0 name u.1.1 (ltb-true 0 (length name) b.0), subst (λ cs. list_all is_name_char cs ≡ true) same a.1)
+    sound name h = grind (arith, and_parts, IsUtf8-from_is_utf8, chars-encodes, not_empty, ltb-true)
 
     complete : (name : List ℕ) → IsGroupName name → IsTrue (is_group_name name)
     complete name (cs, utf8, some, each) =
@@ -115,8 +75,7 @@ suffix_any p [] (c ∷ cs) h = or_left (p (c ∷ cs)) (list_any p (suffixes cs))
 suffix_any p (c ∷ front) rest h = or_right (p (c ∷ (front ++ rest))) (list_any p (suffixes (front ++ rest))) (suffix_any p front rest h)
 
 items_match : (items : List Item) (text : List ℕ) → matches items text ≡ true → Matches items text
-items_match [] [] h = refl
-items_match [] (c ∷ cs) h = cc
+items_match [] text h = grind arith
 items_match (star ∷ items) text h = let s = any_suffix (matches items) text h in (s.0, s.1, s.2, items_match items s.1 s.3)
 items_match (question ∷ items) [] h = cc
 items_match (question ∷ items) (c ∷ cs) h = (c, cs, refl, items_match items cs h)
@@ -143,18 +102,12 @@ none_match : (patterns : List (List ℕ)) (text : List ℕ) → not (list_any (�
 none_match [] text h = tt
 none_match (p ∷ ps) text h = elim (cases_Bool (matches_pattern p text)) [
   | inl e ↦ absurd (true≢false (sym h ∙ ap not (or_left (matches_pattern p text) (list_any (λ other. matches_pattern other text) ps) e)))
-  | inr f ↦ (
-    (λ m. true≢false (sym (match_pattern p text m) ∙ f)),
-    none_match ps text (sym (ap (λ b. not (b || list_any (λ other. matches_pattern other text) ps)) f) ∙ h),
-  )
+  | inr f ↦ grind (arith, true≢false, match_pattern, none_match ps text (sym (ap (λ b. not (b || list_any (λ other. matches_pattern other text) ps)) f) ∙ h))
 ]
 
 match_none : (patterns : List (List ℕ)) (text : List ℕ) → AllByRecursion (λ pattern. ¬ (MatchesPattern pattern text)) patterns → not (list_any (λ other. matches_pattern other text) patterns) ≡ true
 match_none [] text h = refl
-match_none (p ∷ ps) text h = elim (cases_Bool (matches_pattern p text)) [
-  | inl e ↦ absurd (h.0 (pattern_matches p text e))
-  | inr f ↦ ap (λ b. not (b || list_any (λ other. matches_pattern other text) ps)) f ∙ match_none ps text h.1
-]
+match_none (p ∷ ps) text h = grind (arith, cases_Bool, pattern_matches, match_none ps text h.1)
 
 chosen : (patterns : List (List ℕ)) (text : List ℕ) → is_chosen patterns text ≡ true → IsChosen patterns text
 chosen [] text h = cc
@@ -171,17 +124,8 @@ chosen (p ∷ ps) text h = elim (or_cases (is_chosen ps text) (matches_pattern p
 choose : (before : List (List ℕ)) (last : List ℕ) (after : List (List ℕ)) (text : List ℕ) → MatchesPattern last text
     → is_negated last ≡ false → AllByRecursion (λ pattern. ¬ (MatchesPattern pattern text)) after
     → is_chosen (before ++ last ∷ after) text ≡ true
-choose [] last after text m plain others =
-    or_right (is_chosen after text) (matches_pattern last text && not (is_negated last) && not (list_any (λ other. matches_pattern other text) after))
-    (and_from (matches_pattern last text && not (is_negated last)) (not (list_any (λ other. matches_pattern other text) after))
-    (and_from (matches_pattern last text) (not (is_negated last)) (match_pattern last text m) (ap not plain))
-    (match_none after text others))
-choose (p ∷ before) last after text m plain others =
-    or_left (is_chosen (before ++ last ∷ after) text) (matches_pattern p text && not (is_negated p) && not (list_any (λ other. matches_pattern other text) (before ++ last ∷ after)))
-    (choose before last after text m plain others)
+choose [] last after text m plain others = grind (arith, or_right, and_from, match_pattern, match_none)
+choose (p ∷ before) last after text m plain others = grind (arith, or_left, choose before last after text m plain others)
 
 pub matches_name-iff : (wildmat name : List ℕ) → IsTrue (matches_name wildmat name) ↔ MatchesName wildmat name
-matches_name-iff wildmat name = (
-  chosen (patterns_of wildmat) (chars name),
-  λ c. ap (λ patterns. is_chosen patterns (chars name)) c.whole ∙ choose c.before c.last c.after (chars name) c.matches c.plain c.others,
-)
+matches_name-iff wildmat name = grind (arith, chosen, choose)

@@ -1,6 +1,6 @@
 -- The arguments behind a code are those that are due exactly if they name a group with its marks, or an article.
-use Rattle.std.proofs.{Common.{◌≡◌, ℕ, ◌+◌, ◌&&◌, Bool, true, false, List, [], ◌∷◌, inl, inr, refl, sym, ap, ◌∙◌, cond}, lemmas.Bool.{cases_Bool, and_from}}
-use Rattle.std.{proofs.lemmas.Bool.{and_parts, false≢true}, specs.{Prelude.{is_none}, List.{slice_split}}}
+use Rattle.std.proofs.{Common.{arith, ◌≡◌, ℕ, ◌+◌, ◌&&◌, Bool, true, false, List, [], ◌∷◌, inl, inr, refl, sym, ap, ◌∙◌, cond}, lemmas.Bool.{cases_Bool}}
+use Rattle.std.{proofs.lemmas.Bool.{and_from, false≢true}, specs.{Prelude.{is_none}, List.{slice_split}}}
 use Rattle.nntp_wire.specs.{Number.{number_value}, Argument.{BeginsWithArgument, BeginsWithNumber, HasArticle}, Misspelling.{is_space, arguments_of, dues}}
 use Rattle.nntp_wire.specs.{Misspelling.{is_argument, argument_misspelling}, declared.{kind.Kind.TheVariants.{Group, Sent}, misspelling.Due.{Due}}}
 use Rattle.nntp_wire.{specs.declared.misspelling.Due.TheVariants.{Number, GroupName, MessageId}, proofs.Reasons.{none_unless, none_two}}
@@ -30,15 +30,13 @@ take_due due later [] h = absurd (false≢true h)
 take_due due later (b ∷ bs) h = elim (cases_Bool (is_space b)) [
   | inl is ↦ (let a = argument-some b bs is in
       let e = argument-first (b ∷ bs) a.0 a.1 a.2 in
-      let both = and_parts (is_argument due a.0) (are_arguments later (arguments_of a.1)) (sym (ap (are_arguments (due ∷ later)) e) ∙ h) in
-      record { word = a.0; rest = a.1; begins = a.2; is = both.0; more = both.1 })
+      grind arith)
   | inr other ↦ absurd (false≢true (sym (ap (λ t. are_arguments (due ∷ later) (cond t (slice_split is_space bs) [])) other) ∙ h))
 ]
 
 put_due : (due : Due) (later : List Due) (bytes word rest : List ℕ) → BeginsWithArgument bytes word rest → is_argument due word ≡ true
     → are_arguments later (arguments_of rest) ≡ true → are_arguments (due ∷ later) (arguments_of bytes) ≡ true
-put_due due later bytes word rest begins is more =
-    ap (are_arguments (due ∷ later)) (argument-first bytes word rest begins) ∙ and_from (is_argument due word) (are_arguments later (arguments_of rest)) is more
+put_due due later bytes word rest begins is more = grind (arith, argument-first, and_from)
 
 numbered : (later : List Due) (bytes : List ℕ) → (t : Takes Number later bytes) → BeginsWithNumber bytes (number_value t.word) t.rest
 numbered later bytes t = record { word = t.word; begins = t.begins; writes = (t.is, refl) }

@@ -1,5 +1,5 @@
 -- The first empty line of a block.
-use Rattle.std.proofs.Common.{◌≡◌, ◌≢◌, ℕ, ◌+◌, ◌≤◌, List, [], ◌∷◌, ◌++◌, length, take, drop, refl, sym, ◌∙◌, ap, subst, arith, append_assoc, append-nil}
+use Rattle.std.proofs.Common.{◌≡◌, ◌≢◌, ℕ, ◌+◌, ◌≤◌, List, [], ◌∷◌, ◌++◌, length, take, drop, refl, sym, ◌∙◌, ap, arith, append_assoc, append-nil}
 use Rattle.std.proofs.{Common.{length-append}, lemmas.List.{take_at, drop_at}}
 use Rattle.bstr.{specs.Text.{lines_of}, proofs.lemmas.LineLemmas.{lines-nil}}
 use Rattle.nntp_wire.specs.{Octets.{crlf}, Block.{stuffed, unstuffed, sent, AreClean}, Inner.Block.{received, Sends, HasNoEmptyLine}}
@@ -56,59 +56,25 @@ pub next-is : (bytes line : List ℕ) (left more : List (List ℕ)) (count : ℕ
 next-is bytes line left more count n e = at n.others n.others_clean n.whole (sym e ∙ n.left_is) where
   at : (others : List (List ℕ)) → AreClean others → bytes ≡ sent n.done ++ sent others → line ∷ more ≡ lines_of (sent others) → IsNext bytes line more count
   at [] clean whole are = let no : ◌≡◌ {A = List (List ℕ)} (line ∷ more) [] = are ∙ lines-nil in cc
-  at (first ∷ behind) clean whole are =
-      let both : line ∷ more ≡ (stuffed first ++ crlf) ∷ lines_of (sent behind) = are ∙ lines-sent first behind clean.0 in
-      let line_is : line ≡ stuffed first ++ crlf = cc in
-      let more_is : more ≡ lines_of (sent behind) = cc in
-      record {
-        done = n.done;
-        first = first;
-        behind = behind;
-        clean = n.clean;
-        behind_clean = clean;
-        whole = whole;
-        none = n.none;
-        line_is = line_is;
-        more_is = more_is;
-        is_count = n.is_count;
-      }
+  at (first ∷ behind) clean whole are = grind (arith, lines-sent)
 
 -- the next line fits in front of the others
 pub next-fits : (bytes line : List ℕ) (more : List (List ℕ)) (count : ℕ) → IsNext bytes line more count → count + length line ≤ length bytes
-next-fits bytes line more count n =
-    omega (
-      arith,
-      ap length n.whole,
-      length-append (sent n.done) ((stuffed n.first ++ crlf) ++ sent n.behind),
-      length-append (stuffed n.first ++ crlf) (sent n.behind),
-      ap length n.line_is,
-      n.is_count,
-    )
+next-fits bytes line more count n = grind (arith, length-append)
 
 -- a line that is not empty is passed over
 pub nonempty-more : (bytes line : List ℕ) (more : List (List ℕ)) (count : ℕ) → IsNext bytes line more count → line ≢ crlf → Nonempty bytes more (count + length line)
 nonempty-more bytes line more count n some =
     let one : sent (n.done ++ n.first ∷ []) ≡ sent n.done ++ (stuffed n.first ++ crlf) =
     sent-append n.done (n.first ∷ []) ∙ ap (λ t. sent n.done ++ t) (append-nil (stuffed n.first ++ crlf)) in
-    record {
-      done = n.done ++ n.first ∷ [];
-      others = n.behind;
-      clean = clean-append n.done (n.first ∷ []) n.clean (n.behind_clean.0, tt);
-      others_clean = n.behind_clean.1;
-      whole = n.whole ∙ sym (append_assoc (sent n.done) (stuffed n.first ++ crlf) (sent n.behind)) ∙ ap (λ t. t ++ sent n.behind) (sym one);
-      none = none-append n.done (n.first ∷ []) n.none ((λ empty. some (n.line_is ∙ ap (λ t. stuffed t ++ crlf) empty)), tt);
-      left_is = n.more_is;
-      is_count = ap length one ∙ omega (arith, length-append (sent n.done) (stuffed n.first ++ crlf), ap length n.line_is, n.is_count);
-    }
+    grind (arith, clean-append, append_assoc, none-append, length-append)
 
 -- no line is left
 pub nonempty-end : (bytes : List ℕ) (left : List (List ℕ)) (count : ℕ) → Nonempty bytes left count → left ≡ [] → HasNoEmptyLine (received bytes)
 nonempty-end bytes left count n e = at n.others n.others_clean n.whole (sym e ∙ n.left_is) where
   at : (others : List (List ℕ)) → AreClean others → bytes ≡ sent n.done ++ sent others → [] ≡ lines_of (sent others) → HasNoEmptyLine (received bytes)
-  at [] clean whole are =
-      subst HasNoEmptyLine (sym (received-of bytes n.done (record { clean = n.clean; whole = whole ∙ append-nil (sent n.done) }))) n.none
-  at (first ∷ behind) clean whole are =
-      let no : ◌≡◌ {A = List (List ℕ)} [] ((stuffed first ++ crlf) ∷ lines_of (sent behind)) = are ∙ lines-sent first behind clean.0 in cc
+  at [] clean whole are = grind (arith, received-of, append-nil)
+  at (first ∷ behind) clean whole are = grind (arith, lines-sent)
 
 -- the octets round an empty line
 pub record IsSplit (bytes front back : List ℕ) : Type 0 where
@@ -119,21 +85,4 @@ pub record IsSplit (bytes front back : List ℕ) : Type 0 where
 
 pub split-empty : (bytes line front rest back : List ℕ) (more : List (List ℕ)) (count : ℕ) → IsNext bytes line more count → line ≡ crlf
     → front ≡ take count bytes → rest ≡ drop count bytes → back ≡ drop 2 rest → IsSplit bytes front back
-split-empty bytes line front rest back more count n is front_is rest_is back_is =
-    let empty : n.first ≡ [] = empty-of n.first (sym n.line_is ∙ is) in
-    let whole : bytes ≡ sent n.done ++ (crlf ++ sent n.behind) = n.whole ∙ ap (λ t. sent n.done ++ (t ++ sent n.behind)) (sym n.line_is ∙ is) in
-    let at_front : front ≡ sent n.done = front_is ∙ ap (take count) whole ∙ take_at (sent n.done) (crlf ++ sent n.behind) count n.is_count in
-    let at_rest : rest ≡ crlf ++ sent n.behind = rest_is ∙ ap (drop count) whole ∙ drop_at (sent n.done) (crlf ++ sent n.behind) count n.is_count in
-    let at_back : back ≡ sent n.behind = back_is ∙ ap (drop 2) at_rest in
-    let front_lines : received front ≡ n.done = received-of front n.done (record { clean = n.clean; whole = at_front }) in
-    let back_lines : received back ≡ n.behind = received-of back n.behind (record { clean = n.behind_clean.1; whole = at_back }) in
-    let lines : Sends bytes (n.done ++ [] ∷ n.behind) = record {
-      clean = clean-append n.done ([] ∷ n.behind) n.clean (refl, n.behind_clean.1);
-      whole = whole ∙ sym (sent-append n.done ([] ∷ n.behind));
-    } in
-    record {
-      none = subst HasNoEmptyLine (sym front_lines) n.none;
-      whole = rw (front_lines, back_lines) (received-of bytes (n.done ++ [] ∷ n.behind) lines);
-      front_sends = subst (Sends front) (sym front_lines) (record { clean = n.clean; whole = at_front });
-      back_sends = subst (Sends back) (sym back_lines) (record { clean = n.behind_clean.1; whole = at_back });
-    }
+split-empty bytes line front rest back more count n is front_is rest_is back_is = grind (arith, empty-of, take_at, drop_at, received-of, clean-append, sent-append)

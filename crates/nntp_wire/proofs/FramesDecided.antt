@@ -1,9 +1,9 @@
 -- Whether octets begin with a whole frame can be decided, and octets behind a frame leave it.
-use Rattle.std.proofs.Common.{◌≡◌, ◌≢◌, ◌⊎◌, true, false, ℕ, List, [], ◌∷◌, ◌++◌, Option, None, Some, inl, inr, refl, sym, ap, subst, ◌∙◌, append_assoc}
+use Rattle.std.proofs.Common.{arith, ◌≡◌, ◌≢◌, ◌⊎◌, true, false, ℕ, List, [], ◌∷◌, ◌++◌, Option, None, Some, inl, inr, refl, sym, ap, subst, ◌∙◌, append_assoc}
 use Rattle.std.{proofs.lemmas.{List.{append-nil}, Bool.{cases_Bool, cases_eq, true≢false}}, specs.{Prelude.{is_some}, List.{AllByRecursion}}}
 use Rattle.nntp_wire.specs.{Octets.{dot, crlf}, Lines.{HasNoCrlf, ended, lines_of_stream}, Block.{dot_line}, Answer.{Asked, code_of}, Frame.{HasFrame}}
-use Rattle.nntp_wire.{specs.Frame.{IsBlockLine, IsBeforeDotLine, is_due_by, framed, frame_octets}, proofs.{Decide.{Dec}, FrameLemmas.{line-one}}}
-use Rattle.nntp_wire.proofs.StreamLemmas.{stream-split, lines-first, lines-ended}
+use Rattle.nntp_wire.{specs.Frame.{IsBlockLine, IsBeforeDotLine, is_due_by, framed}, proofs.{Decide.{Dec}, FrameLemmas.{line-one}, StreamLemmas.{stream-split}}}
+use Rattle.nntp_wire.proofs.StreamLemmas.{lines-first, lines-ended}
 
 -- octets begin with a frame
 abbrev pub BeginsWithFrame : Asked → List ℕ → Type 0
@@ -11,15 +11,13 @@ BeginsWithFrame asked stream = (line : List ℕ) × (block : Option (List ℕ)) 
 
 -- octets behind a frame
 pub frame-longer : (asked : Asked) (stream line rest more : List ℕ) (block : Option (List ℕ)) → HasFrame asked stream line block rest → HasFrame asked (stream ++ more) line block (rest ++ more)
-frame-longer asked stream line rest more block f =
-    record { whole = ap (λ t. t ++ more) f.whole ∙ append_assoc (frame_octets line block) rest more; is_line = f.is_line; due = f.due; before_dot_line = f.before_dot_line }
+frame-longer asked stream line rest more block f = grind (arith, append_assoc)
 
 -- ---- the lines of a frame
 
 -- the first line of a stream with a frame is its initial line
 frame-first : (asked : Asked) (stream line rest : List ℕ) (block : Option (List ℕ)) → HasFrame asked stream line block rest → lines_of_stream stream ≡ line ∷ lines_of_stream (framed block ++ rest)
-frame-first asked stream line rest block f =
-    ap lines_of_stream (f.whole ∙ append_assoc (line ++ crlf) (framed block) rest) ∙ lines-first line (framed block ++ rest) f.is_line
+frame-first asked stream line rest block f = grind (arith, append_assoc, lines-first)
 
 block_lines : (ls : List (List ℕ)) → AllByRecursion IsBlockLine ls → AllByRecursion HasNoCrlf ls
 block_lines [] each = tt
@@ -91,16 +89,7 @@ dec_frame asked stream = by (lines_of_stream stream) refl (stream-split stream).
               line,
               Some (ended front),
               ended back ++ rest,
-              record {
-                whole = parts
-                    ∙ ap (λ ls. (line ++ crlf) ++ (ended ls ++ rest)) split
-                    ∙ ap (λ t. (line ++ crlf) ++ (t ++ rest)) (ended-append front ((dot ∷ []) ∷ back) ∙ sym (append_assoc (ended front) dot_line (ended back)))
-                    ∙ ap (λ t. (line ++ crlf) ++ t) (append_assoc (ended front ++ dot_line) (ended back) rest)
-                    ∙ sym (append_assoc (line ++ crlf) (ended front ++ dot_line) (ended back ++ rest));
-                is_line = good.0;
-                due = sym is;
-                before_dot_line = (front, block, refl);
-              },
+              grind (arith, parts, rest, ended-append, append_assoc, good),
             )
         with_block is (inr none) = inr (λ h. never h.0 h.1 h.2 h.3)
           where
@@ -119,10 +108,5 @@ dec_frame asked stream = by (lines_of_stream stream) refl (stream-split stream).
           line,
           None,
           ended lines ++ rest,
-          record {
-            whole = parts ∙ ap (λ t. t ++ (ended lines ++ rest)) (sym (append-nil (line ++ crlf)));
-            is_line = good.0;
-            due = sym not_due;
-            before_dot_line = tt;
-          },
+          grind (arith, parts, rest, append-nil, good),
         )

@@ -1,5 +1,5 @@
 -- Message ids are text.
-use Rattle.std.proofs.{Common.{◌<◌, ℕ, List, [], ◌∷◌, ◌++◌, All, sym, subst, arith}, Math.ListN.{get_or-eq_default}, lemmas.List.Elements.{All-from_recursion}}
+use Rattle.std.proofs.{Common.{◌<◌, ℕ, List, [], ◌∷◌, ◌++◌, All, arith}, Math.ListN.{get_or-eq_default}, lemmas.List.Elements.{All-from_recursion}}
 use Rattle.std.{proofs.lemmas.{List.Elements.{recursion_from_All}, Str.{IsUtf8-from_ascii}}, specs.{List.{AllByRecursion}, Str.{IsUtf8}}}
 use Rattle.nntp_wire.specs.Name.{IsIdOctet, IsMessageId}
 
@@ -13,6 +13,4 @@ ascii_inside (c ∷ cs) each = (omega (arith, each.0), ascii_inside cs each.1)
 
 -- a message id is ASCII, and so text
 pub id_is_text : (bytes : List ℕ) → IsMessageId bytes → IsUtf8 bytes
-id_is_text bytes (inside, is, some, few, each) =
-    let whole : AllByRecursion (λ b. b < 128) ((60 ∷ inside) ++ 62 ∷ []) = (omega arith, ascii_inside inside (recursion_from_All IsIdOctet inside each)) in
-    subst IsUtf8 (sym is) (ascii_text _ (All-from_recursion (λ b. b < 128) ((60 ∷ inside) ++ 62 ∷ []) whole))
+id_is_text bytes (inside, is, some, few, each) = grind (arith, ascii_inside, recursion_from_All, ascii_text, All-from_recursion)

@@ -1,12 +1,10 @@
 -- Most lines have the kind Other by their first letter.
-use Rattle.std.proofs.Common.{◌≡◌, ℕ, ◌<◌, Bool, true, false, ◌⊎◌, inl, inr, ◌||◌, List, [], ◌∷◌, length, get_or, arith, refl, sym, ◌∙◌, ap, Option, None, Some}
-use Rattle.std.{proofs.lemmas.{Bool.{false≢true, lt-ltb}, List.Splits.{slice_split-cons_no}}, specs.{Prelude.{◌==◌, nat_le, ⊤, slice_index, cond}, List.{find}}}
-use Rattle.std.specs.{List.{filter, onto_first, slice_split}, Option.{option_map}, Char.{to_ascii_lowercase}}
-use Rattle.nntp_wire.specs.{Octets.{is_blank, is_clean}, Words.{words_of, is_some_octets, is_same_word}, Answer.{to}, Command.{Request, keywords, form_of}}
-use Rattle.nntp_wire.specs.Command.{is_keyword, request_by, request_by_keyword, request_of_words, request_as, capabilities_of, group_of, alone, next}
-use Rattle.nntp_wire.specs.Command.{overview_keywords, over_of, over_by, over, the_id, range_of, retrieve_of, retrieve_by, target_of}
-use Rattle.nntp_wire.specs.declared.{overviews.Overviews.{Overviews, TheVariants.{Opaque, Judged}}, command.OverviewKeyword.{OverviewKeyword}}
-use Rattle.nntp_wire.specs.declared.command.{OverviewKeyword.TheVariants.{Over, Xover}, What.{What, TheVariants.{Article, Head, Body, Stat}}}
+use Rattle.std.proofs.{Common.{◌≡◌, ℕ, ◌<◌, Bool, true, false, ◌⊎◌, ◌||◌, List, [], ◌∷◌, length, get_or, arith, refl, sym, ◌∙◌, ap}, lemmas.Bool.{false≢true}}
+use Rattle.std.{proofs.lemmas.List.Splits.{slice_split-cons_no}, specs.{Prelude.{◌==◌, ⊤}, List.{find, filter, onto_first, slice_split}, Option.{option_map}}}
+use Rattle.std.specs.Char.{to_ascii_lowercase}
+use Rattle.nntp_wire.specs.{Octets.{is_blank}, Words.{words_of, is_some_octets, is_same_word}, Answer.{to}, Command.{Request, keywords, form_of, request_by}}
+use Rattle.nntp_wire.specs.Command.{request_by_keyword, request_of_words, request_as, capabilities_of, group_of, alone, next, overview_keywords, over_of}
+use Rattle.nntp_wire.specs.{Command.{retrieve_of}, declared.{overviews.Overviews.{Overviews}, command.{OverviewKeyword.{OverviewKeyword}, What.{What}}}}
 use Rattle.nntp_wire.{specs.{declared.prompt_kind.PromptKind.TheVariants.{Other}, Inner.Prompts.{prompt_kind}}, proofs.KeywordLemmas.{lower_first, same_lower}}
 
 -- the word begins as LISTGROUP, MODE or QUIT does, in either case
@@ -18,34 +16,19 @@ abbrev MakesOther : (List (List ℕ) → Request) → Type 0
 MakesOther makes = (arguments : List (List ℕ)) → prompt_kind (to (makes arguments)) ≡ Other
 
 capabilities_other : MakesOther capabilities_of
-capabilities_other [] = refl
-capabilities_other (keyword ∷ []) = refl
-capabilities_other (keyword ∷ more ∷ rest) = refl
+capabilities_other h = grind arith
 
 group_other : MakesOther group_of
-group_other [] = refl
-group_other (name ∷ []) = refl
-group_other (name ∷ more ∷ rest) = refl
+group_other h = grind arith
 
 next_other : MakesOther (alone next)
-next_other [] = refl
-next_other (word ∷ rest) = refl
+next_other h = grind arith
 
 retrieve_other : (what : What) → MakesOther (retrieve_of what)
-retrieve_other what [] = refl
-retrieve_other what (word ∷ []) = at (target_of word) where
-  at : (t : Option _) → prompt_kind (to (retrieve_by what t)) ≡ Other
-  at None = refl
-  at (Some target) = refl
-retrieve_other what (word ∷ more ∷ rest) = refl
+retrieve_other what h = grind arith
 
 over_other : (keyword : OverviewKeyword) → MakesOther (over_of keyword)
-over_other keyword [] = refl
-over_other keyword (word ∷ []) = elim (slice_index word 0 == 60) as (λ b. prompt_kind (to (cond b (over keyword (the_id word)) (over_by keyword (range_of word)))) ≡ Other) [
-  | true ↦ refl
-  | false ↦ elim (range_of word) as (λ r. prompt_kind (to (over_by keyword r)) ≡ Other) [ None ↦ refl | Some range ↦ refl ]
-]
-over_other keyword (word ∷ more ∷ rest) = refl
+over_other keyword h = search arith
 
 -- each keyword begins so, or makes the kind Other
 abbrev AllMakeOther : List (List ℕ × (List (List ℕ) → Request)) → Type 0
@@ -53,32 +36,10 @@ AllMakeOther [] = ⊤
 AllMakeOther (row ∷ rows) = ((begins_kind row.0 ≡ true) ⊎ MakesOther row.1) × AllMakeOther rows
 
 overviews_other : (overviews : Overviews) → AllMakeOther (overview_keywords overviews)
-overviews_other Opaque = tt
-overviews_other Judged = (inr (over_other Over), (inr (over_other Xover), tt))
+overviews_other overviews = grind (arith, over_other)
 
 keywords_other : (overviews : Overviews) → AllMakeOther (keywords overviews)
-keywords_other overviews = (
-  inr capabilities_other,
-  (
-    inl refl,
-    (
-      inr group_other,
-      (
-        inl refl,
-        (
-          inr next_other,
-          (
-            inl refl,
-            (
-              inl refl,
-              (inr (retrieve_other Article), (inr (retrieve_other Head), (inr (retrieve_other Body), (inr (retrieve_other Stat), (inl refl, overviews_other overviews))))),
-            ),
-          ),
-        ),
-      ),
-    ),
-  ),
-)
+keywords_other overviews = grind (arith, capabilities_other, group_other, next_other, retrieve_other, overviews_other)
 
 -- words that are the same begin with the same letter
 same_begin : (word other : List ℕ) → is_same_word word other ≡ true → begins_kind word ≡ begins_kind other
@@ -88,17 +49,7 @@ same_begin word other is = ap (λ b. b == 108 || b == 109 || b == 113) (lower_fi
 found_other : (word : List ℕ) (rows : List (List ℕ × (List (List ℕ) → Request))) (is_short : Bool) (arguments : List (List ℕ)) → AllMakeOther rows → begins_kind word ≡ false
     → prompt_kind (to (request_by is_short (option_map (λ row. row.1) (find (λ row. is_same_word word row.0) rows)) arguments)) ≡ Other
 found_other word [] is_short arguments all begins = refl
-found_other word (row ∷ rows) is_short arguments all begins = at (is_same_word word row.0) refl is_short (found_other word rows is_short arguments all.1 begins) where
-  at : (b : Bool) → is_same_word word row.0 ≡ b → (is_short : Bool) → prompt_kind (to (request_by is_short (option_map (λ row. row.1) (find (λ row. is_same_word word row.0) rows)) arguments)) ≡ Other
-      → prompt_kind (to (request_by is_short (option_map (λ row. row.1) (find (λ row. is_same_word word row.0) (row ∷ rows))) arguments)) ≡ Other
-  at true is true others = rw is (
-      elim all.0 [
-        | inl begins_so ↦ absurd (false≢true (sym begins ∙ same_begin word row.0 is ∙ begins_so))
-        | inr other ↦ other arguments
-      ]
-      )
-  at true is false others = rw is refl
-  at false other is_short others = rw other others
+found_other word (row ∷ rows) is_short arguments all begins = grind (arith, found_other word rows is_short arguments all.1 begins, false≢true, same_begin)
 
 keyword_other : (overviews : Overviews) (word : List ℕ) (is_short : Bool) (arguments : List (List ℕ)) → begins_kind word ≡ false
     → prompt_kind (to (request_by_keyword overviews is_short word arguments)) ≡ Other
@@ -109,18 +60,10 @@ keyword_other overviews word is_short arguments begins = found_other word (keywo
 first_word : (b : ℕ) (bs : List ℕ) → is_blank b ≡ false → (word : List ℕ) × (others : List (List ℕ)) × (words_of (b ∷ bs) ≡ (b ∷ word) ∷ others)
 first_word b bs plain =
     let e : words_of (b ∷ bs) ≡ filter is_some_octets (onto_first b (slice_split is_blank bs)) = ap (filter is_some_octets) (slice_split-cons_no is_blank b bs plain) in
-    let first = at (slice_split is_blank bs) in
-    (first.0, first.1, e ∙ first.2)
-  where
-    at : (parts : List (List ℕ)) → (word : List ℕ) × (others : List (List ℕ)) × (filter is_some_octets (onto_first b parts) ≡ (b ∷ word) ∷ others)
-    at [] = ([], [], refl)
-    at (part ∷ parts) = (part, filter is_some_octets parts, rw (lt-ltb 0 (length (b ∷ part)) (omega arith)) refl)
+    grind arith
 
 first_other : (overviews : Overviews) (len : ℕ) (word : List ℕ) (arguments : List (List ℕ)) → begins_kind word ≡ false → prompt_kind (to (request_of_words overviews len (word ∷ arguments))) ≡ Other
-first_other overviews len word arguments begins = at (is_keyword word) refl where
-  at : (t : Bool) → is_keyword word ≡ t → prompt_kind (to (request_of_words overviews len (word ∷ arguments))) ≡ Other
-  at true is = rw is (keyword_other overviews word (nat_le len 510) arguments begins)
-  at false other = rw other refl
+first_other overviews len word arguments begins = grind (arith, keyword_other)
 
 words_other : (overviews : Overviews) (len : ℕ) (rest : List ℕ) → (0 < length rest → is_blank (get_or rest 0 0) ≡ false) → begins_kind rest ≡ false
     → prompt_kind (to (request_of_words overviews len (words_of rest))) ≡ Other
@@ -132,7 +75,4 @@ words_other overviews len (b ∷ bs) plain begins =
 -- a line of which the first word begins otherwise
 pub line_other : (overviews : Overviews) (line rest : List ℕ) → words_of rest ≡ words_of line → (0 < length rest → is_blank (get_or rest 0 0) ≡ false) → begins_kind rest ≡ false
     → prompt_kind (to (request_as overviews line)) ≡ Other
-line_other overviews line rest same plain begins = at (is_clean line) refl where
-  at : (t : Bool) → is_clean line ≡ t → prompt_kind (to (request_as overviews line)) ≡ Other
-  at true clean = rw clean (ap (λ words. prompt_kind (to (request_of_words overviews (length line) words))) (sym same) ∙ words_other overviews (length line) rest plain begins)
-  at false other = rw other refl
+line_other overviews line rest same plain begins = grind (arith, words_other)

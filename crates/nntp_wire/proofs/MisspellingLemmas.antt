@@ -1,23 +1,17 @@
 -- The arguments and the lines that a reason counts.
-use Rattle.std.proofs.Common.{◌≡◌, ℕ, ◌+◌, ◌<◌, true, false, List, [], ◌∷◌, ◌++◌, None, Some, refl, sym, ap, ◌∙◌, cond, length, drop, get_or, drop-cons}
-use Rattle.std.{proofs.{Common.{add-one, inl, inr}, lemmas.Bool.{cases_Bool, eqb-true, and_parts, not-true}}, specs.{Prelude.{option_map}, List.{list_all}}}
-use Rattle.std.specs.List.{slice_split, onto_first}
-use Rattle.nntp_wire.specs.{Octets.{space}, Argument.{no_space, is_comment, BeginsWithArgument}, Reason.{unless, first}, Misspelling.{is_space, arguments_of}}
-use Rattle.nntp_wire.specs.{Misspelling.{is_argument, argument_misspelling, line_fault, kind_behind, line_misspelling}, declared.kind.Kind.{Kind}}
-use Rattle.nntp_wire.{specs.declared.misspelling.{Misspelling.TheVariants.{WrongArgument, WrongLine}, Due.{Due}}, proofs.Reasons.{first_alone}}
+use Rattle.std.proofs.Common.{arith, ◌≡◌, ℕ, ◌+◌, ◌<◌, true, false, List, [], ◌∷◌, ◌++◌, None, Some, refl, sym, ap, ◌∙◌, cond, length, drop, get_or, drop-cons}
+use Rattle.std.{proofs.{Common.{add-one, inl, inr}, lemmas.Bool.{cases_Bool, and_parts, not-true}}, specs.List.{list_all, slice_split}}
+use Rattle.nntp_wire.specs.{Argument.{no_space, is_comment, BeginsWithArgument}, Reason.{unless, first}, Misspelling.{is_space, arguments_of, is_argument}}
+use Rattle.nntp_wire.specs.{Misspelling.{argument_misspelling, line_fault, kind_behind, line_misspelling}, declared.kind.Kind.{Kind}}
+use Rattle.nntp_wire.{specs.declared.misspelling.{Misspelling.TheVariants.{WrongArgument}, Due.{Due}}, proofs.Reasons.{first_alone}}
 use Rattle.nntp_wire.proofs.SaysDecided.{up_to_space}
 
 -- ---- arguments
 
 -- octets up to a space are the first part
 split_word : (word rest : List ℕ) → list_all no_space word ≡ true → is_comment rest ≡ true → slice_split is_space (word ++ rest) ≡ word ∷ arguments_of rest
-split_word [] [] spaceless ended = refl
-split_word [] (b ∷ bs) spaceless ended = rw ended refl
-split_word (a ∷ word) rest spaceless ended =
-    let both = and_parts (no_space a) (list_all no_space word) spaceless in
-    let other : is_space a ≡ false = not-true (is_space a) both.0 in
-    ap (λ t. cond t ([] ∷ slice_split is_space (word ++ rest)) (onto_first a (slice_split is_space (word ++ rest)))) other
-    ∙ ap (onto_first a) (split_word word rest both.1 ended)
+split_word [] rest spaceless ended = grind arith
+split_word (a ∷ word) rest spaceless ended = grind (arith, and_parts, not-true, split_word word rest)
 
 -- the first argument, and those behind it
 pub argument-first : (bytes word rest : List ℕ) → BeginsWithArgument bytes word rest → arguments_of bytes ≡ word ∷ arguments_of rest
@@ -27,8 +21,7 @@ argument-first bytes word rest a = ap arguments_of a.whole ∙ split_word word r
 pub argument-some : (b : ℕ) (bs : List ℕ) → is_space b ≡ true → (word : List ℕ) × (rest : List ℕ) × BeginsWithArgument (b ∷ bs) word rest
 argument-some b bs is =
     let w = up_to_space bs in
-    let at : b ≡ space = eqb-true b space is in
-    (w.word, w.rest, record { whole = λ i. at i ∷ w.whole i; spaceless = w.spaceless; ended = w.ended })
+    grind arith
 
 pub argument-none : (bytes : List ℕ) → ((word rest : List ℕ) → ¬ (BeginsWithArgument bytes word rest)) → arguments_of bytes ≡ []
 argument-none [] none = refl
@@ -69,6 +62,4 @@ module _ (place index : ℕ) (dues : List Due) (d due : Due) (low : index < leng
 
 pub line-right : (kind : Kind) (place : ℕ) (line : List ℕ) (lines : List (List ℕ)) → None ≡ line_fault kind line
     → line_misspelling kind place (line ∷ lines) ≡ line_misspelling (kind_behind kind) (place + 1) lines
-line-right kind place line lines e =
-    ap (λ o. first (option_map (WrongLine place) o ∷ line_misspelling (kind_behind kind) (place + 1) lines ∷ [])) (sym e)
-    ∙ first_alone (line_misspelling (kind_behind kind) (place + 1) lines)
+line-right kind place line lines e = grind arith

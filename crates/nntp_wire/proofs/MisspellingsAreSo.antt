@@ -3,13 +3,13 @@ use Rattle.std.proofs.Common.{◌≡◌, ℕ, suc, ◌+◌, Bool, true, false, n
 use Rattle.std.{proofs.{Common.{arith}, lemmas.Option.{IfSome_then}}, specs.Prelude.{slice_get, is_some, option_map, IfSome}}
 use Rattle.nntp_wire.specs.{Octets.{is_clean}, Lines.{lines_of_stream}, Words.{words_of}, Block.{unstuffed}, Listing.{listed_number_of, active_of}}
 use Rattle.nntp_wire.specs.{Listing.{number_in_front, id_in_place, gives_versions}, Answer.{Asked, code_of, is_fitting, kind_of, is_block_due}, Reason.{unless}}
-use Rattle.nntp_wire.specs.Misspelling.{arguments_of, dues, is_argument, argument_misspelling, has_no_single_dot, listing_fault, line_fault, kind_behind}
-use Rattle.nntp_wire.specs.Misspelling.{line_misspelling, lines_misspelling, block_misspelling, misspelling_behind, code_misspelling, misspelling}
+use Rattle.nntp_wire.specs.Misspelling.{arguments_of, dues, is_argument, argument_misspelling, listing_fault, line_fault, kind_behind, line_misspelling}
+use Rattle.nntp_wire.specs.Misspelling.{lines_misspelling, block_misspelling, misspelling_behind, code_misspelling, misspelling}
 use Rattle.nntp_wire.specs.{Inner.Misspelling.{IsWrongArgument, has_fault, IsWrongLine}, declared.kind.Kind.{Kind, TheVariants.{Group, Numbers, Sent, Active}}}
 use Rattle.nntp_wire.specs.declared.{kind.Kind.TheVariants.{Overview, Capabilities, Plain}, misspelling.Misspelling.{Misspelling, TheVariants.{WrongOctet}}}
 use Rattle.nntp_wire.specs.declared.misspelling.{Misspelling.TheVariants.{TooLong, NoCode, WrongArgument, WrongLine, WrongBlock}, Due.{Due}}
-use Rattle.nntp_wire.specs.declared.misspelling.LineFault.{LineFault, TheVariants.{BadOctet, SingleDot, NoNumber, NoGroup, NoArticleNumber, NoMessageId}}
-use Rattle.nntp_wire.{specs.declared.misspelling.LineFault.TheVariants.{NoVersions}, proofs.Reasons.{so_unless, so_first}}
+use Rattle.nntp_wire.specs.declared.misspelling.LineFault.{LineFault, TheVariants.{NoNumber, NoGroup, NoArticleNumber, NoMessageId, NoVersions}}
+use Rattle.nntp_wire.proofs.Reasons.{so_unless, so_first}
 
 -- ---- arguments
 
@@ -28,8 +28,7 @@ so_arguments from [] words = tt
 so_arguments from (due ∷ later) [] = record { place = from; due = due; is = refl; index = 0; counted = omega arith; is_due = refl; is_other = tt }
 so_arguments from (due ∷ later) (word ∷ words) =
     so_first Q (unless (is_argument due word) (WrongArgument from due)) (argument_misspelling (from + 1) later words ∷ [])
-    (so_unless Q (is_argument due word) (WrongArgument from due)
-    (λ other. record { place = from; due = due; is = refl; index = 0; counted = omega arith; is_due = refl; is_other = other }))
+    (grind arith)
     (so_first Q (argument_misspelling (from + 1) later words) [] (IfSome_then (argument_misspelling (from + 1) later words) (so_arguments (from + 1) later words) behind) tt)
   where
     Q : Misspelling → Type 0
@@ -64,13 +63,7 @@ so_listing Capabilities line = so_unless (λ fault. has_fault fault line ≡ tru
 so_listing Plain line = tt
 
 so_fault : (kind : Kind) (line : List ℕ) → IfSome (line_fault kind line) (λ fault. has_fault fault line ≡ true)
-so_fault kind line =
-    so_first Q (unless (is_clean line) BadOctet) (unless (has_no_single_dot line) SingleDot ∷ listing_fault kind (unstuffed line) ∷ []) (so_unless Q (is_clean line) BadOctet (ap not))
-    (so_first Q (unless (has_no_single_dot line) SingleDot) (listing_fault kind (unstuffed line) ∷ []) (so_unless Q (has_no_single_dot line) SingleDot (ap not))
-    (so_first Q (listing_fault kind (unstuffed line)) [] (so_listing kind line) tt))
-  where
-    Q : LineFault → Type 0
-    Q fault = has_fault fault line ≡ true
+so_fault kind line = grind (arith, so_first, so_unless, so_listing)
 
 -- the reason names a line that has this fault, where they are counted from this place on
 record NamesLine (from : ℕ) (lines : List (List ℕ)) (why : Misspelling) : Type 0 where
@@ -82,8 +75,7 @@ record NamesLine (from : ℕ) (lines : List (List ℕ)) (why : Misspelling) : Ty
   is_wrong : MatchOption (slice_get lines index) ⊥ (λ line. has_fault fault line ≡ true)
 
 mapped : {A B : Type 0} (f : A → B) (o : Option A) (Q : B → Type 0) → IfSome o (λ x. Q (f x)) → IfSome (option_map f o) Q
-mapped f None Q h = tt
-mapped f (Some x) Q h = h
+mapped f o Q h = grind arith
 
 so_lines : (kind : Kind) (from : ℕ) (lines : List (List ℕ)) → IfSome (line_misspelling kind from lines) (NamesLine from lines)
 so_lines kind from [] = tt
@@ -115,12 +107,7 @@ Tells asked line bytes WrongBlock = MatchOption (code_of line) ⊥ (λ code. is_
 
 -- the line that is named, in the words of the law
 line_told : (lines : List (List ℕ)) (why : Misspelling) → NamesLine 1 lines why → (place : ℕ) × (fault : LineFault) × (why ≡ WrongLine place fault) × IsWrongLine lines place fault
-line_told lines why n = (n.place, n.fault, n.is, record { index = n.index; counted = (let c = n.counted in omega arith); is_wrong = at (slice_get lines n.index) n.is_wrong })
-  where
-    at : (o : Option (List ℕ)) → MatchOption o ⊥ (λ line. has_fault n.fault line ≡ true)
-        → MatchOption o ((n.fault ≡ NoVersions) × (lines ≡ [])) (λ line. has_fault n.fault line ≡ true)
-    at None h = absurd h
-    at (Some line) h = h
+line_told lines why n = grind arith
 
 -- the reason is one of a line
 abbrev OfLine : List (List ℕ) → Misspelling → Type 0
@@ -141,9 +128,7 @@ so_block : (asked : Asked) (line : List ℕ) (code : ℕ) (is : code_of line ≡
 so_block asked line code is true due (Some bytes) =
     IfSome_then (lines_misspelling (kind_of asked code) (lines_of_stream bytes)) (so_all (kind_of asked code) (lines_of_stream bytes))
     (λ why o. subst (Tells asked line (Some bytes)) (sym o.2) o.3)
-so_block asked line code is false due None = tt
-so_block asked line code is true due None = subst (λ o. MatchOption o ⊥ (λ code. false ≡ not (is_block_due asked code))) (sym is) (ap not due)
-so_block asked line code is false due (Some bytes) = subst (λ o. MatchOption o ⊥ (λ code. true ≡ not (is_block_due asked code))) (sym is) (ap not due)
+so_block asked line code is is_due due bytes = grind arith
 
 so_behind : (asked : Asked) (line : List ℕ) (bytes : Option (List ℕ)) (code : ℕ) → code_of line ≡ Some code
     → IfSome (misspelling_behind (kind_of asked code) (is_block_due asked code) (drop 3 line) bytes) (Tells asked line bytes)
@@ -162,24 +147,13 @@ so_behind asked line bytes code is =
     words = arguments_of (drop 3 line)
 
     told : (why : Misspelling) → NamesArgument 1 (dues kind) words why → Q why
-    told why n = subst Q (sym n.is)
-        (subst (λ o. MatchOption o ⊥ (λ code. IsWrongArgument (dues (kind_of asked code)) words n.place n.due)) (sym is)
-        (record { index = n.index; counted = (let c = n.counted in omega arith); is_due = n.is_due; is_other = n.is_other }))
+    told why n = grind arith
 
 so_code : (asked : Asked) (line : List ℕ) (bytes : Option (List ℕ)) (o : Option ℕ) → code_of line ≡ o → IfSome (code_misspelling asked line bytes o) (Tells asked line bytes)
-so_code asked line bytes None is = is
-so_code asked line bytes (Some code) is = so_behind asked line bytes code is
+so_code asked line bytes o is = grind (arith, so_behind)
 
 tells : (asked : Asked) (line : List ℕ) (bytes : Option (List ℕ)) → IfSome (misspelling asked line bytes) (Tells asked line bytes)
-tells asked line bytes =
-    so_first Q (unless (is_clean line) WrongOctet) (unless (is_fitting asked (length line)) (TooLong (length line + 2)) ∷ code_misspelling asked line bytes (code_of line) ∷ [])
-    (so_unless Q (is_clean line) WrongOctet (λ e. e))
-    (so_first Q (unless (is_fitting asked (length line)) (TooLong (length line + 2))) (code_misspelling asked line bytes (code_of line) ∷ [])
-    (so_unless Q (is_fitting asked (length line)) (TooLong (length line + 2)) (λ e. (refl, e)))
-    (so_first Q (code_misspelling asked line bytes (code_of line)) [] (so_code asked line bytes (code_of line) refl) tt))
-  where
-    Q : Misspelling → Type 0
-    Q = Tells asked line bytes
+tells asked line bytes = grind (arith, so_first, so_unless, so_code)
 
 pub so : (asked : Asked) (line : List ℕ) (bytes : Option (List ℕ)) (why : Misspelling) → misspelling asked line bytes ≡ Some why → Tells asked line bytes why
 so asked line bytes why e = subst (λ o. IfSome o (Tells asked line bytes)) e (tells asked line bytes)

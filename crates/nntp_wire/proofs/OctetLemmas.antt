@@ -1,7 +1,7 @@
 -- What is below 256: the items of a slice, and of lists of such.
-use Rattle.std.proofs.Common.{◌≡◌, ℕ, suc, Bool, true, false, cond, ◌==◌, List, [], ◌∷◌, ◌++◌, get_or, refl, sym, ◌∙◌, arith, Fits, w8}
-use Rattle.std.{proofs.lemmas.{Bool.{and_parts, and_from, Decides.{nat_tests}}, List.Folds.{list_all-append}}, specs.{Prelude.{nat_lt}, List.{list_all}}}
-use Rattle.nntp_wire.specs.{Inner.Octets.{are_octets}, Octets.{crlf, dot}, Block.{stuffed, sent}}
+use Rattle.std.proofs.{Common.{◌≡◌, ℕ, suc, true, List, [], ◌∷◌, ◌++◌, get_or, refl, sym, ◌∙◌, arith, Fits, w8}, lemmas.Bool.{and_parts, and_from}}
+use Rattle.std.{proofs.lemmas.{Bool.Decides.{nat_tests}, List.Folds.{list_all-append}}, specs.{Prelude.{nat_lt}, List.{list_all}}}
+use Rattle.nntp_wire.specs.{Inner.Octets.{are_octets}, Block.{stuffed, sent}}
 
 -- what a slice of u8 holds
 pub octets-fit : (xs : List ℕ) → ((i : ℕ) → Fits w8 (get_or xs i 0)) → are_octets xs ≡ true
@@ -14,16 +14,9 @@ octets-parts xs ys h = and_parts (are_octets xs) (are_octets ys) (sym (list_all-
 
 -- a line without the dot in front
 pub unstuffed-octets : (line : List ℕ) → are_octets (stuffed line) ≡ true → are_octets line ≡ true
-unstuffed-octets [] h = refl
-unstuffed-octets (b ∷ bs) h = by (b == dot) h
-  where
-    by : (c : Bool) → are_octets (cond c (dot ∷ b ∷ bs) (b ∷ bs)) ≡ true → are_octets (b ∷ bs) ≡ true
-    by true h = h
-    by false h = h
+unstuffed-octets line h = grind arith
 
 -- each line of octets that send lines
 pub sent-octets : (lines : List (List ℕ)) → are_octets (sent lines) ≡ true → list_all are_octets lines ≡ true
 sent-octets [] h = refl
-sent-octets (line ∷ lines) h =
-    let parts = octets-parts (stuffed line ++ crlf) (sent lines) h in
-    and_from (are_octets line) (list_all are_octets lines) (unstuffed-octets line (octets-parts (stuffed line) crlf parts.0).0) (sent-octets lines parts.1)
+sent-octets (line ∷ lines) h = grind (arith, octets-parts, and_from, unstuffed-octets, sent-octets lines)

@@ -1,17 +1,14 @@
 -- Items against characters, from one `*` to the next.
-use Rattle.std.proofs.Common.{◌≡◌, ◌≢◌, ◌↔◌, ℕ, ◌<◌, List, [], ◌∷◌, ◌++◌, length, Bor, refl, sym, ◌∙◌, ap, arith, true, false, Bool, ◌⊎◌, inl, inr, ⊎_elim, map}
-use Rattle.std.{proofs.{Common.{length-append}, lemmas.Bool.{cases_eq, and_parts, Decides.{nat_tests}}}, specs.{Prelude.{◌==◌, if◌then◌else◌}, Char.{IsScalar}}}
-use Rattle.std.specs.{Char.{encode_utf8}, Str.{encode_utf8_all}}
-use Rattle.nntp_wire.specs.{Name.{IsUtf8Of}, Inner.Pattern.{Fits, Takes}, declared.pattern.Step.TheVariants.{Star, One, Fails}, Wildmat.{Item, star, question}}
-use Rattle.nntp_wire.{specs.Wildmat.{character, Matches, item_of}, proofs.NameLemmas.{encode_utf8-some, one_first_char}}
+use Rattle.std.proofs.Common.{◌≡◌, ◌≢◌, ◌↔◌, ℕ, List, [], ◌∷◌, ◌++◌, length, Bor, refl, sym, ◌∙◌, ap, arith, true, Bool, ◌⊎◌, inl, inr, ⊎_elim, map}
+use Rattle.std.{proofs.{Common.{length-append}, lemmas.Bool.{and_parts, Decides.{nat_tests}}}, specs.{Prelude.{◌==◌}, Char.{IsScalar, encode_utf8}}}
+use Rattle.std.specs.Str.{encode_utf8_all}
+use Rattle.nntp_wire.specs.{Name.{IsUtf8Of}, Inner.Pattern.{Fits, Takes}, declared.pattern.Step.TheVariants.{Star, One, Fails}, Wildmat.{Item, star, Matches}}
+use Rattle.nntp_wire.{specs.Wildmat.{item_of}, proofs.NameLemmas.{encode_utf8-some, one_first_char}}
 
 -- octets that begin with a character are those of a list that does
 pub utf8-cons : (ps bytes rest : List ℕ) (c : ℕ) → IsScalar c → bytes ≡ encode_utf8 c ++ rest → IsUtf8Of ps bytes → (ds : List ℕ) × (ps ≡ c ∷ ds) × IsUtf8Of ds rest
 utf8-cons [] bytes rest c is e utf8 = absurd (omega (arith, encode_utf8-some c, ap length (utf8.1 ∙ e), length-append (encode_utf8 c) rest))
-utf8-cons (p ∷ ps) bytes rest c is e utf8 =
-    let scalars = and_parts _ _ utf8.0 in
-    let same = one_first_char p c (encode_utf8_all ps) rest scalars.0 is (utf8.1 ∙ e) in
-    (ps, ap (λ x. x ∷ ps) same.0, (scalars.1, same.1))
+utf8-cons (p ∷ ps) bytes rest c is e utf8 = grind (arith, and_parts, one_first_char)
 
 -- octets that begin with none are those of no characters
 pub utf8-nil : (ps bytes : List ℕ) → ((c : ℕ) (rest : List ℕ) → IsScalar c → bytes ≢ encode_utf8 c ++ rest) → IsUtf8Of ps bytes → ps ≡ []
@@ -21,43 +18,17 @@ utf8-nil (p ∷ ps) bytes none utf8 = absurd (none p (encode_utf8_all ps) (and_p
 -- a text is empty exactly if it has no characters
 pub empty-iff : (ts bytes : List ℕ) (b : Bool) → IsUtf8Of ts bytes → b ≡ (length bytes == 0) → (b ≡ true) ↔ (ts ≡ [])
 empty-iff [] bytes b utf8 e = (λ h. refl, λ n. rw e (rw (sym utf8.1) refl))
-empty-iff (t ∷ ts) bytes b utf8 e = (
-  λ h. let some = encode_utf8-some t in
-      let long : 0 < length bytes = omega (arith, ap length utf8.1, length-append (encode_utf8 t) (encode_utf8_all ts)) in
-      absurd (grind (arith, nat_tests)),
-  λ n. cc,
-)
-
--- an item that is no `*` is `?` or a character
-item_of-other : (item : ℕ) → item ≢ 42 → item_of item ≡ (if item == 63 then question else character item)
-item_of-other item plain = let no : (item == 42) ≡ false = grind (arith, nat_tests) in rw no refl
-
-item_of-named : (item : ℕ) → item ≢ 42 → item ≢ 63 → item_of item ≡ character item
-item_of-named item plain named = let no : (item == 63) ≡ false = grind (arith, nat_tests) in rw (item_of-other item plain, no) refl
+empty-iff (t ∷ ts) bytes b utf8 e = grind (arith, encode_utf8-some, length-append, nat_tests)
 
 -- an item that is no `*` takes exactly one character
 pub one-nil : (item : ℕ) (is : List Item) → item ≢ 42 → Matches (item_of item ∷ is) [] → ⊥
-one-nil item is plain m = ⊎_elim
-    (λ (any : item ≡ 63). let h : Matches (question ∷ is) [] = (rw any at m) in (let y : ◌≡◌ {A = List ℕ} [] (h.0 ∷ h.1) = h.2 in cc))
-    (λ named. let h : Matches (character item ∷ is) [] = (rw (item_of-named item plain named) at m) in (let y : [] ≡ item ∷ h.0 = h.1 in cc))
-    (cases_eq item 63)
+one-nil item is plain m = grind arith
 
 pub one-other : (item c : ℕ) (is : List Item) (ts : List ℕ) → item ≢ 42 → item ≢ 63 → item ≢ c → Matches (item_of item ∷ is) (c ∷ ts) → ⊥
-one-other item c is ts plain named other m =
-    let h : Matches (character item ∷ is) (c ∷ ts) = (rw (item_of-named item plain named) at m) in
-    other (let y : c ∷ ts ≡ item ∷ h.0 = h.1 in let z : c ≡ item = cc in sym z)
+one-other item c is ts plain named other m = grind arith
 
 pub one-rest : (item c : ℕ) (is : List Item) (ts : List ℕ) → item ≢ 42 → Matches (item_of item ∷ is) (c ∷ ts) → Matches is ts
-one-rest item c is ts plain m = ⊎_elim
-    (λ (any : item ≡ 63). let h : Matches (question ∷ is) (c ∷ ts) = (rw any at m) in (let y : c ∷ ts ≡ h.0 ∷ h.1 = h.2 in let z : ts ≡ h.1 = cc in rw z h.3))
-    (λ named. let h : Matches (character item ∷ is) (c ∷ ts) = (rw (item_of-named item plain named) at m) in (let y : c ∷ ts ≡ item ∷ h.0 = h.1 in let z : ts ≡ h.0 = cc in rw z h.2))
-    (cases_eq item 63)
-
-pub one-takes : (item c : ℕ) (is : List Item) (ts : List ℕ) → Fits item c → Matches is ts → Matches (item_of item ∷ is) (c ∷ ts)
-one-takes item c is ts fits m = ⊎_elim
-    (λ (any : item ≡ 63). rw any (c, ts, refl, m))
-    (λ named. rw (item_of-named item fits.0 named) (ts, (let z : item ≡ c = ⊎_elim (λ x. absurd (named x)) (λ y. y) fits.1 in ap (λ t. t ∷ ts) (sym z)), m))
-    (cases_eq item 63)
+one-rest item c is ts plain m = grind arith
 
 -- `*` takes no character, or one and then more
 pub star-here : (is : List Item) (ts : List ℕ) → Matches is ts → Matches (star ∷ is) ts
@@ -103,9 +74,6 @@ pub record IsLeft (whole : Type 0) (is : List Item) (ts : List ℕ) (after : Lis
   pub same : whole ↔ (Matches is ts ⊎ MatchesLater after from)
   pub later : MatchesLater after from → Matches (star ∷ is) ts
 
-pub left-start : (is after : List Item) (ts : List ℕ) → IsLeft (Matches is ts) is ts after []
-left-start is after ts = record { same = (λ m. inl m, λ h. ⊎_elim (λ m. m) (λ later. absurd later) h); later = λ later. absurd later }
-
 -- an earlier `*` need not take more: the later one can
 pub left-star : (whole : Type 0) (is after : List Item) (ts from : List ℕ) → IsLeft whole (star ∷ is) ts after from → IsLeft whole is ts is ts
 left-star whole is after ts from left = record {
@@ -118,10 +86,7 @@ left-star whole is after ts from left = record {
 
 one : (whole : Type 0) (item c : ℕ) (is after : List Item) (ts from : List ℕ) → Fits item c → IsLeft whole (item_of item ∷ is) (c ∷ ts) after from → IsLeft whole is ts after from
 one whole item c is after ts from fits left = record {
-  same = (
-    λ w. ⊎_elim (λ m. inl (one-rest item c is ts fits.0 m)) (λ h. inr h) (left.same.0 w),
-    λ h. left.same.1 (⊎_elim (λ m. inl (one-takes item c is ts fits m)) (λ later. inr later) h),
-  );
+  same = grind arith;
   later = λ h. star-one item c is ts fits.0 (left.later h);
 }
 
@@ -151,17 +116,7 @@ pub record Search (whole : Type 0) (items left after from : List ℕ) : Type 0 w
   pub left_is : IsLeft whole (map item_of is) ts (map item_of behind) fs
 
 pub search-start : (ps ts pattern text : List ℕ) → IsUtf8Of ps pattern → IsUtf8Of ts text → Search (Matches (map item_of ps) ts) pattern text pattern []
-search-start ps ts pattern text p q = record {
-  is = ps;
-  ts = ts;
-  behind = ps;
-  fs = [];
-  items_are = p;
-  left_are = q;
-  after_are = p;
-  from_are = (refl, refl);
-  left_is = left-start (map item_of ps) (map item_of ps) ts;
-}
+search-start ps ts pattern text p q = grind arith
 
 pub search-star : (whole : Type 0) (items left after from : List ℕ) (rest : Bor (List ℕ))
     → ((ps ts : List ℕ) → IsUtf8Of ps items → IsUtf8Of ts left → Takes (Star rest) ps ts) → Search whole items left after from → Search whole rest.now left rest.now left
@@ -181,17 +136,7 @@ search-star whole items left after from rest takes s =
 pub search-one : (whole : Type 0) (items left after from : List ℕ) (rest others : Bor (List ℕ))
     → ((ps ts : List ℕ) → IsUtf8Of ps items → IsUtf8Of ts left → Takes (One rest others) ps ts) → Search whole items left after from → Search whole rest.now others.now after from
 search-one whole items left after from rest others takes s =
-    let t = takes s.is s.ts s.items_are s.left_are in record {
-      is = t.2;
-      ts = t.3;
-      behind = s.behind;
-      fs = s.fs;
-      items_are = t.4;
-      left_are = t.5;
-      after_are = s.after_are;
-      from_are = s.from_are;
-      left_is = left-one whole s.is t.2 t.0 t.1 (map item_of s.behind) s.ts t.3 s.fs t.6 t.7 t.8 s.left_is;
-    }
+    let t = takes s.is s.ts s.items_are s.left_are in search (arith, left-one)
 
 pub search-fails : (whole : Type 0) (items left after from others : List ℕ) (c : ℕ) → IsScalar c → from ≡ encode_utf8 c ++ others
     → ((ps ts : List ℕ) → IsUtf8Of ps items → IsUtf8Of ts left → Takes Fails ps ts) → Search whole items left after from → Search whole after others after others

@@ -1,28 +1,18 @@
 -- Octets of sent lines, each beside the two behind it.
-use Rattle.std.proofs.Common.{◌≡◌, ◌≢◌, ◌<◌, ◌∙◌, ◌↔◌, ◌++◌, ◌∷◌, [], List, ℕ, Bool, true, false, length, sym, ap, subst, refl, arith, ⊎_elim, append_assoc}
+use Rattle.std.proofs.Common.{◌≡◌, ◌≢◌, ◌<◌, ◌∙◌, ◌↔◌, ◌++◌, ◌∷◌, [], List, ℕ, Bool, true, length, sym, ap, subst, refl, arith, ⊎_elim, append_assoc}
 use Rattle.std.proofs.{Common.{append-nil, length-append, slice_index_or, ◌≤◌, ◌-◌, take, nat_eq}, Math.Bool.{and-true}, lemmas.Bool.{cases_eq, and_parts}}
-use Rattle.std.{proofs.lemmas.{Bool.Decides.{nat_tests, Decides-eqb}, Slice.Eq.{ends_is}}, specs.{Prelude.{◌&&◌, not, ◌==◌}, List.{ends_with}}}
+use Rattle.std.{proofs.lemmas.{Bool.Decides.{nat_tests, Decides-eqb}, Slice.Eq.{ends_is}}, specs.{Prelude.{◌&&◌, not}, List.{ends_with}}}
 use Rattle.nntp_wire.specs.{Octets.{dot, crlf, is_clean, is_line_breaking}, Inner.Block.{are_fit, is_fit, IsSent}, Block.{stuffed, unstuffed, sent, AreClean}}
 use Rattle.nntp_wire.proofs.BlockLemmas.{sent-cons, stuffed-iff, stuffed-clean, unstuffed-stuffed}
 
 -- fewer than three octets fit
 pub fit-short : (b : Bool) (all rest : List ℕ) → length rest < 3 → are_fit all ≡ (b && are_fit rest) → b ≡ are_fit all
 fit-short b all [] low e = sym (e ∙ and-true b)
-fit-short b all (x ∷ []) low e = sym (e ∙ and-true b)
-fit-short b all (x ∷ y ∷ []) low e = sym (e ∙ and-true b)
-fit-short b all (x ∷ y ∷ z ∷ rest) low e = absurd (omega arith)
+fit-short b all rest low e = grind arith
 
 -- what an octet that fits says of the next
 fit-pair : (a b c : ℕ) → is_fit a b c ≡ true → (a ≢ 0) × ((a ≡ 13) ↔ (b ≡ 10))
-fit-pair a b c h =
-    let some : a ≢ 0 = grind (arith, nat_tests) in
-    let to_lf : a ≡ 13 → b ≡ 10 = grind (arith, nat_tests) in
-    let to_cr : b ≡ 10 → a ≡ 13 = grind (arith, nat_tests) in
-    (some, (to_lf, to_cr))
-
--- and of the two behind it
-fit-dots : (a b : ℕ) → is_fit 10 a b ≡ true → a ≡ dot → b ≡ dot
-fit-dots a b h e = grind (arith, nat_tests)
+fit-pair a b c h = grind arith
 
 -- what says that an octet fits
 fits_of : (a b c : ℕ) → a ≢ 0 → a ≢ 13 → b ≢ 10 → (a ≡ 10 → b ≡ dot → c ≡ dot) → is_fit a b c ≡ true
@@ -39,34 +29,17 @@ fit-next a b [] h = (fit-pair a b 13 (and_parts _ _ h).0).1
 fit-next a b (c ∷ front) h = (fit-pair a b c (and_parts _ _ h).0).1
 
 fit-tail : (a b : ℕ) (front : List ℕ) → are_fit (a ∷ b ∷ (front ++ crlf)) ≡ true → are_fit (b ∷ (front ++ crlf)) ≡ true
-fit-tail a b [] h = (and_parts _ _ h).1
-fit-tail a b (c ∷ front) h = (and_parts _ _ h).1
+fit-tail a b front h = grind arith
 
 -- a clean octet
 clean_octet : (b : ℕ) → b ≢ 0 → b ≢ 13 → b ≢ 10 → not (is_line_breaking b) ≡ true
 clean_octet b some no_cr no_lf = grind (arith, nat_tests)
 
 clean-octet : (b : ℕ) → not (is_line_breaking b) ≡ true → (b ≢ 0) × ((b ≢ 13) × (b ≢ 10))
-clean-octet b h =
-    let some : b ≢ 0 = grind (arith, nat_tests) in
-    let no_cr : b ≢ 13 = grind (arith, nat_tests) in
-    let no_lf : b ≢ 10 = grind (arith, nat_tests) in
-    (some, (no_cr, no_lf))
-
--- a line whose octets fit behind an LF has no single dot in front
-stuffed-dots : (b c : ℕ) (line : List ℕ) → (b ≡ dot → c ≡ dot) → stuffed (unstuffed (b ∷ c ∷ line)) ≡ b ∷ c ∷ line
-stuffed-dots b c line dots = ⊎_elim
-    (λ (is : b ≡ dot). let too : c ≡ dot = dots is in rw (is, too) refl)
-    (λ (other : b ≢ dot). let no : (b == dot) ≡ false = grind (arith, nat_tests) in rw (no, no) refl)
-    (cases_eq b dot)
-
-stuffed-one : (b : ℕ) → b ≢ dot → stuffed (unstuffed (b ∷ [])) ≡ b ∷ []
-stuffed-one b other = let no : (b == dot) ≡ false = grind (arith, nat_tests) in rw (no, no) refl
+clean-octet b h = grind arith
 
 fit-stuffed : (line others : List ℕ) → are_fit (10 ∷ ((line ++ crlf) ++ others)) ≡ true → stuffed (unstuffed line) ≡ line
-fit-stuffed [] others h = refl
-fit-stuffed (b ∷ []) others h = stuffed-one b (λ is. let e : 13 ≡ dot = fit-dots b 13 (and_parts _ _ h).0 is in omega arith)
-fit-stuffed (b ∷ c ∷ line) others h = stuffed-dots b c line (fit-dots b c (and_parts _ _ h).0)
+fit-stuffed line others h = grind arith
 
 -- the octets are a clean line, its CRLF and others that are sent
 record HasRest (bytes : List ℕ) : Type 0 where
@@ -107,10 +80,7 @@ rest-of p (b ∷ []) other h =
 rest-of p (b ∷ c ∷ front) other h =
     let tail : are_fit (b ∷ c ∷ (front ++ crlf)) ≡ true = fit-tail p b (c ∷ front) h in
     ⊎_elim
-    (λ (is : b ≡ 13).
-    let lf : c ≡ 10 = (fit-next b c front tail).0 is in
-    let fit : are_fit (10 ∷ (front ++ crlf)) ≡ true = subst (λ x. are_fit (x ∷ (front ++ crlf)) ≡ true) lf (fit-tail b c front tail) in
-    rest-none b c (front ++ crlf) is lf (sent-rest (front ++ crlf) fit (rest-of 10 front (λ e. omega arith) fit)))
+    (grind (arith, fit-next, fit-tail, rest-none, sent-rest, rest-of 10 front (λ e. omega arith)))
     (λ (next : b ≢ 13).
     rest-more b (c ∷ (front ++ crlf)) (clean_octet b (fit-head b (c ∷ front) tail) next (λ e. other ((fit-next p b (c ∷ front) h).1 e))) (rest-of b (c ∷ front) next tail))
     (cases_eq b 13)
@@ -119,50 +89,26 @@ rest-of p (b ∷ c ∷ front) other h =
 pub fit-sent : (front : List ℕ) → are_fit (10 ∷ (front ++ crlf)) ≡ true → IsSent (front ++ crlf)
 fit-sent front h = sent-rest (front ++ crlf) h (rest-of 10 front (λ e. omega arith) h)
 
--- CRLF before octets that fit behind an LF
-crlf-fit : (bytes : List ℕ) → are_fit (10 ∷ bytes) ≡ true → are_fit (13 ∷ 10 ∷ bytes) ≡ true
-crlf-fit [] h = refl
-crlf-fit (b ∷ bytes) h = h
-
--- a sent line with a dot in front has another
-alone : (b : ℕ) → b ≡ dot → stuffed (unstuffed (b ∷ [])) ≡ b ∷ [] → ⊥
-alone b is e = let short : [] ≡ b ∷ [] = subst (λ x. stuffed (unstuffed (x ∷ [])) ≡ b ∷ []) is e in omega (arith, ap length short)
-
 twice : (b c : ℕ) (line : List ℕ) → b ≡ dot → stuffed (unstuffed (b ∷ c ∷ line)) ≡ b ∷ c ∷ line → c ≡ dot
-twice b c line is e = ⊎_elim
-    (λ (same : c ≡ dot). same)
-    (λ (other : c ≢ dot).
-    let no : (c == dot) ≡ false = grind (arith, nat_tests) in
-    let short : stuffed (c ∷ line) ≡ b ∷ c ∷ line = subst (λ x. stuffed (unstuffed (x ∷ c ∷ line)) ≡ b ∷ c ∷ line) is e in
-    let same : c ∷ line ≡ b ∷ c ∷ line = let kept : stuffed (c ∷ line) ≡ c ∷ line = rw no refl in sym kept ∙ short in
-    absurd (omega (arith, ap length same)))
-    (cases_eq c dot)
+twice b c line is e = grind arith
 
 -- a clean line behind an octet
 line-fit : (p : ℕ) (line others : List ℕ) → p ≢ 0 → p ≢ 13 → (p ≡ 10 → stuffed (unstuffed line) ≡ line) → is_clean line ≡ true → are_fit (10 ∷ others) ≡ true
     → are_fit (p ∷ ((line ++ crlf) ++ others)) ≡ true
-line-fit p [] others some other dots clean h =
-    let fit : is_fit p 13 10 ≡ true = fits_of p 13 10 some other (λ e. omega arith) (λ lf e. omega arith) in
-    let more = crlf-fit others h in
-    rw (fit, more) refl
+line-fit p [] others some other dots clean h = grind arith
 line-fit p (b ∷ []) others some other dots clean h =
     let parts : (not (is_line_breaking b) ≡ true) × (true ≡ true) = and_parts _ _ clean in
     let is = clean-octet b parts.0 in
-    let fit : is_fit p b 13 ≡ true = fits_of p b 13 some other is.1.1 (λ lf e. absurd (alone b e (dots lf))) in
-    let more : are_fit (b ∷ 13 ∷ 10 ∷ others) ≡ true = line-fit b [] others is.0 is.1.0 (λ e. absurd (is.1.1 e)) refl h in
-    rw (fit, more) refl
+    search (arith, fits_of, line-fit b [] others is.0 is.1.0 (λ e. absurd (is.1.1 e)) refl h)
 line-fit p (b ∷ c ∷ line) others some other dots clean h =
     let parts : (not (is_line_breaking b) ≡ true) × (is_clean (c ∷ line) ≡ true) = and_parts _ _ clean in
     let is = clean-octet b parts.0 in
-    let fit : is_fit p b c ≡ true = fits_of p b c some other is.1.1 (λ lf e. twice b c line e (dots lf)) in
-    let more : are_fit (b ∷ c ∷ ((line ++ crlf) ++ others)) ≡ true = line-fit b (c ∷ line) others is.0 is.1.0 (λ e. absurd (is.1.1 e)) parts.1 h in
-    rw (fit, more) refl
+    search (arith, fits_of, twice, line-fit b (c ∷ line) others is.0 is.1.0 (λ e. absurd (is.1.1 e)) parts.1 h)
 
 -- sent lines fit, the first octet as behind an LF
 pub sent-fit : (lines : List (List ℕ)) → AreClean lines → are_fit (10 ∷ sent lines) ≡ true
 sent-fit [] clean = refl
-sent-fit (l ∷ ls) clean =
-    line-fit 10 (stuffed l) (sent ls) (λ e. omega arith) (λ e. omega arith) (λ e. ap stuffed (unstuffed-stuffed l)) (stuffed-clean l clean.0) (sent-fit ls clean.1)
+sent-fit (l ∷ ls) clean = grind (arith, line-fit, unstuffed-stuffed, stuffed-clean, sent-fit ls clean.1)
 
 -- and end with CRLF, if there are some
 pub sent-ends : (line : List ℕ) (lines : List (List ℕ)) → (front : List ℕ) × (sent (line ∷ lines) ≡ front ++ crlf)
@@ -182,9 +128,7 @@ sent-two bytes some h = let ends = sent_ends bytes some h in omega (arith, ap le
 
 -- the first two of some octets
 fit-first : (bytes : List ℕ) → 2 ≤ length bytes → are_fit (10 ∷ bytes) ≡ (is_fit 10 (slice_index_or bytes 0 0) (slice_index_or bytes 1 0) && are_fit bytes)
-fit-first [] some = absurd (omega arith)
-fit-first (b ∷ []) some = absurd (omega arith)
-fit-first (b ∷ c ∷ bytes) some = refl
+fit-first bytes some = grind arith
 
 -- octets are sent lines exactly if the first ones fit behind an LF, the last are CRLF, and all fit
 pub sent-iff : (bytes : List ℕ) → 2 ≤ length bytes

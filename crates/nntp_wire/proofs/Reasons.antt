@@ -1,42 +1,29 @@
 -- Of several conditions, the first that fails: where there is none, and what holds of it.
-use Rattle.std.proofs.{Common.{◌≡◌, Bool, true, false, ◌&&◌, Option, None, Some, List, [], ◌∷◌, map, refl, sym, ap, ◌∙◌}, lemmas.Bool.{true≢false}}
-use Rattle.std.specs.{Prelude.{is_none, IfSome}, List.{list_all}}
+use Rattle.std.{proofs.Common.{arith, ◌≡◌, Bool, true, false, ◌&&◌, Option, None, List, [], ◌∷◌, map, refl, ap, ◌∙◌}, specs.Prelude.{is_none, IfSome}}
+use Rattle.std.specs.List.{list_all}
 use Rattle.nntp_wire.specs.Reason.{unless, first}
 
 -- ---- no reason
 
 pub none_unless : {A : Type 0} (b : Bool) (why : A) → is_none (unless b why) ≡ b
-none_unless true why = refl
-none_unless false why = refl
+none_unless b why = grind arith
 
 pub none_first : {A : Type 0} (o : Option A) (others : List (Option A)) → is_none (first (o ∷ others)) ≡ (is_none o && is_none (first others))
-none_first None others = refl
-none_first (Some why) others = refl
+none_first o others = grind arith
 
 pub and_true : (b : Bool) → (b && true) ≡ b
-and_true true = refl
-and_true false = refl
+and_true b = grind arith
 
 pub none_two : {A : Type 0} (a b : Option A) (p q : Bool) → is_none a ≡ p → is_none b ≡ q → is_none (first (a ∷ b ∷ [])) ≡ (p && q)
 none_two a b p q e f = none_first a (b ∷ []) ∙ ap (λ x. is_none a && x) (none_first b [] ∙ and_true (is_none b) ∙ f) ∙ ap (λ x. x && q) e
 
 pub none_three : {A : Type 0} (a b c : Option A) (p q r : Bool) → is_none a ≡ p → is_none b ≡ q → is_none c ≡ r
     → is_none (first (a ∷ b ∷ c ∷ [])) ≡ (p && q && r)
-none_three a b c p q r e f g =
-    none_first a (b ∷ c ∷ []) ∙ ap (λ x. is_none a && x) (none_two b c q r f g) ∙ ap (λ x. x && (q && r)) e ∙ left p q r
-  where
-    left : (p q r : Bool) → (p && (q && r)) ≡ (p && q && r)
-    left true q r = refl
-    left false q r = refl
+none_three a b c p q r e f g = grind arith
 
 pub none_four : {A : Type 0} (a b c d : Option A) (p q r s : Bool) → is_none a ≡ p → is_none b ≡ q → is_none c ≡ r → is_none d ≡ s
     → is_none (first (a ∷ b ∷ c ∷ d ∷ [])) ≡ (p && q && r && s)
-none_four a b c d p q r s e f g h =
-    none_first a (b ∷ c ∷ d ∷ []) ∙ ap (λ x. is_none a && x) (none_three b c d q r s f g h) ∙ ap (λ x. x && (q && r && s)) e ∙ left p q r s
-  where
-    left : (p q r s : Bool) → (p && (q && r && s)) ≡ (p && q && r && s)
-    left true q r s = refl
-    left false q r s = refl
+none_four a b c d p q r s e f g h = grind arith
 
 pub none_each : {A B : Type 0} (f : A → Option B) (p : A → Bool) → ((x : A) → is_none (f x) ≡ p x) → (xs : List A) → is_none (first (map f xs)) ≡ list_all p xs
 none_each f p e [] = refl
@@ -44,18 +31,15 @@ none_each f p e (x ∷ xs) = none_first (f x) (map f xs) ∙ ap (λ b. b && is_n
 
 -- there is no reason exactly if the test says so
 pub none_by_test : {A : Type 0} (o : Option A) → is_none o ≡ true → o ≡ None
-none_by_test None h = refl
-none_by_test (Some why) h = absurd (true≢false (sym h))
+none_by_test o h = grind arith
 
 -- ---- a reason
 
 pub so_unless : {A : Type 0} (Q : A → Type 0) (b : Bool) (why : A) → (b ≡ false → Q why) → IfSome (unless b why) Q
-so_unless Q true why f = tt
-so_unless Q false why f = f refl
+so_unless Q b why f = grind arith
 
 pub so_first : {A : Type 0} (Q : A → Type 0) (o : Option A) (others : List (Option A)) → IfSome o Q → IfSome (first others) Q → IfSome (first (o ∷ others)) Q
-so_first Q None others p q = q
-so_first Q (Some why) others p q = p
+so_first Q o others p q = grind arith
 
 pub so_each : {A B : Type 0} (Q : B → Type 0) (f : A → Option B) → ((x : A) → IfSome (f x) Q) → (xs : List A) → IfSome (first (map f xs)) Q
 so_each Q f p [] = tt
@@ -64,5 +48,4 @@ so_each Q f p (x ∷ xs) = so_first Q (f x) (map f xs) (p x) (so_each Q f p xs)
 -- ---- loops that end at the first reason
 
 pub first_alone : {A : Type 0} (o : Option A) → first (o ∷ []) ≡ o
-first_alone None = refl
-first_alone (Some why) = refl
+first_alone o = grind arith

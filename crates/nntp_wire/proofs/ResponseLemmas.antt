@@ -1,66 +1,41 @@
 -- Octets spell one response.
-use Rattle.std.{proofs.{Common.{◌≡◌, ℕ, List, [], ◌∷◌, drop, refl, sym, ◌∙◌, ap, map, Option, None, Some}, lemmas.Bool.{false≢true}}, specs.Prelude.{is_some}}
-use Rattle.nntp_wire.specs.{Block.{stuffed, unstuffed}, Answer.{Asked, Success, Response, group_is, numbers_are, sends, active_are, overviews_are, plain}}
-use Rattle.nntp_wire.specs.Answer.{Spells, Says, SaysGroup, SaysNumbers, SaysArticle, SaysActive, SaysOverviews, SaysCode, kind_of, status_of, is_block_due}
-use Rattle.nntp_wire.specs.{Answer.{block_octets, IsCleanBlock}, declared.kind.Kind.{Kind, TheVariants.{Group, Numbers, Sent, Active, Overview, Capabilities}}}
-use Rattle.nntp_wire.{specs.declared.kind.Kind.TheVariants.{Plain}, proofs.{ArgumentLemmas.{one-article, one-group}, SpellLemmas.{clean-line, one_block}}}
-use Rattle.nntp_wire.proofs.{SpellLemmas.{sent-lines, status-clean}, BlockLemmas.{unstuffed-stuffed}, FrameLemmas.{one_line}}
+use Rattle.std.proofs.{Common.{arith, ◌≡◌, ℕ, List, [], ◌∷◌, drop, refl, sym, ◌∙◌, ap, map, Option, None, Some}, lemmas.Bool.{false≢true}}
+use Rattle.std.specs.Prelude.{is_some}
+use Rattle.nntp_wire.specs.{Block.{stuffed, unstuffed}, Answer.{Asked, Success, Response, numbers_are, sends, Spells, Says, SaysGroup, SaysNumbers}}
+use Rattle.nntp_wire.specs.Answer.{SaysArticle, SaysActive, SaysOverviews, SaysCode, kind_of, status_of, is_block_due, block_octets, IsCleanBlock}
+use Rattle.nntp_wire.{specs.declared.kind.Kind.{Kind}, proofs.{ArgumentLemmas.{one-article, one-group}, SpellLemmas.{clean-line, one_block, sent-lines}}}
+use Rattle.nntp_wire.proofs.{SpellLemmas.{status-clean}, BlockLemmas.{unstuffed-stuffed}, FrameLemmas.{one_line}}
 
 same_success : (s t : Success) → s.code ≡ t.code → s.number ≡ t.number → s.id ≡ t.id → s.block ≡ t.block → s ≡ t
-same_success s t c n i b =
-    ap (λ x. record s { code = x }) c ∙ ap (λ x. record { code = t.code; number = x; id = s.id; block = s.block }) n
-    ∙ ap (λ x. record { code = t.code; number = t.number; id = x; block = s.block }) i ∙ ap (λ x. record t { block = x }) b
+same_success s t c n i b = grind arith
 
 one_by_group : (bytes : List ℕ) (r o : Response) → SaysGroup bytes r → SaysGroup bytes o → r ≡ o
-one_by_group bytes (group_is m n) (group_is o n') p q =
-    let g = one-group bytes m o n n' p q in
-    let marks : m ≡ o = g.0 in let names : n ≡ n' = g.1 in cc
-one_by_group bytes (group_is m n) o p q = absurd q
-one_by_group bytes r o p q = absurd p
+one_by_group bytes r o p q = grind (arith, one-group)
 
 one_by_numbers : (bytes : List ℕ) (lines : List (List ℕ)) (r o : Response) → SaysNumbers bytes lines r → SaysNumbers bytes lines o → r ≡ o
 one_by_numbers bytes lines (numbers_are m n ls) (numbers_are o n' ms) p q =
     let g = one-group bytes m o n n' p.0 q.0 in
-    let marks : m ≡ o = g.0 in let names : n ≡ n' = g.1 in
-    let listed : ls ≡ ms = p.2 ∙ sym q.2 in cc
-one_by_numbers bytes lines (numbers_are m n ls) o p q = absurd q
-one_by_numbers bytes lines r o p q = absurd p
+    grind arith
+one_by_numbers bytes lines r o p q = grind arith
 
 one_by_article : (code : ℕ) (bytes : List ℕ) (block : Option (List (List ℕ))) (r o : Response) → SaysArticle code bytes block r → SaysArticle code bytes block o → r ≡ o
 one_by_article code bytes block (sends s) (sends t) p q =
     let g = one-article bytes s.number t.number s.id t.id p.1 q.1 in
     ap sends (same_success s t (p.0 ∙ sym q.0) g.0 g.1 (p.2 ∙ sym q.2))
-one_by_article code bytes block (sends s) o p q = absurd q
-one_by_article code bytes block r o p q = absurd p
+one_by_article code bytes block r o p q = grind arith
 
 one_by_active : (lines : List (List ℕ)) (r o : Response) → SaysActive lines r → SaysActive lines o → r ≡ o
-one_by_active lines (active_are ls) (active_are ms) p q = ap active_are (p.1 ∙ sym q.1)
-one_by_active lines (active_are ls) o p q = absurd q
-one_by_active lines r o p q = absurd p
+one_by_active lines r o p q = grind arith
 
 one_by_overviews : (lines : List (List ℕ)) (r o : Response) → SaysOverviews lines r → SaysOverviews lines o → r ≡ o
-one_by_overviews lines (overviews_are ls) (overviews_are ms) p q = ap overviews_are (p.1 ∙ sym q.1)
-one_by_overviews lines (overviews_are ls) o p q = absurd q
-one_by_overviews lines r o p q = absurd p
+one_by_overviews lines r o p q = grind arith
 
 one_by_code : (code : ℕ) (r o : Response) → SaysCode code r → SaysCode code o → r ≡ o
-one_by_code code (plain c) (plain d) p q = ap plain (p ∙ sym q)
-one_by_code code (plain c) o p q = absurd q
-one_by_code code r o p q = absurd p
+one_by_code code r o p q = grind arith
 
 -- the octets behind a code and a block say one thing
 one_meaning : (k : Kind) (code : ℕ) (bytes : List ℕ) (block : Option (List (List ℕ))) (r o : Response) → Says k code bytes block r → Says k code bytes block o → r ≡ o
-one_meaning Group code bytes block r o p q = one_by_group bytes r o p q
-one_meaning Numbers code bytes None r o p q = absurd p
-one_meaning Numbers code bytes (Some lines) r o p q = one_by_numbers bytes lines r o p q
-one_meaning Sent code bytes block r o p q = one_by_article code bytes block r o p q
-one_meaning Active code bytes None r o p q = absurd p
-one_meaning Active code bytes (Some lines) r o p q = one_by_active lines r o p q
-one_meaning Overview code bytes None r o p q = absurd p
-one_meaning Overview code bytes (Some lines) r o p q = one_by_overviews lines r o p q
-one_meaning Capabilities code bytes None r o p q = absurd p
-one_meaning Capabilities code bytes (Some lines) r o p q = one_by_code code r o p.1 q.1
-one_meaning Plain code bytes block r o p q = one_by_code code r o p q
+one_meaning k code bytes block r o p q = search (arith, one_by_group, one_by_numbers, one_by_article, one_by_active, one_by_overviews, one_by_code)
 
 map-unstuffed : (lines : List (List ℕ)) → map unstuffed (map stuffed lines) ≡ lines
 map-unstuffed [] = refl
@@ -69,11 +44,7 @@ map-unstuffed (l ∷ ls) = rw (unstuffed-stuffed l, map-unstuffed ls) refl
 -- blocks that are sent alike are alike
 pub one-sent : (b c : Option (List (List ℕ))) → is_some b ≡ is_some c → IsCleanBlock b → IsCleanBlock c → block_octets b ≡ block_octets c → b ≡ c
 one-sent None None same p q e = refl
-one-sent None (Some ms) same p q e = absurd (false≢true same)
-one-sent (Some ls) None same p q e = absurd (false≢true (sym same))
-one-sent (Some ls) (Some ms) same p q e =
-    let both = one_block (map stuffed ls) (map stuffed ms) [] [] (sent-lines ls p) (sent-lines ms q) e in
-    ap Some (sym (map-unstuffed ls) ∙ ap (map unstuffed) both.0 ∙ map-unstuffed ms)
+one-sent b c same p q e = grind (arith, false≢true, one_block, sent-lines, map-unstuffed)
 
 -- octets spell one response
 pub one-response : (asked : Asked) (response other : Response) (bytes : List ℕ) → Spells asked response bytes → Spells asked other bytes → response ≡ other

@@ -1,5 +1,5 @@
 -- Whether what stands behind a code says a response can be decided.
-use Rattle.std.proofs.Common.{◌≡◌, ℕ, true, ◌==◌, not, IsTrue, List, [], ◌∷◌, ◌++◌, Option, None, Some, inl, inr, refl, sym, ap, subst, ◌∙◌}
+use Rattle.std.proofs.Common.{arith, ◌≡◌, ℕ, true, ◌==◌, not, IsTrue, List, [], ◌∷◌, ◌++◌, Option, None, Some, inl, inr, refl, sym, ap, subst, ◌∙◌}
 use Rattle.std.{proofs.lemmas.Bool.{and_from, cases_Bool, cases_eq, true≢false}, specs.List.{list_all}}
 use Rattle.nntp_wire.specs.{Octets.{space}, Number.{is_number, number_value}, Name.{IsMessageId, IsGroupName}, Argument.{no_space, is_comment}}
 use Rattle.nntp_wire.specs.{Argument.{BeginsWithArgument, BeginsWithNumber, HasArticle, HasGroup}, Listing.{are_listed_numbers, are_active_lines}}
@@ -81,17 +81,7 @@ dec_group bytes = elim (dec_number bytes) [
           | inl is ↦ inl (
             record { estimate = e; low = l; high = h },
             name,
-            record {
-              second = second;
-              third = third;
-              fourth = fourth;
-              comment = comment;
-              estimate_first = first;
-              low_second = low;
-              high_third = high;
-              name_fourth = begins;
-              is_name = is;
-            },
+            search arith,
           )
           | inr other ↦ inr (λ g. no-name bytes e second first l third low h fourth high name comment begins other g.0 g.1 g.2)
         ]
@@ -107,24 +97,19 @@ dec_group bytes = elim (dec_number bytes) [
 -- ---- what is said
 
 pub group_said : (bytes : List ℕ) (r : Response) → SaysGroup bytes r → Grouped bytes
-group_said bytes (group_is m name) says = (m, name, says)
-group_said bytes r says = absurd says
+group_said bytes r says = grind arith
 
 pub numbers_said : (bytes : List ℕ) (lines : List (List ℕ)) (r : Response) → SaysNumbers bytes lines r → Grouped bytes × IsTrue (are_listed_numbers lines)
-numbers_said bytes lines (numbers_are m name listed) says = ((m, name, says.0), says.1)
-numbers_said bytes lines r says = absurd says
+numbers_said bytes lines r says = grind arith
 
 pub article_said : (code : ℕ) (bytes : List ℕ) (block : Option (List (List ℕ))) (r : Response) → SaysArticle code bytes block r → (n : ℕ) × (id : List ℕ) × HasArticle bytes n id
-article_said code bytes block (sends s) says = (s.number, s.id, says.1)
-article_said code bytes block r says = absurd says
+article_said code bytes block r says = grind arith
 
 pub active_said : (lines : List (List ℕ)) (r : Response) → SaysActive lines r → IsTrue (are_active_lines lines)
-active_said lines (active_are listed) says = says.0
-active_said lines r says = absurd says
+active_said lines r says = grind arith
 
 pub overviews_said : (lines : List (List ℕ)) (r : Response) → SaysOverviews lines r → IsTrue (are_overview_lines lines)
-overviews_said lines (overviews_are listed) says = says.0
-overviews_said lines r says = absurd says
+overviews_said lines r says = grind arith
 
 -- whether a response is said
 pub dec_says : (kind : Kind) (code : ℕ) (bytes : List ℕ) (block : Option (List (List ℕ))) → Dec ((r : Response) × Says kind code bytes block r)

@@ -1,36 +1,24 @@
 -- How far a search has come stays true when more octets follow, and how it goes on.
-use Rattle.std.proofs.Common.{◌≡◌, ℕ, ◌+◌, ◌-◌, ◌<◌, ◌≤◌, List, [], ◌++◌, length, drop, sym, ◌∙◌, subst, arith, append_assoc, length-append, length-drop}
-use Rattle.std.{proofs.{Common.{get_or, ap, ◌⊎◌, inl, inr}, lemmas.{List.{get_or_append_left, get_or-drop}, Bool.{cases_lt}}}, specs.Prelude.{◌==◌}}
+use Rattle.std.proofs.Common.{◌≡◌, ℕ, ◌+◌, ◌-◌, ◌<◌, ◌≤◌, List, [], ◌++◌, length, drop, ◌∙◌, subst, arith, append_assoc, length-append, length-drop, get_or, ap}
+use Rattle.std.{proofs.{Common.{◌⊎◌, inl, inr}, lemmas.{List.{get_or_append_left, get_or-drop}, Bool.{cases_lt}}}, specs.Prelude.{◌==◌}}
 use Rattle.memchr.specs.Find.{OccursAt, NoneBefore, Nowhere, Passes, is_byte}
 use Rattle.nntp_wire.specs.{Octets.{crlf}, Inner.{Block.{end_of_block}, Search.{IsPassed, IsSearched, IsLineSearched, IsFrameSearched}}}
 use Rattle.nntp_wire.specs.declared.{search.Search.{Search, TheVariants.{Passed, Found}}, stream.LineSearch.{LineSearch}, framing.FrameSearch.{FrameSearch}}
 
 -- a needle stands in a stream also when more follows
 pub occurs-more : (s more p : List ℕ) (k : ℕ) → OccursAt s p k → OccursAt (s ++ more) p k
-occurs-more s more p k at = record {
-  fits = let fits = at.fits in omega (arith, length-append s more);
-  reads = λ j h. get_or_append_left s more 0 (k + j) (let fits = at.fits in omega arith) ∙ at.reads j h;
-}
+occurs-more s more p k at = grind (arith, length-append, get_or_append_left)
 
 -- a needle that stands in a stream's front stands there without what follows
 pub occurs-front : (s more p : List ℕ) (k : ℕ) → k + length p ≤ length s → OccursAt (s ++ more) p k → OccursAt s p k
-occurs-front s more p k fits at = record {
-  fits = fits;
-  reads = λ j h. sym (get_or_append_left s more 0 (k + j) (omega arith)) ∙ at.reads j h;
-}
+occurs-front s more p k fits at = grind (arith, get_or_append_left)
 
 -- a needle behind the first n octets
 occurs-ahead : (s p : List ℕ) (n k : ℕ) → n ≤ k → OccursAt s p k → OccursAt (drop n s) p (k - n)
-occurs-ahead s p n k low at = record {
-  fits = let fits = at.fits in omega (arith, length-drop n s);
-  reads = λ j h. get_or-drop n s ((k - n) + j) 0 ∙ ap (λ i. get_or s i 0) (let same : n + ((k - n) + j) ≡ k + j = omega arith in same) ∙ at.reads j h;
-}
+occurs-ahead s p n k low at = grind (arith, length-drop, get_or-drop)
 
 occurs-back : (s p : List ℕ) (n k : ℕ) → n ≤ length s → OccursAt (drop n s) p k → OccursAt s p (n + k)
-occurs-back s p n k low at = record {
-  fits = let fits = at.fits in omega (arith, length-drop n s);
-  reads = λ j h. ap (λ i. get_or s i 0) (let same : (n + k) + j ≡ n + (k + j) = omega arith in same) ∙ sym (get_or-drop n s (k + j) 0) ∙ at.reads j h;
-}
+occurs-back s p n k low at = grind (arith, length-drop, get_or-drop)
 
 -- where more octets follow, as many are passed
 passed-more : (p s more : List ℕ) (n : ℕ) → IsPassed p s n → IsPassed p (s ++ more) n

@@ -1,10 +1,10 @@
 -- The finite map that the entries of a `BTreeMap` show, under a view of its keys and one of its values.
 use Rattle.std.proofs.Common.{◌≡◌, Bool, true, false, cond, T, Option, None, Some, IsSome, is_some, option_map, List, [], ◌∷◌, map, length, refl, sym, ap}
 use Rattle.std.{proofs.{Common.{subst, ◌∙◌, arith}, lemmas.{Bool.{true≢false}, List.{length-map}}}, specs.declared.cmp.Ordering.{Ordering, TheVariants.{Less}}}
-use Rattle.std.specs.{declared.cmp.Ordering.TheVariants.{Equal, Greater}, Ordering.{eq_by_cmp, is_eq, match_ordering}, Cmp.{IsTotalOrder, eq_by_cmp_equiv}}
-use Rattle.std.specs.{Prelude.{◌&&◌}, List.{AllByRecursion, list_all, Sorted.{IsStrictlySortedBy}}, FinMap.{FinMap, get, insert, entries, len, find, put}}
-use Rattle.std.specs.FinMap.{is_sorted, from_entries, from_sorted, IsAntisymmetric, same_map, get-from_entries, get-from_sorted, entries-from_sorted}
-use Rattle.std.specs.{FinMap.{len-entries, get-insert, Entries.{find-put, below_all, by_order}}, Map.{lookup, keys_of, set_value}, BTreeMap.{insert_entry}}
+use Rattle.std.specs.{declared.cmp.Ordering.TheVariants.{Equal}, Ordering.{eq_by_cmp, is_eq}, Cmp.{IsTotalOrder, eq_by_cmp_equiv}, Prelude.{◌&&◌}}
+use Rattle.std.specs.{List.{AllByRecursion, list_all, Sorted.{IsStrictlySortedBy}}, FinMap.{FinMap, get, insert, entries, len, find, put, is_sorted}}
+use Rattle.std.specs.FinMap.{from_entries, from_sorted, IsAntisymmetric, same_map, get-from_entries, get-from_sorted, entries-from_sorted, len-entries}
+use Rattle.std.specs.{FinMap.{get-insert, Entries.{find-put, below_all}}, Map.{lookup, keys_of, set_value}, BTreeMap.{insert_entry}}
 
 module _ {K X : Type 0} {R : K → K → Ordering} (o : IsTotalOrder R) where
   pub from_entries-put : IsAntisymmetric R → (es : List (K × X)) (k : K) (v : X) → from_entries {R = R} (put R k v es) ≡ insert (from_entries es) k v
@@ -30,23 +30,11 @@ module _ {L V K X : Type 0} (R : K → K → Ordering) (key : L → K) (value : 
 
   pub find-shown : (q : K) (es : List (L × V)) → find R q (map shown_entry es) ≡ option_map value (lookup (λ k. is_eq (R q (key k))) es)
   find-shown q [] = refl
-  find-shown q (e ∷ es) =
-      elim (is_eq (R q (key e.0))) as (λ b. cond b (Some (value e.1)) (find R q (map shown_entry es)) ≡ option_map value (cond b (Some e.1) (lookup (λ k. is_eq (R q (key k))) es))) [
-        | true ↦ refl
-        | false ↦ find-shown q es
-      ]
+  find-shown q (e ∷ es) = grind (arith, find-shown q es)
 
   pub shown-insert_entry : (es : List (L × V)) (k : L) (v : V) → map shown_entry (insert_entry (λ a b. R (key a) (key b)) es k v) ≡ put R (key k) (value v) (map shown_entry es)
   shown-insert_entry [] k v = refl
-  shown-insert_entry (e ∷ es) k v =
-      elim (R (key k) (key e.0)) as (λ r. map shown_entry
-      (match_ordering r ((k, v) ∷ e ∷ es) ((e.0, v) ∷ es) (e ∷ insert_entry (λ a b. R (key a) (key b)) es k v)) ≡ by_order r
-      ((key k, value v) ∷ shown_entry e ∷ map shown_entry es) ((key e.0, value v) ∷ map shown_entry es)
-      (shown_entry e ∷ put R (key k) (value v) (map shown_entry es))) [
-        | Less ↦ refl
-        | Equal ↦ refl
-        | Greater ↦ ap (λ t. shown_entry e ∷ t) (shown-insert_entry es k v)
-      ]
+  shown-insert_entry (e ∷ es) k v = grind (arith, shown-insert_entry es k v)
 
   below_shown : (k : L) (es : List (L × V)) → AllByRecursion (λ y. R (key k) (key y) ≡ Less) (keys_of es) → T (below_all R (key k) (map shown_entry es))
   below_shown k [] h = tt
@@ -72,26 +60,19 @@ module _ {L V K X : Type 0} (R : K → K → Ordering) (key : L → K) (value : 
       len-shown es h = len-from_sorted_entries o same _ (sorted_shown es h) ∙ simp length-map
 
 pub option_map-option_map : {A B C : Type 0} (f : A → B) (g : B → C) (o : Option A) → option_map (λ x. g (f x)) o ≡ option_map g (option_map f o)
-option_map-option_map f g None = refl
-option_map-option_map f g (Some x) = refl
+option_map-option_map f g o = grind arith
 
 pub option_map_id : {A : Type 0} (o : Option A) → option_map (λ x. x) o ≡ o
-option_map_id None = refl
-option_map_id (Some x) = refl
+option_map_id o = grind arith
 
 swap_tests : {A : Type 0} (a b : Bool) (x y z : A) → (a ≡ true → b ≡ true → ⊥) → cond a x (cond b y z) ≡ cond b y (cond a x z)
-swap_tests true true x y z apart = absurd (apart refl refl)
-swap_tests true false x y z apart = refl
-swap_tests false b x y z apart = refl
+swap_tests a b x y z apart = grind arith
 
 test_again : {A : Type 0} (a : Bool) (x y z : A) → cond a x z ≡ cond a x (cond a y z)
-test_again true x y z = refl
-test_again false x y z = refl
+test_again a x y z = grind arith
 
 pub equal_is : (r : Ordering) → is_eq r ≡ true → r ≡ Equal
-equal_is Less e = cc
-equal_is Equal e = refl
-equal_is Greater e = cc
+equal_is r e = grind arith
 
 tied_itself_true : {K : Type 0} {R : K → K → Ordering} → IsTotalOrder R → (x y : K) → x ≡ y → is_eq (R x y) ≡ true
 tied_itself_true {R = R} o x y e = subst (λ z. is_eq (R x z) ≡ true) e ((eq_by_cmp_equiv o).refl x)
@@ -100,21 +81,7 @@ module _ {L V K X : Type 0} (R : K → K → Ordering) (key : L → K) (value : 
   pub find-set_value : (k q : K) (w : V) (es : List (L × V)) → IsSome (lookup (λ l. is_eq (R k (key l))) es)
       → find R q (map (shown_entry R key value) (set_value (λ l. is_eq (R k (key l))) es w)) ≡ cond (eq_by_cmp R q k) (Some (value w)) (find R q (map (shown_entry R key value) es))
   find-set_value k q w [] had = cc
-  find-set_value k q w (e ∷ es) had =
-      elim (is_eq (R k (key e.0))) as (λ b. is_eq (R k (key e.0)) ≡ b → IsSome (cond b (Some e.1) (lookup (λ l. is_eq (R k (key l))) es))
-      → find R q (map (shown_entry R key value) (cond b ((e.0, w) ∷ es) (e ∷ set_value (λ l. is_eq (R k (key l))) es w))) ≡ cond
-      (eq_by_cmp R q k) (Some (value w)) (cond (eq_by_cmp R q (key e.0)) (Some (value e.1))
-      (find R q (map (shown_entry R key value) es)))) [
-        | true ↦ λ t had. subst (λ x. cond (eq_by_cmp R q (key e.0)) (Some (value w))
-            (find R q (map (shown_entry R key value) es)) ≡ cond (eq_by_cmp R q x) (Some (value w))
-            (cond (eq_by_cmp R q (key e.0)) (Some (value e.1)) (find R q (map (shown_entry R key value) es))))
-            (sym (same k (key e.0) (equal_is _ t))) (test_again (eq_by_cmp R q (key e.0)) (Some (value w)) (Some (value e.1)) _)
-        | false ↦ λ t had. ap (cond (eq_by_cmp R q (key e.0)) (Some (value e.1))) (find-set_value k q w es had)
-            ∙ swap_tests (eq_by_cmp R q (key e.0)) (eq_by_cmp R q k) _ _ _ (λ a b.
-            let at_key : q ≡ key e.0 = same q (key e.0) (equal_is _ a) in
-            let at_k : q ≡ k = same q k (equal_is _ b) in
-            true≢false (sym (tied_itself_true o k (key e.0) (sym at_k ∙ at_key)) ∙ t))
-      ] refl had
+  find-set_value k q w (e ∷ es) had = grind (arith, equal_is, test_again, find-set_value k q w es, swap_tests, true≢false, tied_itself_true)
 
   pub set-shown : (es fs : List (L × V)) (k : K) (w : V) → fs ≡ set_value (λ l. is_eq (R k (key l))) es w
       → IsSome (lookup (λ l. is_eq (R k (key l))) es) → shown R key value fs ≡ insert (shown R key value es) k (value w)
@@ -125,10 +92,7 @@ module _ {L V K X : Type 0} (R : K → K → Ordering) (key : L → K) (value : 
   pub replaced : (es fs : List (L × V)) (m : FinMap R X) (k : K) (old new : V) → shown R key value es ≡ m
       → Some old ≡ lookup (λ l. is_eq (R k (key l))) es → fs ≡ set_value (λ l. is_eq (R k (key l))) es new
       → (shown R key value fs ≡ insert m k (value new)) × (get m k ≡ Some (value old))
-  replaced es fs m k old new is had e = (
-    set-shown es fs k new e (ap is_some (sym had)) ∙ ap (λ m. insert m k (value new)) is,
-    ap (λ m. get m k) (sym is) ∙ get-shown R key value o es k ∙ ap (option_map value) (sym had),
-  )
+  replaced es fs m k old new is had e = grind (arith, set-shown, get-shown)
 
   pub missing : (es : List (L × V)) (m : FinMap R X) (k : K) → shown R key value es ≡ m → None ≡ lookup (λ l. is_eq (R k (key l))) es → get m k ≡ None
   missing es m k is none = ap (λ m. get m k) (sym is) ∙ get-shown R key value o es k ∙ ap (option_map value) (sym none)
@@ -143,8 +107,7 @@ module _ {K X : Type 0} {R : K → K → Ordering} (o : IsTotalOrder R) (same : 
       ] refl)
 
 pub is_some-option_map : {A B : Type 0} (f : A → B) (o : Option A) → is_some (option_map f o) ≡ is_some o
-is_some-option_map f None = refl
-is_some-option_map f (Some x) = refl
+is_some-option_map f o = grind arith
 
 pub list_all-map : {X Y : Type 0} (p : Y → Bool) (f : X → Y) (xs : List X) → list_all p (map f xs) ≡ list_all (λ x. p (f x)) xs
 list_all-map p f [] = refl

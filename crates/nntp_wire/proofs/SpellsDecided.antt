@@ -3,9 +3,8 @@ use Rattle.std.proofs.Common.{◌≡◌, ℕ, zero, suc, ◌+◌, ◌≤◌, ◌
 use Rattle.std.proofs.{Common.{inr, refl, sym, ap, subst, ◌∙◌, arith, append_assoc, length-append}, lemmas.{List.{append-nil}, Bool.{and_from, and_parts}}}
 use Rattle.std.{proofs.lemmas.Bool.{cases_Bool, cases_eq, true≢false, false≢true, ne_eqb, eq-eqb}, specs.Prelude.{is_some}}
 use Rattle.nntp_wire.specs.{Octets.{dot, crlf, is_clean, is_line_breaking}, Lines.{ended}, Block.{stuffed, sent, dot_line, AreClean}, Answer.{Asked, Response}}
-use Rattle.nntp_wire.specs.Answer.{Spells, Says, kind_of, status_of, is_block_due, block_octets, IsCleanBlock, group_is, numbers_are, sends, active_are}
-use Rattle.nntp_wire.specs.{Answer.{overviews_are, plain}, Frame.{HasFrame, frame_octets}, declared.kind.Kind.{Kind, TheVariants.{Group, Numbers, Sent}}}
-use Rattle.nntp_wire.{specs.declared.kind.Kind.TheVariants.{Active, Overview, Capabilities, Plain}, proofs.{Decide.{Dec, dec_by}, FrameLemmas.{one_line}}}
+use Rattle.nntp_wire.specs.Answer.{Spells, Says, kind_of, status_of, is_block_due, block_octets, IsCleanBlock, numbers_are, active_are, overviews_are}
+use Rattle.nntp_wire.{specs.{Frame.{HasFrame, frame_octets}, declared.kind.Kind.{Kind}}, proofs.{Decide.{Dec, dec_by}, FrameLemmas.{one_line}}}
 use Rattle.nntp_wire.proofs.{BlockLemmas.{stuffed-clean}, SpellLemmas.{clean-line, status-clean, spelling-frame, one-frame, one_block, sent-lines}}
 use Rattle.nntp_wire.proofs.{ResponseLemmas.{one-response, one-sent}, SaysDecided.{dec_says}, AnswerLemmas.{status-long}}
 
@@ -44,9 +43,7 @@ dec_line (b ∷ bs) = elim (cases_Bool (is_line_breaking b)) [
     -- a line that begins with an octet that breaks lines is empty
     empty : (line rest cs : List ℕ) → is_line_breaking b ≡ true → BeginsWithLine (b ∷ cs) line rest → b ∷ cs ≡ crlf ++ rest
     empty [] rest cs breaks h = h.1
-    empty (c ∷ line) rest cs breaks h =
-        let same : b ≡ c = (let e = h.1 in cc) in
-        absurd (true≢false (sym (and_parts (not (is_line_breaking c)) (is_clean line) h.0).0 ∙ ap (λ x. not (is_line_breaking x)) (sym same) ∙ ap not breaks))
+    empty (c ∷ line) rest cs breaks h = grind arith
 
     ended : (cs : List ℕ) → is_line_breaking b ≡ true → Dec ((line : List ℕ) × (rest : List ℕ) × BeginsWithLine (b ∷ cs) line rest)
     ended [] breaks = inr (λ h. (let e = empty h.0 h.1 [] breaks h.2 in cc))
@@ -75,11 +72,7 @@ dec_unstuffed (b ∷ bs) = elim (cases_eq b dot) [
   where
     -- a line that is sent with a dot in front has one behind it
     second : (l cs : List ℕ) → stuffed l ≡ dot ∷ cs → (rest : List ℕ) × (cs ≡ dot ∷ rest)
-    second [] cs e = absurd (cc)
-    second (c ∷ l) cs e = elim (cases_eq c dot) [
-      | inl is ↦ (l, (let s : dot ∷ c ∷ l ≡ dot ∷ cs = sym (ap (λ t. cond t (dot ∷ c ∷ l) (c ∷ l)) (eq-eqb c dot is)) ∙ e in let t : c ∷ l ≡ cs = cc in sym t ∙ ap (λ x. x ∷ l) is))
-      | inr other ↦ absurd (other (let s : c ∷ l ≡ dot ∷ cs = sym (ap (λ t. cond t (dot ∷ c ∷ l) (c ∷ l)) (ne_eqb c dot other)) ∙ e in cc))
-    ]
+    second l cs e = grind arith
 
     dotted : (cs : List ℕ) → b ≡ dot → Dec ((l : List ℕ) × (stuffed l ≡ b ∷ cs))
     dotted [] is = inr (λ h. (let s = second h.0 [] (h.1 ∙ ap (λ x. x ∷ []) is) in let e = s.1 in cc))
@@ -90,13 +83,7 @@ dec_unstuffed (b ∷ bs) = elim (cases_eq b dot) [
 
 -- a line that is clean as it is sent is clean before
 unstuffed-clean : (l : List ℕ) → is_clean (stuffed l) ≡ true → is_clean l ≡ true
-unstuffed-clean [] h = refl
-unstuffed-clean (b ∷ bs) h = elim (cases_eq b dot) [
-  | inl is ↦ (let e : is_clean (dot ∷ b ∷ bs) ≡ true = ap is_clean
-      (sym (ap (λ t. cond t (dot ∷ b ∷ bs) (b ∷ bs)) (eq-eqb b dot is)))
-      ∙ h in (and_parts (not (is_line_breaking dot)) (is_clean (b ∷ bs)) e).1)
-  | inr other ↦ ap is_clean (sym (ap (λ t. cond t (dot ∷ b ∷ bs) (b ∷ bs)) (ne_eqb b dot other))) ∙ h
-]
+unstuffed-clean l h = grind arith
 
 -- a block, and what follows it
 abbrev BeginsWithBlock : List ℕ → List (List ℕ) → List ℕ → Type 0
@@ -144,10 +131,7 @@ dec_block (suc n) bytes le = by (dec_line bytes) (dec_block n)
             inl (
               l ∷ ls,
               left,
-              (
-                (unstuffed-clean l (ap is_clean is ∙ clean), cleans),
-                whole ∙ (λ i. (sym is i ++ crlf) ++ e i) ∙ sym (block-cons l ls left),
-              ),
+              grind (arith, unstuffed-clean, block-cons),
             )
         goes_on other l is (inr none) = inr (λ h. never h.0 h.1 h.2)
           where
@@ -187,38 +171,27 @@ module _ (asked : Asked) (octets line rest : List ℕ) (clean : is_clean line �
   no_status : status_of asked line ≡ None → BeginsWithSpelling asked octets → ⊥
   no_status none (r, b, more, s, e) =
       let same = (the_line b more r s e).0 in
-      let bad : None ≡ Some s.code = sym none ∙ ap (status_of asked) (sym same) ∙ s.status in
-      cc
+      grind arith
 
   -- below, the line has a status
   module _ (code : ℕ) (status : status_of asked line ≡ Some code) where
     the_code : (b more : List ℕ) (r : Response) (s : Spells asked r b) → octets ≡ b ++ more → s.code ≡ code
     the_code b more r s e =
         let same = (the_line b more r s e).0 in
-        let both : Some s.code ≡ Some code = sym s.status ∙ ap (status_of asked) same ∙ status in
-        cc
+        grind arith
 
     -- what is said by a spelling is said by the line
     the_saying : (b more : List ℕ) (r : Response) (s : Spells asked r b) → octets ≡ b ++ more → Says (kind_of asked code) code (drop 3 line) s.block r
     the_saying b more r s e =
         let l = (the_line b more r s e).0 in
-        let c = the_code b more r s e in
-        subst (λ (x : ℕ × List ℕ). Says (kind_of asked x.0) x.0 (drop 3 x.1) s.block r) (λ i. (c i, l i)) s.says
+        grind arith
 
     not_due : is_block_due asked code ≡ false → Dec ((r : Response) × Says (kind_of asked code) code (drop 3 line) None r) → Dec (BeginsWithSpelling asked octets)
-    not_due no_block (inl (r, says)) =
-        inl (
-          r,
-          line ++ crlf ++ [],
-          rest,
-          record { line = line; code = code; block = None; whole = refl; status = status; due = sym no_block; clean = tt; says = says },
-          whole ∙ ap (λ t. t ++ rest) (sym (append-nil (line ++ crlf))),
-        )
+    not_due no_block (inl (r, says)) = grind (arith, append-nil)
     not_due no_block (inr none) = inr (λ h. never h.0 h.1 h.2 h.3 h.4)
       where
         absent : (block : Option (List (List ℕ))) → is_some block ≡ false → block ≡ None
-        absent None e = refl
-        absent (Some lines) e = absurd (true≢false e)
+        absent block e = grind arith
 
         never : (r : Response) (b more : List ℕ) (s : Spells asked r b) → octets ≡ b ++ more → ⊥
         never r b more s e =
@@ -295,38 +268,14 @@ block_lines None = []
 block_lines (Some lines) = lines
 
 said_lines : (kind : Kind) (code : ℕ) (bytes : List ℕ) (block : Option (List (List ℕ))) (r : Response) → Says kind code bytes block r → length (lines_of r) ≤ length (block_lines block)
-said_lines kind code bytes block (group_is m name) h = omega arith
-said_lines kind code bytes block (sends s) h = omega arith
-said_lines kind code bytes block (plain c) h = omega arith
-said_lines Numbers code bytes (Some lines) (numbers_are m name listed) h = (let e = ap length h.2 in omega arith)
-said_lines Active code bytes (Some lines) (active_are listed) h = (let e = ap length h.1 in omega arith)
-said_lines Overview code bytes (Some lines) (overviews_are listed) h = (let e = ap length h.1 in omega arith)
-said_lines Overview code bytes (Some lines) (numbers_are m name listed) h = absurd h
-said_lines Overview code bytes (Some lines) (active_are listed) h = absurd h
-said_lines Overview code bytes None r h = absurd h
-said_lines Numbers code bytes (Some lines) (overviews_are listed) h = absurd h
-said_lines Numbers code bytes None (overviews_are listed) h = absurd h
-said_lines Active code bytes (Some lines) (overviews_are listed) h = absurd h
-said_lines Active code bytes None (overviews_are listed) h = absurd h
-said_lines Numbers code bytes None (numbers_are m name listed) h = absurd h
-said_lines Active code bytes None (active_are listed) h = absurd h
-said_lines Numbers code bytes (Some lines) (active_are listed) h = absurd h
-said_lines Numbers code bytes None (active_are listed) h = absurd h
-said_lines Active code bytes (Some lines) (numbers_are m name listed) h = absurd h
-said_lines Active code bytes None (numbers_are m name listed) h = absurd h
-said_lines Group code bytes block r h = absurd h
-said_lines Sent code bytes block r h = absurd h
-said_lines Capabilities code bytes None r h = absurd h
-said_lines Capabilities code bytes (Some lines) r h = absurd h.1
-said_lines Plain code bytes block r h = absurd h
+said_lines kind code bytes block r h = grind arith
 
 sent_long : (lines : List (List ℕ)) → length lines ≤ length (sent lines)
 sent_long [] = omega arith
 sent_long (l ∷ ls) = let rest = sent_long ls in omega (arith, length-append (stuffed l ++ crlf) (sent ls), length-append (stuffed l) crlf, rest)
 
 block_long : (block : Option (List (List ℕ))) → length (block_lines block) ≤ length (block_octets block)
-block_long None = omega arith
-block_long (Some lines) = let long = sent_long lines in omega (arith, long, length-append (sent lines) dot_line)
+block_long block = grind (arith, sent_long, length-append)
 
 -- a spelling has three octets, and one for each line
 pub spelling-long : (asked : Asked) (r : Response) (b : List ℕ) → Spells asked r b → length (lines_of r) + 3 ≤ length b

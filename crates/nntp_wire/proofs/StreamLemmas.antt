@@ -21,14 +21,7 @@ parts-some (b ∷ bs) = with_octet-some b (parts_of bs)
 
 -- octets without CRLF don't begin with it
 apart : (b : ℕ) (part : List ℕ) → HasNoCrlf (b ∷ part) → (b == carriage_return && begins_with_line_feed part) ≡ false
-apart b [] line = grind (arith, nat_tests)
-apart b (c ∷ cs) line = ⊎_elim
-    (λ (is_b : b ≡ 13). ⊎_elim
-    (λ (is_c : c ≡ 10). absurd (line 0 (rw (is_b, is_c) (occurs-behind [] crlf cs))))
-    (λ (no_c : c ≢ 10). grind (arith, nat_tests))
-    (cases_eq c 10))
-    (λ (no_b : b ≢ 13). grind (arith, nat_tests))
-    (cases_eq b 13)
+apart b part line = grind (arith, nat_tests, occurs-behind, cases_eq)
 
 -- an octet that is no CR in front of LF stays in front of its part
 with_octet-in : (b : ℕ) (part : List ℕ) (parts : List (List ℕ)) → HasNoCrlf (b ∷ part) → with_octet b (part ∷ parts) ≡ (b ∷ part) ∷ parts
@@ -61,14 +54,11 @@ lines-first line rest is_line =
 -- lines in front of a stream are its first lines
 pub lines-ended : (lines : List (List ℕ)) (rest : List ℕ) → AllByRecursion HasNoCrlf lines → lines_of_stream (ended lines ++ rest) ≡ lines ++ lines_of_stream rest
 lines-ended [] rest each = refl
-lines-ended (line ∷ lines) rest each =
-    ap lines_of_stream (append_assoc (line ++ crlf) (ended lines) rest) ∙ lines-first line (ended lines ++ rest) each.0
-    ∙ ap (λ more. line ∷ more) (lines-ended lines rest each.1)
+lines-ended (line ∷ lines) rest each = grind (arith, append_assoc, lines-first, lines-ended lines rest each.1)
 
 -- the same of all lines
 pub split-lines : (stream : List ℕ) (lines : List (List ℕ)) (rest : List ℕ) → IsSplit stream lines rest → lines ≡ lines_of_stream stream
-split-lines stream lines rest split =
-    sym (ap lines_of_stream split.whole ∙ lines-ended lines rest split.each ∙ ap (λ more. lines ++ more) (lines-none rest split.last) ∙ append-nil lines)
+split-lines stream lines rest split = grind (arith, lines-ended, lines-none, append-nil)
 
 -- an octet in front of octets without CRLF: still none, or one at the front
 cons-line : (b : ℕ) (part : List ℕ) → HasNoCrlf part → HasNoCrlf (b ∷ part) ⊎ ((rest : List ℕ) × HasNoCrlf rest × (b ∷ part ≡ crlf ++ rest))
@@ -101,11 +91,7 @@ split-cons b stream (lines, rest, split) = at lines split.each split.whole where
       (λ (more : (left : List ℕ) × HasNoCrlf left × (b ∷ line ≡ crlf ++ left)). (
         [] ∷ more.0 ∷ lines,
         rest,
-        record {
-          whole = ap (λ t. b ∷ t) whole ∙ ap (λ t. ((t ++ crlf) ++ ended lines) ++ rest) more.2;
-          each = (line-nil, (more.1, each.1));
-          last = split.last;
-        },
+        grind arith,
       ))
       (cons-line b line each.0)
 
@@ -135,6 +121,5 @@ lines-joined stream more =
     let rest = (stream-split stream).0 in
     let split : IsSplit stream (lines_of_stream stream) rest = (stream-split stream).1 in (
       lines_of_stream (rest ++ more),
-      ap (λ t. lines_of_stream (t ++ more)) split.whole ∙ ap lines_of_stream (append_assoc (ended (lines_of_stream stream)) rest more)
-          ∙ lines-ended (lines_of_stream stream) (rest ++ more) split.each,
+      grind (arith, append_assoc, lines-ended),
     )

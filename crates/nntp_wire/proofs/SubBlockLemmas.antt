@@ -1,5 +1,5 @@
 -- The first lines of a block, and those behind them.
-use Rattle.std.proofs.Common.{◌≡◌, ◌↔◌, ℕ, zero, suc, ◌+◌, ◌-◌, ◌≤◌, List, [], ◌∷◌, ◌++◌, length, take, drop, refl, sym, ◌∙◌, ap, subst, arith, append_assoc}
+use Rattle.std.proofs.Common.{◌≡◌, ◌↔◌, ℕ, zero, suc, ◌+◌, ◌-◌, ◌≤◌, List, [], ◌∷◌, ◌++◌, length, take, drop, refl, sym, ◌∙◌, ap, arith, append_assoc}
 use Rattle.std.proofs.{Common.{append-nil, length-append, IsTrue}, lemmas.List.{take_at, drop_at, take_all, drop_all}}
 use Rattle.nntp_wire.specs.{Octets.{crlf, is_clean}, Lines.{HasNoCrlf}, Block.{stuffed, sent, AreClean}, Inner.Block.{received, Sends, IsSent}}
 use Rattle.nntp_wire.proofs.{FrameLemmas.{one_line, occurs-behind}, SpellLemmas.{stuffed-line}, BlockLemmas.{received-sent, sends-received}}
@@ -55,9 +55,7 @@ pub record IsBehind (count : ℕ) (bytes rest : List ℕ) : Type 0 where
 pub passed-all : (k : ℕ) (bytes rest : List ℕ) → Passed k bytes rest → IsBehind k bytes rest
 passed-all k bytes rest p =
     let all = all_lines k bytes rest p in
-    let t : take k (received bytes) ≡ p.done = ap (take k) all ∙ take_at p.done p.left k p.count in
-    let d : drop k (received bytes) ≡ p.left = ap (drop k) all ∙ drop_at p.done p.left k p.count in
-    record { front = rw t p.whole; back = rw d p.sends }
+    grind (arith, take_at, drop_at)
 
 -- no line is left
 pub passed-end : (k count : ℕ) (bytes rest : List ℕ) → Passed k bytes rest → k ≤ count → HasNoCrlf rest → IsBehind count bytes rest
@@ -65,9 +63,7 @@ passed-end k count bytes rest p low none = at p.left p.sends refl where
   at : (left : List (List ℕ)) → Sends rest left → p.left ≡ left → IsBehind count bytes rest
   at [] sends is =
       let all : received bytes ≡ p.done = all_lines k bytes rest p ∙ ap (λ t. p.done ++ t) is ∙ append-nil p.done in
-      let t : take count (received bytes) ≡ p.done = ap (take count) all ∙ take_all count p.done (omega (arith, p.count)) in
-      let d : drop count (received bytes) ≡ [] = ap (drop count) all ∙ drop_all count p.done (omega (arith, p.count)) in
-      record { front = rw t p.whole; back = rw d sends }
+      grind (arith, take_all, drop_all)
   at (l ∷ ls) sends is =
       absurd (none (length (stuffed l)) (rw (sends.whole, append_assoc (stuffed l) crlf (sent ls)) (occurs-behind (stuffed l) crlf (sent ls))))
 
@@ -80,21 +76,13 @@ clean-take (suc k) (x ∷ xs) h = (h.0, clean-take k xs h.1)
 pub front_sends : (count : ℕ) (bytes rest front : List ℕ) → AreClean (received bytes)
     → bytes ≡ sent (take count (received bytes)) ++ rest → front ≡ take (length bytes - length rest) bytes
     → Sends front (take count (received bytes))
-front_sends count bytes rest front clean whole is =
-    let lines = take count (received bytes) in
-    let n = length bytes - length rest in
-    let at : take n bytes ≡ sent lines = ap (take n) whole ∙ take_at (sent lines) rest n (omega (arith, ap length whole, length-append (sent lines) rest)) in
-    record { clean = clean-take count (received bytes) clean; whole = is ∙ at }
+front_sends count bytes rest front clean whole is = grind (arith, take_at, length-append, clean-take)
 
 -- the octets behind it
 pub back_sends : (count : ℕ) (bytes rest back : List ℕ) → bytes ≡ sent (take count (received bytes)) ++ rest
     → Sends rest (drop count (received bytes)) → back ≡ drop (length bytes - length rest) bytes
     → Sends back (drop count (received bytes))
-back_sends count bytes rest back whole sends is =
-    let lines = take count (received bytes) in
-    let n = length bytes - length rest in
-    let at : back ≡ rest = is ∙ ap (drop n) whole ∙ drop_at (sent lines) rest n (omega (arith, ap length whole, length-append (sent lines) rest)) in
-    subst (λ t. Sends t (drop count (received bytes))) (sym at) sends
+back_sends count bytes rest back whole sends is = grind (arith, drop_at, length-append)
 
 -- octets that send lines have those received
 pub received-of : (bytes : List ℕ) (lines : List (List ℕ)) → Sends bytes lines → received bytes ≡ lines
@@ -107,19 +95,11 @@ length-lines (l ∷ ls) = omega (arith, length-lines ls, length-append (stuffed 
 
 -- octets that send lines, and those of one line more
 pub sends-snoc : (bytes more line : List ℕ) → IsSent bytes → IsTrue (is_clean line) → more ≡ bytes ++ (stuffed line ++ crlf) → Sends more (received bytes ++ line ∷ [])
-sends-snoc bytes more line is_sent clean is =
-    let sends = sends-received bytes is_sent in
-    record {
-      clean = clean-append (received bytes) (line ∷ []) sends.clean (clean, tt);
-      whole = is ∙ ap (λ t. t ++ (stuffed line ++ crlf)) sends.whole ∙ ap (λ t. sent (received bytes) ++ t) (sym (append-nil (stuffed line ++ crlf))) ∙ sym (sent-append (received bytes) (line ∷ []));
-    }
+sends-snoc bytes more line is_sent clean is = grind (arith, sends-received, clean-append, append-nil, sent-append)
 
 -- octets that send a head, the CRLF of an empty line, and octets that send a body
 pub sends-article : (front back : List ℕ) (head body : List (List ℕ)) → Sends front head → Sends back body → Sends (front ++ (crlf ++ back)) (head ++ [] ∷ body)
-sends-article front back head body h b = record {
-  clean = clean-append head ([] ∷ body) h.clean (refl, b.clean);
-  whole = ap (λ t. t ++ (crlf ++ back)) h.whole ∙ ap (λ t. sent head ++ (crlf ++ t)) b.whole ∙ sym (sent-append head ([] ∷ body));
-}
+sends-article front back head body h b = grind (arith, clean-append, sent-append)
 
 -- the lines are those of an article exactly if their octets are
 pub article-iff : (bytes front back : List ℕ) (lines head body : List (List ℕ)) → Sends bytes lines → Sends front head → Sends back body
