@@ -1,17 +1,16 @@
 -- What a feed holds, and how it goes on with more octets and behind an exchange.
-use Rattle.std.proofs.Common.{◌≡◌, ◌≢◌, ℕ, ◌+◌, ◌-◌, ◌*◌, ◌^◌, ◌<◌, ◌≤◌, List, [], ◌∷◌, ◌++◌, length, drop, map, arith, Option, None, Some, Bool, true, false}
-use Rattle.std.proofs.{Common.{refl, sym, ◌∙◌, ap, subst, append_assoc, length-append, MatchOption, inl, inr}, lemmas.List.{append-nil, drop_at}}
-use Rattle.std.{proofs.lemmas.Bool.{false≢true, eqb-true, eqb-false}, specs.Prelude.{◌==◌, nat_lt, ⊤}}
-use Rattle.nntp_wire.specs.{Octets.{crlf}, Lines.{HasNoCrlf}, Answer.{Asked, Response, Spells}, Frame.{HasFrame, framed, frame_octets}}
-use Rattle.nntp_wire.specs.{Inner.{Prompts.{prompt_kind}, Search.{IsFrameThrough}}, Session.{closes, ClientStream, further, taken}}
-use Rattle.nntp_wire.{specs.declared.framing.FrameSearch.{FrameSearch}, proofs.SearchLemmas.{line_searched-more, frame_searched-more}}
-use Rattle.nntp_wire.proofs.{SpellLemmas.{one-frame}, StreamLemmas.{lines-first}}
-use Rattle.nntp_pair.specs.declared.{class.PairClass.{PairClass, TheVariants.{Surplus, Cut, Malformed}}, searches.Searches.{Searches}}
-use Rattle.nntp_pair.specs.{declared.{octet_counts.OctetCounts.{OctetCounts}, side.Side.{Side, TheVariants.{Client, Server}}}, Pairing.{Paired, Unpaired}}
-use Rattle.nntp_pair.specs.Pairing.{IsNext, IsAnswered, Awaits, AreNext, IsBad, IsCut, IsMalformed, streams, asked_at, HasNext, Place, place_of}
-use Rattle.nntp_pair.specs.Inner.{Pairing.{places_from}, Feeding.{Fed, IsFed, EndsForGood, left_of, with_octets}, Sides.{given, count_of}}
-use Rattle.nntp_pair.{specs.Inner.Searching.{left_from, BeginsWithPlace, IsForNext, AreSearched, AreThrough, IsInStep}, proofs.NextLemmas.{one-awaited}}
-use Rattle.nntp_pair.proofs.PairingLemmas.{AreNext-push, places_more, frame-more}
+use Rattle.std.proofs.Common.{◌≡◌, ◌≢◌, ℕ, ◌+◌, ◌-◌, ◌*◌, ◌^◌, ◌<◌, ◌≤◌, List, [], ◌∷◌, ◌++◌, length, drop, arith, Option, None, Some, Bool, true, false, refl}
+use Rattle.std.proofs.{Common.{sym, ◌∙◌, ap, subst, append_assoc, length-append, MatchOption, inl, inr}, lemmas.{List.{append-nil, drop_at}, Bool.{false≢true}}}
+use Rattle.std.{proofs.lemmas.Bool.{eqb-true, eqb-false}, specs.Prelude.{◌==◌, nat_lt, ⊤}}
+use Rattle.nntp_wire.specs.{Octets.{crlf}, Lines.{HasNoCrlf}, Answer.{Asked, Response, Spells}, Frame.{HasFrame, frame_octets}, Inner.Prompts.{prompt_kind}}
+use Rattle.nntp_wire.specs.{Inner.Search.{IsFrameThrough}, Session.{closes, ClientStream, further, taken}, declared.framing.FrameSearch.{FrameSearch}}
+use Rattle.nntp_wire.proofs.{SearchLemmas.{line_searched-more, frame_searched-more}, SpellLemmas.{one-frame}, StreamLemmas.{lines-first}}
+use Rattle.nntp_pair.specs.declared.{class.PairClass.{PairClass, TheVariants.{Surplus, Malformed}}, searches.Searches.{Searches}}
+use Rattle.nntp_pair.specs.{declared.{octet_counts.OctetCounts.{OctetCounts}, side.Side.{Side, TheVariants.{Server}}}, Pairing.{Paired, Unpaired, IsNext}}
+use Rattle.nntp_pair.specs.{Pairing.{IsAnswered, Awaits, IsBad, IsCut, IsMalformed, streams, asked_at, HasNext, Place, place_of}, Inner.Pairing.{places_from}}
+use Rattle.nntp_pair.specs.Inner.{Feeding.{Fed, IsFed, EndsForGood, left_of, with_octets}, Sides.{given, count_of}, Searching.{left_from, BeginsWithPlace}}
+use Rattle.nntp_pair.{specs.Inner.Searching.{IsForNext, AreSearched, AreThrough, IsInStep}, proofs.{NextLemmas.{one-awaited}, PairingLemmas.{AreNext-push}}}
+use Rattle.nntp_pair.proofs.PairingLemmas.{places_more, frame-more}
 
 pub is-empty : (octets : List ℕ) → (length octets == 0) ≡ true → octets ≡ []
 is-empty [] e = refl
@@ -39,15 +38,7 @@ is_greeted index some = grind (arith)
 -- behind the greeting the octets begin with the place of their first line
 pub line-place : (index : ℕ) (client : ClientStream) (line rest : List ℕ) → 0 < index → HasNoCrlf line → client.octets ≡ (line ++ crlf) ++ rest
     → BeginsWithPlace (nat_lt 0 index) client (place_of client.overviews (Some line)) rest
-line-place index client line rest some is_line whole =
-    let greeted = is_greeted index some in
-    record {
-      front = line ++ crlf;
-      whole = whole;
-      places = λ more. ap (λ b. places_from b (further client more)) greeted
-          ∙ ap (λ t. places_from true (taken client.overviews t)) (ap (λ t. t ++ more) whole ∙ append_assoc (line ++ crlf) rest more)
-          ∙ ap (λ lines. map (place_of client.overviews) (map Some lines)) (lines-first line (rest ++ more) is_line);
-    }
+line-place index client line rest some is_line whole = grind (arith, is_greeted, append_assoc, lines-first)
 
 -- at no octets more
 pub begins-here : (index : ℕ) (client : ClientStream) (place : Place) (rest : List ℕ)
@@ -59,8 +50,7 @@ begins-here index client place rest begins =
 -- so an open connection awaits it
 pub begins-awaits : (index : ℕ) (is_closed : Bool) (client : ClientStream) (server : List ℕ) (place : Place) (rest : List ℕ) → is_closed ≡ false → BeginsWithPlace (nat_lt 0 index) client place rest
     → Awaits (left_from index is_closed client server) place
-begins-awaits index is_closed client server place rest is_open begins = record
-    { is_open = is_open; places = places_from true (taken client.overviews rest); first = begins-here index client place rest begins }
+begins-awaits index is_closed client server place rest is_open begins = search (arith, begins-here)
 
 -- ---- the searches
 
@@ -82,16 +72,12 @@ frame-searched index is_closed client server client_piece server_piece (Some sea
 pub searched-more : (index : ℕ) (is_closed : Bool) (client : ClientStream) (server client_piece server_piece : List ℕ) (searches : Searches)
     → AreSearched (left_from index is_closed client server) client searches
     → AreSearched (left_from index is_closed (further client client_piece) (server ++ server_piece)) (further client client_piece) searches
-searched-more index is_closed client server client_piece server_piece searches are = record {
-  line = line_searched-more client.octets client_piece searches.line are.line;
-  frame = frame-searched index is_closed client server client_piece server_piece searches.frame are.frame;
-}
+searched-more index is_closed client server client_piece server_piece searches are = search (arith, line_searched-more, frame-searched)
 
 -- where there is room for octets of a side, the server's stay few enough
 pub counted-small : (side : Side) (counts : OctetCounts) (octets : List ℕ) → counts.server < 2 ^ 64
     → count_of side counts + length octets < 2 ^ 64 → counts.server + length (given Server side octets) < 2 ^ 64
-counted-small Client counts octets small room = omega arith
-counted-small Server counts octets small room = room
+counted-small side counts octets small room = grind arith
 
 -- searches that have gone through the octets that are held
 pub in-step : (index : ℕ) (is_closed : Bool) (client held_client : ClientStream) (server held_server : List ℕ) (count : ℕ) (searches : Searches) → client ≡ held_client → server ≡ held_server
@@ -102,8 +88,7 @@ pub in-step : (index : ℕ) (is_closed : Bool) (client held_client : ClientStrea
 in-step index is_closed client held_client server held_server count searches same_client same_server counted small searched through = record {
   counted = counted;
   small = small;
-  searched = subst (λ t. AreSearched (left_from index is_closed held_client t) held_client searches) same_server
-      (subst (λ t. AreSearched (left_from index is_closed t server) t searches) same_client searched);
+  searched = grind arith;
   through = subst (λ t. AreThrough (left_from index is_closed held_client t) held_client searches) same_server
       (subst (λ t. AreThrough (left_from index is_closed t server) t searches) same_client through);
 }
@@ -120,37 +105,24 @@ nothing left is_open cut = (λ next. no_next next.0 next.1 next.2, for_good) whe
 
   for_good : (class : PairClass) → ¬ (EndsForGood class left)
   for_good Surplus (ends, closed) = false≢true (sym is_open ∙ closed)
-  for_good Cut (ends, lasting) = absurd lasting
-  for_good Malformed ((some, (place, awaits, why)), lasting) = cut place awaits why.initial why.block why.rest why.frame
+  for_good class h = search arith
 
 -- a response to what is asked at the awaited place comes next
 pub next-of : (left : Unpaired) (place : Place) (pair : Paired) (rest : List ℕ) → Awaits left place → pair.index ≡ left.index → pair.place ≡ place
     → IsAnswered place left.server pair.initial pair.response rest → (behind : Unpaired) × IsNext left pair behind
 next-of left place pair rest awaits index line answered = (
   record { index = left.index + 1; places = awaits.places; server = rest; is_closed = closes (asked_at pair.place) pair.response },
-  record {
-    index = index;
-    is_open = awaits.is_open;
-    place = awaits.first ∙ ap (λ p. p ∷ awaits.places) (sym line);
-    answered = subst (λ p. IsAnswered p left.server pair.initial pair.response rest) (sym line) answered;
-    next_index = refl;
-    closing = refl;
-  },
+  grind arith,
 )
 
 -- a frame takes two octets at least
 pub frame-shorter : (place : Place) (server initial : List ℕ) (block : Option (List ℕ)) (rest : List ℕ)
     → HasFrame (asked_at place) server initial block rest → length rest + 2 ≤ length server
-frame-shorter place server initial block rest has =
-    let whole : length server ≡ length (frame_octets initial block ++ rest) = ap length has.whole in
-    omega (arith, whole, length-append (frame_octets initial block) rest, length-append (initial ++ crlf) (framed block), length-append initial crlf)
+frame-shorter place server initial block rest has = grind (arith, length-append)
 
 -- a frame that spells nothing is bad for good
 pub malformed-for_good : (left : Unpaired) (place : Place) → Awaits left place → IsMalformed (asked_at place) left.server → EndsForGood Malformed left
-malformed-for_good left place awaits why = (
-  (λ none. let short = frame-shorter place left.server why.initial why.block why.rest why.frame in let empty : length left.server ≡ 0 = ap length none in absurd (omega arith), (place, awaits, why)),
-  tt,
-)
+malformed-for_good left place awaits why = grind arith
 
 -- where an exchange comes next, its frame is searched
 pub search-there : (left : Unpaired) (frame : Option FrameSearch) → frame ≡ None → MatchOption frame ((place : Place) → ¬ (Awaits left place)) (IsFrameThrough left.server) → HasNext left → ⊥
@@ -185,28 +157,14 @@ surplus-left left none = at left.is_closed refl left.places refl where
 -- more octets of both streams came
 pub fed-more : (fed : Fed) (client_piece server_piece : List ℕ) (client : ClientStream) (server : List ℕ) (pairs : List Paired) → IsFed fed client server pairs
     → IsFed (with_octets client_piece server_piece fed) (further client client_piece) (server ++ server_piece) pairs
-fed-more fed client_piece server_piece client server pairs is = record {
-  paired = λ client_more server_more.
-      subst (λ (x : (List ℕ × List ℕ) × (List ℕ × List ℕ)). AreNext (streams (taken client.overviews x.0.0) x.0.1) pairs (left_from fed.index fed.is_closed (taken fed.client.overviews x.1.0) x.1.1))
-      (λ i. (
-        (sym (append_assoc client.octets client_piece client_more) i, sym (append_assoc server server_piece server_more) i),
-        (sym (append_assoc fed.client.octets client_piece client_more) i, sym (append_assoc fed.server server_piece server_more) i),
-      ))
-      (is.paired (client_piece ++ client_more) (server_piece ++ server_more));
-  client_came = ap (λ n. n + length client_piece) is.client_came ∙ sym (length-append client.octets client_piece);
-  server_came = ap (λ n. n + length server_piece) is.server_came ∙ sym (length-append server server_piece);
-}
+fed-more fed client_piece server_piece client server pairs is = grind (arith, append_assoc, length-append)
 
 -- ---- behind an exchange
 
 -- the octets behind the next place
 pub behind-place : (is_greeted : Bool) (client : ClientStream) (slice : List ℕ) (place : Place) (rest : List ℕ) → slice ≡ client.octets
     → BeginsWithPlace is_greeted client place rest → drop (length slice - length rest) client.octets ≡ rest
-behind-place is_greeted client slice place rest same begins =
-    let long : length slice ≡ length client.octets = ap length same in
-    let parts : length client.octets ≡ length (begins.front ++ rest) = ap length begins.whole in
-    let size : length begins.front ≡ length slice - length rest = omega (arith, length-append begins.front rest) in
-    ap (drop (length slice - length rest)) begins.whole ∙ drop_at begins.front rest (length slice - length rest) size
+behind-place is_greeted client slice place rest same begins = grind (arith, length-append, drop_at)
 
 -- the frame that the search found is that of the response to the next place
 pub next-frame : (index : ℕ) (is_closed : Bool) (client : ClientStream) (server slice rest behind : List ℕ) (place : Place) (search : FrameSearch) (initial : List ℕ) (block : Option (List ℕ))
@@ -238,14 +196,8 @@ next-behind index is_closed closes_behind client server rest behind_server initi
     record {
       index = next.index;
       is_open = next.is_open;
-      place = begins.places client_more ∙ ap (λ p. p ∷ places_from true (taken client.overviews (rest ++ client_more))) (sym line)
-          ∙ ap (λ b. pair.place ∷ places_from b (taken client.overviews (rest ++ client_more))) (sym greeted);
-      answered = record {
-        block = next.answered.block;
-        frame = frame-more pair.place server pair.initial next.answered.block behind_server server_more
-            (subst (λ t. HasFrame (asked_at pair.place) server pair.initial next.answered.block t) same.2 next.answered.frame);
-        spells = next.answered.spells;
-      };
+      place = grind arith;
+      answered = grind (arith, frame-more);
       next_index = refl;
       closing = closing pair.response (subst (Spells (asked_at place) pair.response) octets here.spells) ∙ ap (λ p. closes (asked_at p) pair.response) (sym line);
     }

@@ -1,7 +1,6 @@
 -- At each place of a pairing a pair comes next, or the pairing ends.
-use Rattle.std.proofs.Common.{◌≡◌, ◌⊎◌, ℕ, List, [], ◌∷◌, ◌++◌, Bool, true, false, count_by, inl, inr, refl, sym, ◌∙◌, subst}
-use Rattle.nntp_wire.{specs.{Answer.{Response, Spells}, Frame.{HasFrame, frame_octets}}, proofs.{SpellLemmas.{spelling-frame}, SpellsDecided.{dec_spelling}}}
-use Rattle.nntp_wire.proofs.FramesDecided.{dec_frame}
+use Rattle.std.proofs.Common.{arith, ◌≡◌, ◌⊎◌, ℕ, List, [], ◌∷◌, ◌++◌, Bool, true, false, count_by, inl, inr, refl, sym, ◌∙◌}
+use Rattle.nntp_wire.{specs.Answer.{Response, Spells}, proofs.{SpellLemmas.{spelling-frame}, SpellsDecided.{dec_spelling}, FramesDecided.{dec_frame}}}
 use Rattle.nntp_pair.specs.{declared.class.PairClass.{PairClass, TheVariants.{Surplus, Cut, Malformed}}, Pairing.{Unpaired, IsAnswered, IsBad, Awaits, Ending}}
 use Rattle.nntp_pair.{specs.Pairing.{end, bad, Ends, asked_at, HasNext, Place, has_line}, proofs.FeedLemmas.{next-of}}
 
@@ -9,14 +8,7 @@ use Rattle.nntp_pair.{specs.Pairing.{end, bad, Ends, asked_at, HasNext, Place, h
 spelling-answers : (place : Place) (server octets rest : List ℕ) (response : Response) → Spells (asked_at place) response octets → server ≡ octets ++ rest
     → (initial : List ℕ) × IsAnswered place server initial response rest
 spelling-answers place server octets rest response spells whole =
-    let found = spelling-frame (asked_at place) response octets rest spells in (
-      found.0,
-      record {
-        block = found.1;
-        frame = subst (λ o. HasFrame (asked_at place) o found.0 found.1 rest) (sym whole) found.3;
-        spells = subst (Spells (asked_at place) response) (sym found.2) spells;
-      },
-    )
+    let found = spelling-frame (asked_at place) response octets rest spells in grind arith
 
 -- where a place is awaited
 awaited-next : (a : Unpaired) (place : Place) → Awaits a place → HasNext a ⊎ ((class : PairClass) × IsBad class a)
@@ -28,11 +20,7 @@ awaited-next a place awaits = elim (dec_spelling (asked_at place) a.server) [
   | inr none ↦ elim (dec_frame (asked_at place) a.server) [
     | inl (initial, block, rest, has) ↦ inr (
       Malformed,
-      (
-        place,
-        awaits,
-        record { initial = initial; block = block; rest = rest; frame = has; nothing = λ response spells. none (response, frame_octets initial block, rest, spells, has.whole) },
-      ),
+      grind arith,
     )
     | inr no_frame ↦ inr (Cut, (place, awaits, λ initial block rest has. no_frame (initial, block, rest, has)))
   ]

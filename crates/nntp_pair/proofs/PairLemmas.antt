@@ -1,19 +1,15 @@
 -- What the parts of a pairing say of the whole.
-use Rattle.std.proofs.Common.{◌≡◌, ℕ, ◌<◌, ◌≤◌, ◌^◌, List, [], ◌∷◌, ◌++◌, Option, Some, Bool, true, false, refl, sym, ap, subst, ◌∙◌, length, map, count_by}
-use Rattle.std.proofs.{Common.{cond, ◌+◌, arith, get_or, Fits, w8, length-append}, lemmas.List.Sums.{sum_by-cons}}
-use Rattle.nntp_wire.specs.{Lines.{lines_of_stream}, Inner.Octets.{are_octets}, Answer.{Asked, Response, group_is, numbers_are, sends, active_are}}
-use Rattle.nntp_wire.specs.{Answer.{overviews_are, plain, Spells}, Frame.{HasFrame, frame_octets}, Session.{ClientStream}}
-use Rattle.nntp_wire.{specs.declared.overviews.Overviews.{Overviews}, proofs.{OctetLemmas.{octets-fit, octets-parts}, SpellsDecided.{spelling-long}}}
+use Rattle.std.proofs.Common.{◌≡◌, ℕ, ◌<◌, ◌≤◌, ◌^◌, List, [], ◌∷◌, Option, Some, Bool, refl, sym, ap, subst, ◌∙◌, length, map, count_by, ◌+◌, arith, get_or}
+use Rattle.std.proofs.{Common.{Fits, w8, length-append}, lemmas.List.Sums.{sum_by-cons}}
+use Rattle.nntp_wire.specs.{Lines.{lines_of_stream}, Inner.Octets.{are_octets}, Answer.{Asked, Response, numbers_are, Spells}, Frame.{HasFrame, frame_octets}}
+use Rattle.nntp_wire.{specs.{Session.{ClientStream}, declared.overviews.Overviews.{Overviews}}, proofs.OctetLemmas.{octets-fit, octets-parts}}
+use Rattle.nntp_wire.proofs.SpellsDecided.{spelling-long}
 use Rattle.nntp_pair.specs.{Pairing.{IsMalformed, asked_at, Place, place_of, has_line}, Inner.Pairing.{IsSpelled, lines_in, places_from}}
 
 -- a spelling has three octets, and one for each line
 pub lines-few : (asked : Asked) (response : Response) (octets : List ℕ) → Spells asked response octets → lines_in response + 3 ≤ length octets
 lines-few asked (numbers_are m name lines) octets s = spelling-long asked (numbers_are m name lines) octets s
-lines-few asked (active_are lines) octets s = spelling-long asked (active_are lines) octets s
-lines-few asked (group_is m name) octets s = spelling-long asked (group_is m name) octets s
-lines-few asked (sends sent) octets s = spelling-long asked (sends sent) octets s
-lines-few asked (overviews_are lines) octets s = spelling-long asked (overviews_are lines) octets s
-lines-few asked (plain code) octets s = spelling-long asked (plain code) octets s
+lines-few asked response octets s = search (arith, spelling-long)
 
 -- what the front of a slice spells is spelled in octets, and has fewer lines than these
 pub spelled : (place : Place) (server initial : List ℕ) (block : Option (List ℕ)) (rest : List ℕ) (response : Response) (asked : Asked) → asked ≡ asked_at place
@@ -22,10 +18,7 @@ pub spelled : (place : Place) (server initial : List ℕ) (block : Option (List 
 spelled place server initial block rest response asked same has spells fit small =
     let front = octets-parts (frame_octets initial block) rest (sym (ap are_octets has.whole) ∙ octets-fit server fit) in
     let lines = lines-few asked response (frame_octets initial block) spells in
-    let whole : length server ≡ length (frame_octets initial block ++ rest) = ap length has.whole in (
-      record { block = block; spells = subst (λ a. Spells a response (frame_octets initial block)) same spells; octets = front.0 },
-      omega (arith, lines, whole, length-append (frame_octets initial block) rest),
-    )
+    grind (arith, length-append)
 
 -- a frame that spells nothing
 pub malformed : (place : Place) (server initial : List ℕ) (block : Option (List ℕ)) (rest : List ℕ) (asked : Asked) → asked ≡ asked_at place
@@ -41,13 +34,8 @@ malformed place server initial block rest asked same has nothing =
 
 some-count : (overviews : Overviews) (lines : List (List ℕ)) → count_by has_line (map (place_of overviews) (map Some lines)) ≡ length lines
 some-count overviews [] = refl
-some-count overviews (line ∷ lines) =
-    let places = map (place_of overviews) (map Some lines) in
-    let first : count_by has_line (place_of overviews (Some line) ∷ places) ≡ 1 + count_by has_line places =
-    sum_by-cons (λ place. cond (has_line place) 1 0) (place_of overviews (Some line)) places in
-    omega (arith, some-count overviews lines)
+some-count overviews (line ∷ lines) = search (arith, sum_by-cons, some-count overviews lines)
 
 -- the places with a line are those of the client's lines
 pub lines-count : (is_greeted : Bool) (client : ClientStream) → count_by has_line (places_from is_greeted client) ≡ length (lines_of_stream client.octets)
-lines-count true client = some-count client.overviews (lines_of_stream client.octets)
-lines-count false client = some-count client.overviews (lines_of_stream client.octets)
+lines-count is_greeted client = grind (arith, some-count)

@@ -1,7 +1,7 @@
 -- A pairing is determined, and stays when more octets follow.
-use Rattle.std.proofs.Common.{◌≡◌, ◌≢◌, ℕ, ◌+◌, List, [], ◌∷◌, ◌++◌, length, drop, map, arith, Option, None, Some, false, refl, sym, ◌∙◌, ap, subst, inl}
-use Rattle.std.proofs.{Common.{append_assoc}, lemmas.List.{map-append}}
-use Rattle.nntp_wire.{specs.{Frame.{HasFrame, frame_octets}, Lines.{lines_of_stream}, Session.{ClientStream, further}}, proofs.StreamLemmas.{lines-joined}}
+use Rattle.std.proofs.Common.{◌≡◌, ◌≢◌, ℕ, ◌+◌, List, [], ◌∷◌, ◌++◌, length, drop, map, arith, Option, Some, refl, sym, ◌∙◌, ap, subst, inl, append_assoc}
+use Rattle.std.proofs.lemmas.List.{map-append}
+use Rattle.nntp_wire.{specs.{Frame.{HasFrame}, Lines.{lines_of_stream}, Session.{ClientStream, further}}, proofs.StreamLemmas.{lines-joined}}
 use Rattle.nntp_pair.specs.{declared.class.PairClass.{PairClass, TheVariants.{Surplus, Cut, Malformed}}, Pairing.{Paired, Unpaired, IsNext, AreNext, Awaits}}
 use Rattle.nntp_pair.specs.{Pairing.{IsBad, Ending, bad, Ends, IsPairing, streams, asked_at, places_of, Place, place_of}, Inner.Pairing.{IsLasting, with_more}}
 use Rattle.nntp_pair.proofs.NextLemmas.{one-next, next-no-end, one-end}
@@ -14,10 +14,7 @@ AreNext-push (y ∷ pairs) a b c x (between, first, run) next = (between, first,
 -- the index counts the pairs
 pub index-count : (pairs : List Paired) (a b : Unpaired) → AreNext a pairs b → b.index ≡ a.index + length pairs
 index-count [] a b same = let e : a.index ≡ b.index = ap (λ u. u.index) same in omega arith
-index-count (x ∷ pairs) a b (m, n, run) =
-    let more : b.index ≡ m.index + length pairs = index-count pairs m b run in
-    let next : m.index ≡ a.index + 1 = n.next_index in
-    omega arith
+index-count (x ∷ pairs) a b (m, n, run) = grind (arith, index-count pairs m b run)
 
 pub index-counts : (client : ClientStream) (server : List ℕ) (pairs : List Paired) (left : Unpaired) → AreNext (streams client server) pairs left → left.index ≡ length pairs
 index-counts client server pairs left run = let all : left.index ≡ 0 + length pairs = index-count pairs (streams client server) left run in omega arith
@@ -38,10 +35,7 @@ first-pairs [] (y ∷ others) a b c e same ends (between, first, run) =
     absurd (next-no-end e a between y first (subst (λ u. Ends u e) (sym same) ends))
 first-pairs (x ∷ pairs) (y ∷ others) a b c e (m, n, run) ends (k, o, also) =
     let one = one-next a m k x y n o in
-    let rest = first-pairs pairs others k b c e (subst (λ u. AreNext u pairs b) one.1 run) ends also in
-    let head : x ≡ y = one.0 in
-    let tail : pairs ≡ others ++ rest.0 = rest.1 in
-    (rest.0, cc, rest.2)
+    grind (arith, first-pairs pairs others k b c e (subst (λ u. AreNext u pairs b) one.1 run) ends also)
 
 -- pairs up to an end are determined
 pub one-run : (pairs others : List Paired) (a b c : Unpaired) (e f : Ending) → AreNext a pairs b → Ends b e → AreNext a others c → Ends c f → (pairs ≡ others) × (b ≡ c)
@@ -50,34 +44,20 @@ one-run [] (y ∷ others) a b c e f p ends (k, o, q) also = absurd (next-no-end 
 one-run (x ∷ pairs) [] a b c e f (m, n, p) ends q also = absurd (next-no-end f a m x n (subst (λ u. Ends u f) (sym q) also))
 one-run (x ∷ pairs) (y ∷ others) a b c e f (m, n, p) ends (k, o, q) also =
     let one = one-next a m k x y n o in
-    let rest = one-run pairs others k b c e f (subst (λ u. AreNext u pairs b) one.1 p) ends q also in
-    let head : x ≡ y = one.0 in
-    let tail : pairs ≡ others = rest.0 in
-    (cc, rest.1)
+    grind (arith, one-run pairs others k b c e f (subst (λ u. AreNext u pairs b) one.1 p) ends q also)
 
 -- streams have one pairing
 pub one-pairing : (client : ClientStream) (server : List ℕ) (pairs others : List Paired) (ending other : Ending)
     → IsPairing client server pairs ending → IsPairing client server others other → (pairs ≡ others) × (ending ≡ other)
-one-pairing client server pairs others ending other p q =
-    let one = one-run pairs others (streams client server) p.left q.left ending other p.paired p.ends q.paired q.ends in
-    (one.0, one-end ending other q.left (subst (λ u. Ends u ending) one.1 p.ends) q.ends)
+one-pairing client server pairs others ending other p q = grind (arith, one-run, one-end)
 
 -- a frame stays with octets behind it
 pub frame-more : (place : Place) (server line : List ℕ) (block : Option (List ℕ)) (rest octets : List ℕ)
     → HasFrame (asked_at place) server line block rest → HasFrame (asked_at place) (server ++ octets) line block (rest ++ octets)
-frame-more place server line block rest octets f =
-    record { whole = ap (λ t. t ++ octets) f.whole ∙ append_assoc (frame_octets line block) rest octets; is_line = f.is_line; due = f.due; before_dot_line = f.before_dot_line }
+frame-more place server line block rest octets f = grind (arith, append_assoc)
 
 pub next-more : (places : List Place) (octets : List ℕ) (a b : Unpaired) (x : Paired) → IsNext a x b → IsNext (with_more places octets a) x (with_more places octets b)
-next-more places octets a b x next =
-    record {
-      index = next.index;
-      is_open = next.is_open;
-      place = ap (λ p. p ++ places) next.place;
-      answered = record { block = next.answered.block; frame = frame-more x.place a.server x.initial next.answered.block b.server octets next.answered.frame; spells = next.answered.spells };
-      next_index = next.next_index;
-      closing = next.closing;
-    }
+next-more places octets a b x next = search (arith, frame-more)
 
 run-more : (places : List Place) (octets : List ℕ) (pairs : List Paired) (a b : Unpaired) → AreNext a pairs b → AreNext (with_more places octets a) pairs (with_more places octets b)
 run-more places octets [] a b same = ap (with_more places octets) same
@@ -90,16 +70,14 @@ places_more client more =
     let joined = lines-joined client.octets more in
     let place = place_of client.overviews in (
       map place (map Some joined.0),
-      ap (λ lines. map place (map Some lines)) joined.1
-          ∙ ap (map place) (map-append Some (lines_of_stream client.octets) joined.0) ∙ map-append place (map Some (lines_of_stream client.octets)) (map Some joined.0),
+      grind (arith, map-append),
     )
 
 -- streams with more octets behind both
 streams-more : (client : ClientStream) (server client_more server_more : List ℕ)
     → streams (further client client_more) (server ++ server_more) ≡ with_more
     (places_more client client_more).0 server_more (streams client server)
-streams-more client server client_more server_more =
-    ap (λ places. record { index = 0; places = place_of client.overviews None ∷ places; server = server ++ server_more; is_closed = false }) (places_more client client_more).1
+streams-more client server client_more server_more = grind arith
 
 -- with more octets behind both streams the pairs come next all the same
 pub pairs-stay : (client : ClientStream) (server client_more server_more : List ℕ) (pairs : List Paired) (left : Unpaired) → AreNext (streams client server) pairs left
@@ -107,9 +85,7 @@ pub pairs-stay : (client : ClientStream) (server client_more server_more : List 
 pairs-stay client server client_more server_more pairs left run =
     let places = (places_more client client_more).0 in (
       places,
-      subst (λ u. AreNext u pairs (with_more places server_more left))
-          (sym (streams-more client server client_more server_more))
-          (run-more places server_more pairs (streams client server) left run),
+      search (arith, streams-more, run-more),
     )
 
 awaits-more : (places : List Place) (octets : List ℕ) (left : Unpaired) (place : Place) → Awaits left place → Awaits (with_more places octets left) place
@@ -134,8 +110,4 @@ pub pairing-stays : (client : ClientStream) (server client_more server_more : Li
     → IsLasting class pairing.left → IsPairing (further client client_more) (server ++ server_more) pairs (bad class)
 pairing-stays client server client_more server_more pairs class pairing lasting =
     let stays = pairs-stay client server client_more server_more pairs pairing.left pairing.paired in
-    record {
-      left = with_more stays.0 server_more pairing.left;
-      paired = stays.1;
-      ends = (some-stay pairing.left.server server_more pairing.ends.0, bad-stays class stays.0 server_more pairing.left lasting pairing.ends.1);
-    }
+    grind (arith, some-stay, bad-stays)

@@ -1,17 +1,15 @@
 -- A frame that spells nothing is passed over in one way, and only where the pairing would end at it.
-use Rattle.std.proofs.Common.{◌≡◌, ◌≢◌, ◌↔◌, ℕ, ◌+◌, ◌<◌, List, ◌∷◌, ◌++◌, length, drop, Option, None, Some, MatchOption, Bool, true, false, not, refl, sym}
-use Rattle.std.{proofs.{Common.{◌∙◌, ap, subst, arith, length-append}, lemmas.Bool.{true≢false}}, specs.Prelude.{is_some}}
-use Rattle.nntp_wire.specs.{Octets.{crlf}, Answer.{Asked, Spells, code_of, is_block_due}, Inner.Frame.{FrameParts, IsFrame}, Frame.{HasFrame, is_due_by}}
-use Rattle.nntp_wire.specs.{Frame.{framed, frame_octets}, Misspelling.{misspelling}, declared.misspelling.Misspelling.{Misspelling, TheVariants.{WrongBlock}}}
+use Rattle.std.proofs.Common.{◌≡◌, ◌≢◌, ◌↔◌, ℕ, ◌+◌, ◌<◌, List, ◌∷◌, length, drop, Option, None, Some, MatchOption, false, not, refl, sym, ◌∙◌, ap, subst}
+use Rattle.std.{proofs.Common.{arith, length-append}, specs.Prelude.{is_some}}
+use Rattle.nntp_wire.specs.{Answer.{Asked, Spells, code_of, is_block_due}, Inner.Frame.{FrameParts, IsFrame}, Frame.{HasFrame, is_due_by, frame_octets}}
+use Rattle.nntp_wire.specs.{Misspelling.{misspelling}, declared.misspelling.Misspelling.{Misspelling, TheVariants.{WrongBlock}}}
 use Rattle.nntp_wire.proofs.{MisspelledFrames.{misspelled-alone}, MisspellingsAreSo.{so}, SpellLemmas.{one-frame}}
-use Rattle.nntp_pair.specs.{declared.class.PairClass.TheVariants.{Malformed}, Pairing.{Unpaired, IsPassedOver, Awaits, IsBad, IsMalformed, Ending, bad, Ends}}
-use Rattle.nntp_pair.{specs.Pairing.{asked_at, Place}, proofs.NextLemmas.{same_unpaired, one-awaited, one-end}}
+use Rattle.nntp_pair.specs.{declared.class.PairClass.TheVariants.{Malformed}, Pairing.{Unpaired, IsPassedOver, Awaits, IsBad, IsMalformed, bad, Ends, asked_at}}
+use Rattle.nntp_pair.{specs.Pairing.{Place}, proofs.NextLemmas.{same_unpaired, one-awaited}}
 
 -- a frame takes octets
 pub frame-takes : (place : Place) (server initial : List ℕ) (block : Option (List ℕ)) (rest : List ℕ) → HasFrame (asked_at place) server initial block rest → length rest < length server
-frame-takes place server initial block rest has =
-    let whole : length server ≡ length (frame_octets initial block ++ rest) = ap length has.whole in
-    omega (arith, whole, length-append (frame_octets initial block) rest, length-append (initial ++ crlf) (framed block), length-append initial crlf)
+frame-takes place server initial block rest has = grind (arith, length-append)
 
 pub passed-shorter : (a b : Unpaired) (line : Place) (initial : List ℕ) (block : Option (List ℕ)) → IsPassedOver a line initial block b → length b.server < length a.server
 passed-shorter a b line initial block passed = frame-takes line a.server initial block b.server passed.frame
@@ -29,24 +27,12 @@ one-passed a b c line also initial other block next p q =
 
 -- the pairing would end there
 pub passed-ends : (a b : Unpaired) (line : Place) (initial : List ℕ) (block : Option (List ℕ)) → IsPassedOver a line initial block b → Ends a (bad Malformed)
-passed-ends a b line initial block passed = (
-  λ none. let empty : length a.server ≡ 0 = ap length none in let less = passed-shorter a b line initial block passed in omega arith,
-  (
-    line,
-    record { is_open = passed.is_open; places = b.places; first = passed.comes },
-    record { initial = initial; block = block; rest = b.server; frame = passed.frame; nothing = passed.nothing },
-  ),
-)
-
--- in no other way
-pub passed-no-other : (e : Ending) (a b : Unpaired) (line : Place) (initial : List ℕ) (block : Option (List ℕ)) → IsPassedOver a line initial block b → Ends a e → e ≡ bad Malformed
-passed-no-other e a b line initial block passed ends = one-end e (bad Malformed) a ends (passed-ends a b line initial block passed)
+passed-ends a b line initial block passed = grind arith
 
 -- a frame that spells nothing is passed over
 pub malformed-passed : (a : Unpaired) (place : Place) (awaits : Awaits a place) (why : IsMalformed (asked_at place) a.server)
     → IsPassedOver a place why.initial why.block (record { index = a.index + 1; places = awaits.places; server = why.rest; is_closed = false })
-malformed-passed a place awaits why =
-    record { is_open = awaits.is_open; comes = awaits.first; frame = why.frame; nothing = why.nothing; next_index = refl; stays_open = refl }
+malformed-passed a place awaits why = grind arith
 
 -- so there is one to pass over exactly where the pairing ends at one
 pub passed-exactly : (a : Unpaired) → Ends a (bad Malformed)
@@ -60,11 +46,7 @@ passed-exactly a = (
 
 -- a frame has a block exactly where one is due
 as-due : (asked : Asked) (sent : Option (List ℕ)) (o : Option ℕ) → is_some sent ≡ is_due_by asked o → MatchOption o ⊥ (λ code. is_some sent ≡ not (is_block_due asked code)) → ⊥
-as-due asked sent None due other = other
-as-due asked sent (Some code) due other = by (is_block_due asked code) (sym due ∙ other) where
-  by : (b : Bool) → b ≡ not b → ⊥
-  by true e = true≢false e
-  by false e = true≢false (sym e)
+as-due asked sent o due other = grind arith
 
 -- so there is a reason, and it isn't that
 pub passed-reason : (a b : Unpaired) (line : Place) (initial : List ℕ) (block : Option (List ℕ)) → IsPassedOver a line initial block b

@@ -1,10 +1,10 @@
 -- Pairs are spelled one after the other, and what is so spelled is paired.
-use Rattle.std.proofs.{Common.{◌≡◌, ℕ, ◌+◌, List, [], ◌∷◌, ◌++◌, map, Some, Bool, false, refl, sym, ◌∙◌, ap, subst, append_assoc}, lemmas.List.{append-nil}}
-use Rattle.std.{proofs.lemmas.List.{map-append}, specs.Prelude.{⊤, count_by}}
-use Rattle.nntp_wire.specs.{Answer.{Asked, Response, Spells, greeting, to}, Command.{request_as}, Frame.{HasFrame, frame_octets}, Lines.{lines_of_stream}}
-use Rattle.nntp_wire.specs.{Session.{closes, prompts_of, ClientStream}, Inner.Session.{AreSpelled, StaysOpen}, declared.overviews.Overviews.{Overviews}}
+use Rattle.std.proofs.Common.{arith, ◌≡◌, ℕ, ◌+◌, List, [], ◌∷◌, ◌++◌, map, Some, Bool, false, refl, sym, ◌∙◌, ap, subst, append_assoc}
+use Rattle.std.{proofs.lemmas.List.{append-nil, map-append}, specs.Prelude.{⊤, count_by}}
+use Rattle.nntp_wire.specs.{Answer.{Asked, Response, greeting, to}, Command.{request_as}, Frame.{frame_octets}, Lines.{lines_of_stream}, Session.{closes}}
+use Rattle.nntp_wire.specs.{Session.{prompts_of, ClientStream}, Inner.Session.{AreSpelled, StaysOpen}, declared.overviews.Overviews.{Overviews}}
 use Rattle.nntp_wire.proofs.SpellLemmas.{spelling-frame}
-use Rattle.nntp_pair.specs.{declared.class.PairClass.{PairClass}, Pairing.{Paired, Unpaired, AreNext, Ending, end, bad, Ends, IsPairing, responses_of, streams}}
+use Rattle.nntp_pair.specs.{declared.class.PairClass.{PairClass}, Pairing.{Paired, Unpaired, AreNext, Ending, end, bad, IsPairing, responses_of, streams}}
 use Rattle.nntp_pair.{specs.{Pairing.{asked_at, places_of, Place, place_of, has_line}, Inner.Pairing.{HasPairs}}, proofs.NextLemmas.{next-no-end}}
 use Rattle.nntp_pair.proofs.PairingLemmas.{first-pairs}
 
@@ -29,9 +29,7 @@ run-spelled (x ∷ pairs) a b (m, n, run) =
 run-open : (pairs : List Paired) (a b : Unpaired) → AreNext a pairs b → StaysOpen (map asked_at a.places) (responses_of pairs)
 run-open [] a b same = tt
 run-open (x ∷ []) a b run = tt
-run-open (x ∷ y ∷ pairs) a b (m, n, (k, o, run)) =
-    subst (λ places. StaysOpen (map asked_at places) (responses_of (x ∷ y ∷ pairs))) (sym n.place)
-    (sym n.closing ∙ o.is_open, run-open (y ∷ pairs) m b (k, o, run))
+run-open (x ∷ y ∷ pairs) a b (m, n, (k, o, run)) = grind (arith, run-open (y ∷ pairs) m b (k, o, run))
 
 -- the connection is open where a response is left
 abbrev IsOpenFor : Bool → List Response → Type 0
@@ -48,8 +46,7 @@ open-tail asked prompts response (next ∷ responses) stays = (stays.0, stays.1)
 spelled-run : (responses : List Response) (index : ℕ) (places : List Place) (server rest : List ℕ) (is_closed : Bool) → IsOpenFor is_closed responses
     → AreSpelled (map asked_at places) responses server rest → StaysOpen (map asked_at places) responses
     → HasPairs (record { index = index; places = places; server = server; is_closed = is_closed }) responses rest
-spelled-run [] index places server rest is_closed is_open (octets, none, whole) stays =
-    ([], record { index = index; places = places; server = server; is_closed = is_closed }, refl, refl, whole ∙ ap (λ o. o ++ rest) none)
+spelled-run [] index places server rest is_closed is_open (octets, none, whole) stays = grind arith
 spelled-run (response ∷ responses) index [] server rest is_closed is_open spelled stays = absurd spelled.1
 spelled-run (response ∷ responses) index (place ∷ places) server rest is_closed is_open (octets, (front, tail_octets, spells, spelled, both), all) stays =
     let behind = tail_octets ++ rest in
@@ -59,22 +56,7 @@ spelled-run (response ∷ responses) index (place ∷ places) server rest is_clo
     let more = spelled-run responses (index + 1) places behind rest (closes (asked_at place) response) tail.0 (tail_octets, spelled, refl) tail.1 in (
       record { index = index; place = place; initial = found.0; response = response } ∷ more.0,
       more.1,
-      (
-        record { index = index + 1; places = places; server = behind; is_closed = closes (asked_at place) response },
-        record {
-          index = refl;
-          is_open = is_open;
-          place = refl;
-          answered = record {
-            block = found.1;
-            frame = subst (λ octets. HasFrame (asked_at place) octets found.0 found.1 behind) (sym whole) found.3;
-            spells = subst (Spells (asked_at place) response) (sym found.2) spells;
-          };
-          next_index = refl;
-          closing = refl;
-        },
-        more.2,
-      ),
+      grind arith,
       ap (λ t. response ∷ t) more.3,
       more.4,
     )
@@ -82,22 +64,13 @@ spelled-run (response ∷ responses) index (place ∷ places) server rest is_clo
 -- the pairs of two streams are spelled
 pub pairs-spelled : (client : ClientStream) (server : List ℕ) (pairs : List Paired) (left : Unpaired) → AreNext (streams client server) pairs left
     → AreSpelled (prompts_of client) (responses_of pairs) server left.server × StaysOpen (prompts_of client) (responses_of pairs)
-pairs-spelled client server pairs left run = (
-  subst (λ prompts. AreSpelled prompts (responses_of pairs) server left.server) (places-prompts client) (run-spelled pairs (streams client server) left run),
-  subst (λ prompts. StaysOpen prompts (responses_of pairs)) (places-prompts client) (run-open pairs (streams client server) left run),
-)
+pairs-spelled client server pairs left run = grind (arith, places-prompts, run-spelled, run-open)
 
 -- and what is so spelled is their pairs
 pub spelled-pairs : (client : ClientStream) (server : List ℕ) (responses : List Response) (rest : List ℕ) → AreSpelled (prompts_of client) responses server rest
     → StaysOpen (prompts_of client) responses
     → HasPairs (streams client server) responses rest
-spelled-pairs client server responses rest spelled stays =
-    spelled-run responses 0 (places_of client) server rest false (is_open responses)
-    (subst (λ prompts. AreSpelled prompts responses server rest) (sym (places-prompts client)) spelled)
-    (subst (λ prompts. StaysOpen prompts responses) (sym (places-prompts client)) stays) where
-      is_open : (responses : List Response) → IsOpenFor false responses
-      is_open [] = tt
-      is_open (response ∷ responses) = refl
+spelled-pairs client server responses rest spelled stays = grind (arith, spelled-run, places-prompts)
 
 -- responses that are spelled are the first of the pairing's
 pub spelled-first : (client : ClientStream) (server : List ℕ) (pairs : List Paired) (ending : Ending) (responses : List Response) (rest : List ℕ) → IsPairing client server pairs ending
@@ -118,18 +91,11 @@ pub spelled-whole : (client : ClientStream) (server : List ℕ) (pairs : List Pa
     → (responses_of pairs ≡ responses) × (unanswered : ℕ) × (ending ≡ end unanswered)
 spelled-whole client server pairs ending responses pairing spelled stays =
     let found = spelled-pairs client server responses [] spelled stays in
-    let first = first-pairs pairs found.0 (streams client server) pairing.left found.1 ending pairing.paired pairing.ends found.2 in
-    let none = run-none first.0 found.1 pairing.left found.4 first.2 in
-    let last = at found.1 ending (subst (λ u. Ends u ending) (sym none.1) pairing.ends) found.4 in
-    (ap responses_of (first.1 ∙ ap (λ t. found.0 ++ t) none.0) ∙ map-append (λ pair. pair.response) found.0 [] ∙ append-nil (responses_of found.0) ∙ found.3, last.0, last.1) where
-      at : (left : Unpaired) (ending : Ending) → Ends left ending → left.server ≡ [] → (unanswered : ℕ) × (ending ≡ end unanswered)
-      at left (end n) ends none = (n, refl)
-      at left (bad class) ends none = absurd (ends.0 none)
+    grind (arith, first-pairs, run-none, map-append, append-nil)
 
 -- so where the pairing ends at octets, no responses have them all as their spellings
 pub bad-unspelled : (client : ClientStream) (server : List ℕ) (pairs : List Paired) (class : PairClass) (responses : List Response) → IsPairing client server pairs (bad class)
     → StaysOpen (prompts_of client) responses → ¬ (AreSpelled (prompts_of client) responses server [])
 bad-unspelled client server pairs class responses pairing stays spelled =
     let whole = spelled-whole client server pairs (bad class) responses pairing spelled stays in
-    let same : bad class ≡ end whole.1 = whole.2 in
-    cc
+    grind arith
