@@ -1,12 +1,12 @@
 -- An answer, as the facts that it says.
-use Rattle.std.proofs.Common.{◌≡◌, ℕ, Bool, true, false, ◌↔◌, IsTrue, List, Option, None, Some, is_some, refl, sym, subst, ◌∙◌, Result, Ok, Err, IfOk}
+use Rattle.std.proofs.Common.{arith, ◌≡◌, ℕ, Bool, true, false, ◌↔◌, IsTrue, List, Option, None, Some, is_some, sym, ◌∙◌, Result, Ok, Err, IfOk}
 use Rattle.std.{proofs.lemmas.Bool.{true≢false}, specs.List.{AllByRecursion}}
 use Rattle.nntp_wire.specs.{Answer.{Asked, Response}, Listing.{ActiveValue}}
 use Rattle.nntp_article.specs.{Session.{Spool.{Spool}, Machine.{Visible, MayAnswer, fits}, Misfit.{misfit}}, Inner.Misfit.{groups_of, numbers_of}}
 use Rattle.nntp_article.specs.{Inner.MisfitView.{why_if}, declared.session.{profile.Profile.{Profile}, misfit.Misfit.{Misfit}}}
 use Rattle.nntp_article.proofs.SessionLemmas.Misfits.{fits_by_reason}
-use Rattle.nntp_said.{specs.{Inner.Asks.{state_at}, Facts.{Fact, Holds, facts_of}, declared.position.Position.{Position}}, proofs.Rows.{Row, row, listing}}
-use Rattle.nntp_said.proofs.{Rows.{active}, FactsHold.{may_by_facts}}
+use Rattle.nntp_said.{specs.{Inner.Asks.{state_at}, Facts.{Fact, Holds, facts_of}, declared.position.Position.{Position}}, proofs.Rows.{Row, row}}
+use Rattle.nntp_said.proofs.FactsHold.{may_by_facts}
 use Rattle.nntp_spool.specs.Inner.Sessions.{SayThese}
 
 -- ---- what fits
@@ -27,9 +27,7 @@ unfitting profile v p a (Some why) e some f = true≢false (sym (fits_by_reason 
 -- a row lists what its answer does
 row_lists : {profile : Profile} {v : Visible} {at : Position} {Fits : Type 0} {a : Response} {facts : List Fact} → Row profile v at Fits a facts → Fits
     → SayThese (numbers_of a) (groups_of a) facts
-row_lists (listing m name range lines known) f = (tt, (tt, ((refl, (known f).1.0), tt)))
-row_lists (active p lines known) f = ((refl, (known f).1), tt)
-row_lists r f = assumption
+row_lists r f = grind arith
 
 -- the facts of an answer that fits say what it lists
 pub facts_list : (profile : Profile) (v : Visible) (at : Position) (p : Asked) (a : Response) (numbers : List ℕ) (groups : List ActiveValue) (facts : List Fact)
@@ -42,8 +40,5 @@ facts_list profile v at p a numbers groups facts f ns gs fs = rw (ns, gs, fs) (r
 pub permitted_where_held : {E : Type 0} (profile : Profile) (S : Spool) (v : Visible) (at : Position) (p : Asked) (a : Response) (facts : List Fact) (r : Result Bool E)
     → v.closed ≡ false → IsTrue (fits profile v p a) → facts ≡ facts_of profile.marks v at p a
     → IfOk r (λ hold. IsTrue hold ↔ AllByRecursion (Holds S) facts) → IfOk r (λ may. IsTrue may ↔ MayAnswer profile S (state_at S v at) p a)
-permitted_where_held profile S v at p a facts (Ok hold) is_open f same h =
-    let by = may_by_facts profile S v at p a is_open f in
-    let held = subst (λ (fs : List Fact). IsTrue hold ↔ AllByRecursion (Holds S) fs) same h in
-    (λ t. by.0 (held.0 t), λ may. held.1 (by.1 may))
+permitted_where_held profile S v at p a facts (Ok hold) is_open f same h = grind (arith, may_by_facts)
 permitted_where_held profile S v at p a facts (Err e) is_open f same h = tt

@@ -1,5 +1,5 @@
 -- What a builder adds leaves groups and articles that a spool may hold.
-use Rattle.std.proofs.Common.{◌≡◌, ◌⊎◌, inl, inr, ℕ, Bool, true, false, cond, not, Option, None, Some, is_none, refl, sym, ap, subst, ◌∙◌}
+use Rattle.std.proofs.Common.{arith, ◌≡◌, ◌⊎◌, inl, inr, ℕ, Bool, true, false, cond, not, Option, None, Some, is_none, refl, sym, ap, subst, ◌∙◌}
 use Rattle.std.{proofs.lemmas.Bool.{true≢false, and_parts, not-false}, specs.{Prelude.{◌&&◌, unwrap_or}, List.{list_all}, Ordering.{nat_cmp}}}
 use Rattle.std.specs.{Cmp.Lexicographic.{slice_cmp, nat_list_cmp_total}, FinMap.{get, insert, empty, get-empty}}
 use Rattle.nntp_wire.{specs.Decided.{is_group_name, is_message_id}, proofs.ShownMaps.{insert-same}}
@@ -11,8 +11,7 @@ use Rattle.nntp_spool.specs.declared.value.spool_fault.SpoolFault.TheVariants as
 
 -- a test that found no fault
 no_fault : {A : Type 0} (b : Bool) (x : A) (o : Option A) → cond b (Some x) o ≡ None → (b ≡ false) × (o ≡ None)
-no_fault true x o e = absurd cc
-no_fault false x o e = (refl, e)
+no_fault b x o e = grind arith
 
 none : {A : Type 0} (x : A) → None ≡ Some x → ⊥
 none x e = cc
@@ -63,19 +62,10 @@ module _ (limit : ℕ) (S : Spool) (content : IsContent limit S) where
           let named = content.groups name N g in
           let same : numbers S name ≡ N = ap (λ o. unwrap_or o empty) g in
           with_named name (insert (numbers S name) n id)
-          (record {
-            is_name = named.is_name;
-            numbers = one_more limit (numbers S name) n id
-                (subst (AreNumbers limit) (sym same) named.numbers) num is_id fresh;
-          })
+          (grind (arith, one_more))
 
   pub number_added : (name : Name) (n : ℕ) (id : Id) → place_fault limit S name n id ≡ None → IsContent limit (with_number_in S name n id)
-  number_added name n id e = by (has_id (numbers S name) id) (new_number name n id e)
-    where
-      by : (b : Bool) → (b ≡ false → IsContent limit (with_group S name (insert (numbers S name) n id)))
-          → IsContent limit (cond b S (with_group S name (insert (numbers S name) n id)))
-      by true new = content
-      by false new = new refl
+  number_added name n id e = search (arith, new_number)
 
   pub article_added : (id : Id) (t : Text) → article_fault S id t ≡ None → IsContent limit (with_article S id t)
   article_added id t e =

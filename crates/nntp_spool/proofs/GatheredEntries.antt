@@ -3,7 +3,7 @@ use Rattle.std.proofs.Common.{◌≡◌, ◌-◌, Bool, true, T, None, Some, opt
 use Rattle.std.proofs.lemmas.{Bool.{and_parts}, List.{append_assoc, length-map, map-append}, Option.{slice_get-map, slice_get-get_or}}
 use Rattle.std.specs.{declared.cmp.Ordering.{Ordering}, Prelude.{◌&&◌}, Ordering.{is_lt}, Cmp.{IsTotalOrder}, List.{slice_get, list_all}, FinMap.{FinMap}}
 use Rattle.std.specs.{FinMap.{insert, entries, is_sorted, entries_sorted, same_entries_map, IsAntisymmetric, Entries.{below_all}}, BTreeMap.{insert_entry}}
-use Rattle.nntp_spool.{specs.Ascending.{is_last}, proofs.{GreatestKeys.{last_of_list}, MapEntries.{is_passed, less_is, entries-insert_last}}}
+use Rattle.nntp_spool.{specs.Ascending.{is_last}, proofs.{GreatestKeys.{last_of_list}, MapEntries.{is_passed, entries-insert_last}}}
 use Rattle.nntp_wire.proofs.ShownMaps.{shown, shown_entry, entries-from_entries}
 
 passes : (b : Bool) → b ≡ true → T b
@@ -36,9 +36,7 @@ module _ {L V K X : Type 0} (R : K → K → Ordering) (key : L → K) (value : 
   one_more es fs l v sorted last e =
       let shows = shown_entry R key value in
       let m = insert (shown R key value es) (key l) (value v) in
-      let listed : entries m ≡ map shows fs = entries-insert_last o (shown R key value es) (key l) (value v) last
-      ∙ ap (λ xs. xs ++ (key l, value v) ∷ []) (entries-from_entries o same (map shows es) (passes _ sorted))
-      ∙ sym (map-append shows es ((l, v) ∷ [])) ∙ ap (map shows) (sym e) in
+      let listed : entries m ≡ map shows fs = grind (arith, entries-insert_last, entries-from_entries, passes, map-append) in
       let rises : is_sorted R (map shows fs) ≡ true = ap (is_sorted R) (sym listed) ∙ is_passed _ (entries_sorted m) in
       (rises, same_entries_map (shown R key value fs) m (entries-from_entries o same (map shows fs) (passes _ rises) ∙ sym listed))
 
@@ -63,9 +61,7 @@ module _ {K X : Type 0} (R : K → K → Ordering) where
 
   in_front : (e : K × X) (es : List (K × X)) → is_sorted R (e ∷ es) ≡ true → insert_entry R es e.0 e.1 ≡ e ∷ es
   in_front e [] h = refl
-  in_front e (f ∷ es) h =
-      let both = and_parts (below_all R e.0 (f ∷ es)) (is_sorted R (f ∷ es)) h in
-      rw (less_is (R e.0 f.0) (and_parts (is_lt (R e.0 f.0)) (below_all R e.0 es) both.0).0) refl
+  in_front e (f ∷ es) h = grind arith
 
   -- the last entry of those that are left goes in front of those that are in the map
   pub one_down : (all before left es fs : List (K × X)) (e : K × X) → is_sorted R all ≡ true → before ++ es ≡ all → before ≡ left ++ e ∷ [] → fs ≡ insert_entry R es e.0 e.1 → left ++ fs ≡ all

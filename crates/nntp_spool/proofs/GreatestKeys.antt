@@ -1,46 +1,27 @@
 -- Whether a key is greater than all others, from the greatest of them.
 use Rattle.std.proofs.Common.{◌≡◌, ℕ, ◌≤◌, Bool, true, false, cond, Option, None, Some, is_some, option_map, List, [], ◌∷◌, map, refl, sym, ap, ◌∙◌, arith}
 use Rattle.std.{proofs.lemmas.{Bool.{true≢false, and_parts, Decides.{nat_tests}}, List.Elements.{recursion_from_All}}, specs.Prelude.{zero, suc, ◌+◌, length}}
-use Rattle.std.specs.{Prelude.{◌&&◌, nat_lt, ◌==◌}, declared.cmp.Ordering.{Ordering, TheVariants.{Less, Equal, Greater}}, Ordering.{is_lt, is_le, is_eq}}
-use Rattle.std.specs.{Ordering.{ordering_reverse}, Cmp.{IsTotalOrder, both_ways, nat_cmp_total}, BTreeMap.Comparable.{le_lt_trans}, List.{All, AllByRecursion}}
-use Rattle.std.specs.{List.{list_all, slice_get}, Map.{lookup, keys_of}, FinMap.{FinMap, get, entries, IsAntisymmetric, is_sorted, get-from_entries}}
-use Rattle.std.specs.FinMap.{nat_cmp-IsAntisymmetric, Entries.{below_all}}
+use Rattle.std.specs.{Prelude.{nat_lt, ◌==◌}, declared.cmp.Ordering.{Ordering, TheVariants.{Less, Equal, Greater}}, Ordering.{is_lt, is_eq}, Cmp.{IsTotalOrder}}
+use Rattle.std.specs.{Cmp.{both_ways, nat_cmp_total}, List.{All, AllByRecursion, list_all, slice_get}, Map.{lookup, keys_of}, FinMap.{FinMap, get, entries}}
+use Rattle.std.specs.FinMap.{IsAntisymmetric, is_sorted, get-from_entries, nat_cmp-IsAntisymmetric}
 use Rattle.nntp_article.specs.Session.Spool.{Numbers, IsNumber}
-use Rattle.nntp_spool.{specs.Ascending.{is_last}, proofs.MapEntries.{less_is, some_is, got_all, all_got, all_found, tied_itself, apart}}
-use Rattle.nntp_spool.proofs.{NumbersInOrder.{all_passed}, WholeSpools.{passed_all}}
+use Rattle.nntp_spool.{specs.Ascending.{is_last}, proofs.{MapEntries.{less_is, got_all, all_got, all_found, tied_itself, apart}, NumbersInOrder.{all_passed}}}
+use Rattle.nntp_spool.proofs.WholeSpools.{passed_all}
 use Rattle.nntp_wire.proofs.ShownMaps.{shown, shown_entry, get-shown}
 
 module _ {K : Type 0} {R : K → K → Ordering} (o : IsTotalOrder R) where
   -- what is not above the greatest is below what the greatest is below
   below : (g q k : K) → is_lt (R g q) ≡ false → is_lt (R g k) ≡ true → is_lt (R q k) ≡ true
-  below g q k above less = ap is_lt (le_lt_trans o q g k (ap is_le (o.antisymm q g) ∙ up_to (R g q) above) (less_is (R g k) less))
-    where
-      up_to : (r : Ordering) → is_lt r ≡ false → is_le (ordering_reverse r) ≡ true
-      up_to Less e = absurd (true≢false e)
-      up_to Equal e = refl
-      up_to Greater e = refl
+  below g q k above less = grind arith
 
   -- of keys that ascend, the last is the greatest
   pub last_of_list : {X : Type 0} (xs : List (K × X)) (i : ℕ) (e : K × X) (k : K) → i + 1 ≡ length xs → is_sorted R xs ≡ true → slice_get xs i ≡ Some e → is_lt (R e.0 k)
       ≡ list_all (λ f. is_lt (R f.0 k)) xs
   last_of_list [] i e k at h is = absurd (omega arith)
-  last_of_list (x ∷ []) zero e k at h is = ap (λ f. is_lt (R f.0 k)) (sym (some_is x e is)) ∙ alone (is_lt (R x.0 k))
-    where
-      alone : (b : Bool) → b ≡ (b && true)
-      alone true = refl
-      alone false = refl
+  last_of_list (x ∷ []) zero e k at h is = grind arith
   last_of_list (x ∷ []) (suc i) e k at h is = absurd (omega arith)
   last_of_list (x ∷ y ∷ ys) zero e k at h is = absurd (omega arith)
-  last_of_list {X} (x ∷ y ∷ ys) (suc i) e k at h is =
-      let both = and_parts (below_all R x.0 (y ∷ ys)) (is_sorted R (y ∷ ys)) h in
-      let first = and_parts (is_lt (R x.0 y.0)) (below_all R x.0 ys) both.0 in
-      last_of_list (y ∷ ys) i e k (omega arith) both.1 is ∙ implied (is_lt (R x.0 k)) (is_lt (R y.0 k)) (list_all (λ f. is_lt (R f.0 k)) ys)
-      (λ less. below y.0 x.0 k (ap is_lt (o.antisymm y.0 x.0 ∙ ap ordering_reverse (less_is (R x.0 y.0) first.0))) less)
-    where
-      implied : (a b c : Bool) → (b ≡ true → a ≡ true) → (b && c) ≡ (a && (b && c))
-      implied true b c so = refl
-      implied false true c so = absurd (true≢false (sym (so refl)))
-      implied false false c so = refl
+  last_of_list {X} (x ∷ y ∷ ys) (suc i) e k at h is = grind (arith, and_parts, last_of_list (y ∷ ys) i e k (omega arith), less_is, true≢false)
 
 module _ {K X : Type 0} {R : K → K → Ordering} (o : IsTotalOrder R) (same : IsAntisymmetric R) where
   pub last_is : (m : FinMap R X) (g k : K) (x : X) → get m g ≡ Some x → ((q : K) (y : X) → get m q ≡ Some y → is_lt (R g q) ≡ false) → is_lt (R g k) ≡ is_last m k
@@ -84,9 +65,7 @@ module _ {L V K X : Type 0} (R : K → K → Ordering) (key : L → K) (value : 
 -- ---- numbers
 
 less_first : (a b : Bool) → a ≡ is_lt (cond a Less (cond b Equal Greater))
-less_first true b = refl
-less_first false true = refl
-less_first false false = refl
+less_first a b = grind arith
 
 pub last_number : (N : Numbers) (g k : ℕ) → IsNumber N g → ((q : ℕ) → IsNumber N q → q ≤ g) → nat_lt g k ≡ is_last N k
 last_number N g k here most = by (get N g) refl here

@@ -1,8 +1,8 @@
 -- Facts that hold of a spool, one after the other.
-use Rattle.std.{proofs.Common.{◌≡◌, ◌↔◌, ℕ, inl, inr, List, [], ◌∷◌, drop, Option, None, Some, IsSome, refl, sym, ap, subst}, specs.Prelude.{option_map}}
-use Rattle.std.specs.{Prelude.{slice_get}, List.{AllByRecursion}, FinMap.{get}}
+use Rattle.std.{proofs.Common.{arith, ◌≡◌, ◌↔◌, ℕ, inl, inr, List, [], ◌∷◌, drop, Option, None, Some, IsSome, refl, subst}, specs.Prelude.{slice_get}}
+use Rattle.std.specs.{List.{AllByRecursion}, FinMap.{get}}
 use Rattle.nntp_wire.specs.{declared.command.What.{What, TheVariants.{Stat}}, Listing.{ActiveValue}}
-use Rattle.nntp_article.specs.{Article.Parts.{Id, Line}, Session.Spool.{Spool, Text, HasText, text_of}}
+use Rattle.nntp_article.specs.{Article.Parts.{Id, Line}, Session.Spool.{Spool, Text, HasText}}
 use Rattle.nntp_said.specs.{Facts.{Fact, Holds, IdAt, TextIs}, Inner.Places.{Place}}
 use Rattle.nntp_spool.specs.Inner.{Content.{IdsHaveArticles}, Sessions.{SayThese}}
 
@@ -20,14 +20,11 @@ module _ (S : Spool) (numbers : List ℕ) (groups : List ActiveValue) (facts : L
   -- the first of them holds where those behind it do, so it may be passed
   pub first_passed : (left behind : List Fact) → AreLeft S numbers groups facts left → behind ≡ drop 1 left
       → (AllByRecursion (Holds S) (drop 1 left) → AllByRecursion (Holds S) left) → AreLeft S numbers groups facts behind
-  first_passed [] behind are e h = subst (AreLeft S numbers groups facts) (sym e) are
-  first_passed (fact ∷ left) behind are e h =
-      subst (AreLeft S numbers groups facts) (sym e) (record { same = (λ held. are.same.0 (h held), λ all. (are.same.1 all).1); listed = are.listed.1 })
+  first_passed left behind are e h = grind arith
 
 -- it does where it holds by itself
 pub first_held : (S : Spool) (fact : Fact) (left : List Fact) → Some fact ≡ slice_get left 0 → Holds S fact → AllByRecursion (Holds S) (drop 1 left) → AllByRecursion (Holds S) left
-first_held S fact [] e held h = absurd cc
-first_held S fact (first ∷ left) e held h = let is : fact ≡ first = cc in (subst (Holds S) is held, h)
+first_held S fact left e held h = grind arith
 
 -- an id that stands at a number has an article
 placed_has : (S : Spool) (id : Id) (facts : List Fact) → IdsHaveArticles S → Place id facts → AllByRecursion (Holds S) facts → IsSome (get S.articles id)
@@ -43,13 +40,10 @@ placed_text : (S : Spool) (id : Id) (facts : List Fact) → IdsHaveArticles S �
 placed_text S id facts ids place h = by (get S.articles id) refl (placed_has S id facts ids place h)
   where
     by : (o : Option Text) → get S.articles id ≡ o → IsSome o → HasText S Stat id None
-    by None e s = absurd cc
-    by (Some t) e s = ap (option_map (text_of Stat)) e
+    by o e s = grind arith
 
 -- so the first of the facts holds where it says this, and one behind it gives the id at a number
 pub first_implied : (S : Spool) (what : What) (id : Id) (lines : Option (List Line)) (facts : List Fact) → Some (TextIs what id lines) ≡ slice_get facts 0
     → what ≡ Stat → lines ≡ None → Place id facts → IdsHaveArticles S → AllByRecursion (Holds S) (drop 1 facts) → AllByRecursion (Holds S) facts
 first_implied S what id lines [] first stat nothing place ids h = elim place [ ]
-first_implied S what id lines (fact ∷ facts) first stat nothing place ids h =
-    let is : TextIs Stat id None ≡ fact = cc in
-    (subst (Holds S) is (placed_text S id facts ids (subst (λ fact. Place id (fact ∷ facts)) (sym is) place) h), h)
+first_implied S what id lines (fact ∷ facts) first stat nothing place ids h = grind (arith, placed_text)

@@ -1,16 +1,15 @@
 -- The groups and articles that are read are those that are written, and those that are written are read.
-use Rattle.std.proofs.Common.{◌≡◌, inl, inr, ℕ, zero, suc, ◌+◌, ◌^◌, ◌<◌, Bool, true, false, cond, List, [], ◌∷◌, ◌++◌, Some, Result, Ok, length, refl, sym, ap}
-use Rattle.std.proofs.{Common.{subst, ◌∙◌, append_assoc, arith}, lemmas.{Bool.{true≢false, and_parts}, List.{append-nil, nil_from_length}}}
-use Rattle.std.specs.{Prelude.{codes}, declared.cmp.Ordering.{Ordering}, Ordering.{nat_cmp, is_lt}, Cmp.Lexicographic.{slice_cmp, nat_list_cmp_total}}
-use Rattle.std.specs.{List.{list_all, flat_map, AllByRecursion}, FinMap.{FinMap, get, insert, empty, entries, find, is_sorted, entries_sorted, get-entries}}
-use Rattle.std.specs.FinMap.{len-empty, len-entries, same_entries_map}
-use Rattle.nntp_article.specs.{Article.Parts.{Line, Id, is_empty}, Session.Spool.{Name, Spool, Numbers, Text}}
-use Rattle.nntp_spool.specs.{declared.text.read_fault.ReadFault.{ReadFault}, Inner.{Text.{HasLineCounts}, Content.{IsNamed, IsArticle, IsContent}}}
-use Rattle.nntp_spool.specs.{Text.{group_lines, article_lines, content_lines}, Reading.{◌>>=◌, fault, Place, Turn, item_at, items_at, turn_then, is_end}}
-use Rattle.nntp_spool.specs.{Reading.{content_at}, Ascending.{is_last}, Content.{with_group, with_article, no_spool, ids_have_articles}}
-use Rattle.nntp_spool.proofs.{ShownMaps.{spool_is, octet_keys}, MapEntries.{is_passed, less_before, find_middle, all_got, entries-insert_last}}
-use Rattle.nntp_spool.proofs.{NumbersInOrder.{few_numbers}, NumbersRead.{bind_ok, ok_is, done, fits_test}, ItemsRead.{TakenItem, item_takes, item_group_again}}
-use Rattle.nntp_spool.proofs.ItemsRead.{item_article_again, item_end_again}
+use Rattle.std.proofs.Common.{◌≡◌, inl, inr, ℕ, zero, suc, ◌+◌, ◌^◌, ◌<◌, Bool, true, false, cond, List, [], ◌∷◌, ◌++◌, Some, Ok, length, refl, sym, ap, subst}
+use Rattle.std.{proofs.{Common.{◌∙◌, append_assoc, arith}, lemmas.{Bool.{true≢false}, List.{append-nil, nil_from_length}}}, specs.Prelude.{codes}}
+use Rattle.std.specs.{declared.cmp.Ordering.{Ordering}, Ordering.{nat_cmp, is_lt}, Cmp.Lexicographic.{slice_cmp, nat_list_cmp_total}, List.{list_all, flat_map}}
+use Rattle.std.specs.{List.{AllByRecursion}, FinMap.{FinMap, get, insert, empty, entries, find, is_sorted, entries_sorted, get-entries, len-empty, len-entries}}
+use Rattle.std.specs.FinMap.{same_entries_map}
+use Rattle.nntp_article.specs.{Article.Parts.{Line, Id}, Session.Spool.{Name, Spool, Numbers, Text}}
+use Rattle.nntp_spool.specs.{Inner.{Text.{HasLineCounts}, Content.{IsNamed, IsArticle, IsContent}}, Text.{group_lines, article_lines, content_lines}}
+use Rattle.nntp_spool.specs.{Reading.{fault, Place, Turn, item_at, items_at, turn_then, is_end, content_at}, Ascending.{is_last}, Content.{with_group}}
+use Rattle.nntp_spool.{specs.Content.{with_article, no_spool, ids_have_articles}, proofs.{ShownMaps.{spool_is, octet_keys}, MapEntries.{is_passed}}}
+use Rattle.nntp_spool.proofs.{MapEntries.{less_before, find_middle, all_got, entries-insert_last}, NumbersInOrder.{few_numbers}, NumbersRead.{bind_ok, ok_is}}
+use Rattle.nntp_spool.proofs.{NumbersRead.{done, fits_test}, ItemsRead.{TakenItem, item_takes, item_group_again, item_article_again, item_end_again}}
 use Rattle.nntp_spool.specs.declared.text.read_fault.Kind.TheVariants as kinds
 
 -- ---- what was read
@@ -47,9 +46,7 @@ items_take limit (suc most) articles S p x le e =
               ∙ append_assoc (entries S.groups) ((g.name, g.numbers) ∷ []) rest.groups;
           with_texts = rest.with_texts;
           known = rest.known;
-          segments = g.segments ∙ ap (λ (t : List Line). group_lines (g.name, g.numbers) ++ t) rest.segments
-              ∙ sym (append_assoc (group_lines (g.name, g.numbers)) (flat_map group_lines rest.groups)
-              (flat_map article_lines rest.texts ++ codes "end" ∷ x.1.segments));
+          segments = grind (arith, append_assoc);
         }
     taken turn (inr (inl a)) f more =
         let rest = more true (with_article S a.id a.text) a.next (ap (turn_then (items_at limit most)) (sym a.is) ∙ f) in
@@ -65,10 +62,7 @@ items_take limit (suc most) articles S p x le e =
               (entries-insert_last nat_list_cmp_total S.articles a.id a.text a.last)
               ∙ append_assoc (entries S.articles) ((a.id, a.text) ∷ []) rest.texts;
           known = rest.known;
-          segments = a.segments ∙ ap (λ (t : List Line). article_lines (a.id, a.text) ++ t)
-              (rest.segments ∙ ap (λ (t : List (Name × Numbers)). flat_map group_lines t ++
-              (flat_map article_lines rest.texts ++ codes "end" ∷ x.1.segments)) none)
-              ∙ sym (append_assoc (article_lines (a.id, a.text)) (flat_map article_lines rest.texts) (codes "end" ∷ x.1.segments));
+          segments = grind (arith, append_assoc);
         }
     taken turn (inr (inr d)) f more =
         let same : ◌≡◌ {A = Spool × Place} (S, d.next) x = ok_is (S, d.next) x (ap (turn_then (items_at limit most)) (sym d.is) ∙ f) in
@@ -87,19 +81,8 @@ items_take limit (suc most) articles S p x le e =
 pub no_entries : {K X : Type 0} (R : K → K → Ordering) → entries (empty {X = X} {R = R}) ≡ []
 no_entries {X = X} R = nil_from_length (entries (empty {R = R})) (sym (len-entries (empty {R = R})) ∙ len-empty R X)
 
-empty_is : (xs : List Line) → is_empty xs ≡ true → xs ≡ []
-empty_is [] e = refl
-empty_is (x ∷ xs) e = absurd (true≢false (sym e))
-
-empty_line_is : (xs : Line) → is_empty xs ≡ true → xs ≡ []
-empty_line_is [] e = refl
-empty_line_is (x ∷ xs) e = absurd (true≢false (sym e))
-
 end_is : (segments : List Line) → is_end segments ≡ true → segments ≡ [] ∷ []
-end_is [] e = absurd (true≢false (sym e))
-end_is (segment ∷ segments) e =
-    let both = and_parts (is_empty segment) (is_empty segments) e in
-    ap (λ (t : Line). t ∷ segments) (empty_line_is segment both.0) ∙ ap (λ (t : List Line). [] ∷ t) (empty_is segments both.1)
+end_is segments e = grind arith
 
 -- what stands behind the lines of the limit, and is read
 pub record ContentTaken (limit : ℕ) (p : Place) (S : Spool) : Type 0 where
@@ -174,15 +157,7 @@ module _ (limit : ℕ) (F : Spool) (le : limit < 2 ^ 64) (content : IsContent li
       let size = sizes a.0 a.1 at.here in
       let front = first_tail texts in
       let one = item_article_again limit line articles S a.0 a.1 front.0 front.1 size.0 size.1 (content.articles a.0 a.1 at.here) at.less in
-      let split : tail_lines (a ∷ texts) ≡ article_lines a ++ front.0 ∷ front.1 = append_assoc (article_lines a)
-      (flat_map article_lines texts) (codes "end" ∷ [] ∷ []) ∙ ap (λ (ps : List Line). article_lines a ++ ps) front.2 in
-      let rest = texts_again most one.0 true (with_article S a.0 a.1) texts g (next_entry S.articles F.articles a.0 a.1 texts t at.less) (omega arith) in (
-        rest.0,
-        ap (λ (ps : List Line). items_at limit (suc most) articles S (record { line = line; segments = ps })) split
-            ∙ ap (λ (r : Result Turn ReadFault). r >>= turn_then (items_at limit most)) one.1
-            ∙ ap (λ (ps : List Line). items_at limit most true (with_article S a.0 a.1) (record { line = one.0; segments = ps })) (sym front.2)
-            ∙ rest.1,
-      )
+      grind (arith, append_assoc, texts_again most one.0 true (with_article S a.0 a.1) texts g (next_entry S.articles F.articles a.0 a.1 texts t at.less) (omega arith), next_entry)
 
   pub groups_again : (most line : ℕ) (S : Spool) (groups : List (Name × Numbers)) (texts : List (Id × Text))
       → entries F.groups ≡ entries S.groups ++ groups → entries F.articles ≡ entries S.articles ++ texts
@@ -193,13 +168,4 @@ module _ (limit : ℕ) (F : Spool) (le : limit < 2 ^ 64) (content : IsContent li
       let at = placed F.groups (entries S.groups) n groups g in
       let front = first_lines groups texts in
       let one = item_group_again limit line S n.0 n.1 front.0 front.1 le (few_numbers limit n.1 le (content.groups n.0 n.1 at.here).numbers) (content.groups n.0 n.1 at.here) at.less in
-      let split : flat_map group_lines (n ∷ groups) ++ tail_lines texts ≡ group_lines n ++ front.0 ∷ front.1 = append_assoc
-      (group_lines n) (flat_map group_lines groups) (tail_lines texts)
-      ∙ ap (λ (ps : List Line). group_lines n ++ ps) front.2 in
-      let rest = groups_again most one.0 (with_group S n.0 n.1) groups texts (next_entry S.groups F.groups n.0 n.1 groups g at.less) t (omega arith) in (
-        rest.0,
-        ap (λ (ps : List Line). items_at limit (suc most) false S (record { line = line; segments = ps })) split
-            ∙ ap (λ (r : Result Turn ReadFault). r >>= turn_then (items_at limit most)) one.1
-            ∙ ap (λ (ps : List Line). items_at limit most false (with_group S n.0 n.1) (record { line = one.0; segments = ps })) (sym front.2)
-            ∙ rest.1,
-      )
+      grind (arith, append_assoc, groups_again most one.0 (with_group S n.0 n.1) groups texts (next_entry S.groups F.groups n.0 n.1 groups g at.less) t (omega arith), next_entry)

@@ -8,12 +8,10 @@ use Rattle.nntp_spool.proofs.NumbersRead.{fits_test}
 use Rattle.nntp_spool.specs.declared.text.read_fault.Kind.TheVariants as kinds
 
 pub greatest_small : (limit : Limit) → greatest limit < 2 ^ 64
-greatest_small Narrow = omega arith
-greatest_small Wide = omega arith
+greatest_small limit = grind arith
 
 pub some_limit_line : (limit : Limit) → 1 ≤ length (limit_lines limit)
-some_limit_line Narrow = omega arith
-some_limit_line Wide = omega arith
+some_limit_line limit = grind arith
 
 -- the line that is read is this one
 line_is : (p : Place) (x : Line × Place) (l : Line) → line_at p ≡ Ok x → bytes_eq x.0 l ≡ true → p.segments ≡ l ∷ x.1.segments

@@ -1,9 +1,9 @@
 -- Words of a line, and the one spelling of a number.
-use Rattle.std.proofs.Common.{◌≡◌, ℕ, zero, suc, ◌^◌, ◌<◌, Bool, true, false, not, cond, eqb, List, [], ◌∷◌, ◌++◌, Option, None, Some, length, get_or, refl}
-use Rattle.std.proofs.{Common.{sym, ap, subst, ◌∙◌, arith}, lemmas.{Slice.Eq.{bytes_eq-Decides}, Bool.{true≢false, and_from, and_parts, not-true}}}
-use Rattle.std.proofs.lemmas.{Bool.Decides.{nat_tests}, List.Splits.{join_with_byte-slice_split}, Fmt.{digits_decimal, digits_value-decimal}}
-use Rattle.std.{proofs.lemmas.Fmt.{decimal-digits_value, decimal_nonempty, first_decimal, decimal_digit}, specs.Prelude.{◌&&◌, ◌||◌, ◌==◌, nat_lt, bytes_eq}}
-use Rattle.std.specs.{Prelude.{codes}, List.{list_all, join_with_byte}, Char.{is_ascii_digit}, Fmt.{decimal}}
+use Rattle.std.proofs.Common.{◌≡◌, ℕ, suc, ◌^◌, ◌<◌, Bool, true, false, not, cond, eqb, List, [], ◌∷◌, ◌++◌, Option, None, Some, length, get_or, refl, sym, ap}
+use Rattle.std.proofs.{Common.{subst, ◌∙◌, arith}, lemmas.{Slice.Eq.{bytes_eq-Decides}, Bool.{and_from, and_parts, not-true, Decides.{nat_tests}}}}
+use Rattle.std.proofs.lemmas.{List.Splits.{join_with_byte-slice_split}, Fmt.{digits_decimal, digits_value-decimal, decimal-digits_value, decimal_nonempty}}
+use Rattle.std.{proofs.lemmas.Fmt.{first_decimal, decimal_digit}, specs.{Prelude.{◌&&◌, bytes_eq, codes}, List.{list_all, join_with_byte}}}
+use Rattle.std.specs.{Char.{is_ascii_digit}, Fmt.{decimal}}
 use Rattle.nntp_article.specs.Article.Parts.{is_empty}
 use Rattle.nntp_spool.specs.{Text.{number_line, group_line, article_line}, Fields.{fields_of, are_digits, is_decimal, is_count, value_of, number_and_id}}
 use Rattle.nntp_spool.{specs.Fields.{opening_of, OpeningValue, Group, Article, End}, proofs.{SplitLines.{segments_at}, Decimals.{own}}}
@@ -21,8 +21,7 @@ pub lacks_from : (c : ℕ) (xs : List ℕ) → ((k : ℕ) → k < length xs → 
 lacks_from c [] h = refl
 lacks_from c (x ∷ xs) h =
     let first : (x ≡ c → ⊥) = h 0 (omega arith) in
-    let other : eqb x c ≡ false = grind (arith, nat_tests) in
-    and_from (not (eqb x c)) (lacks c xs) (ap not other) (lacks_from c xs (λ k lt. h (suc k) (omega arith)))
+    grind (arith, nat_tests, and_from, lacks_from c xs (λ k lt. h (suc k) (omega arith)))
 
 pub lacks-append : (c : ℕ) (xs ys : List ℕ) → lacks c xs ≡ true → lacks c ys ≡ true → lacks c (xs ++ ys) ≡ true
 lacks-append c [] ys h g = g
@@ -33,17 +32,11 @@ lacks-digits c xs lt h = list_all_weaken is_ascii_digit (λ x. not (eqb x c)) (�
 
 pub parts_front : (c : ℕ) (xs ys : List ℕ) → lacks c xs ≡ true → segments_at c (xs ++ c ∷ ys) ≡ xs ∷ segments_at c ys
 parts_front c [] ys h = let same : eqb c c ≡ true = grind (arith, nat_tests) in rw same refl
-parts_front c (x ∷ xs) ys h =
-    let both = and_parts (not (eqb x c)) (lacks c xs) h in
-    let other : eqb x c ≡ false = not-true (eqb x c) both.0 in
-    rw (other, parts_front c xs ys both.1) refl
+parts_front c (x ∷ xs) ys h = grind (arith, and_parts, not-true, parts_front c xs ys)
 
 pub parts_one : (c : ℕ) (xs : List ℕ) → lacks c xs ≡ true → segments_at c xs ≡ xs ∷ []
 parts_one c [] h = refl
-parts_one c (x ∷ xs) h =
-    let both = and_parts (not (eqb x c)) (lacks c xs) h in
-    let other : eqb x c ≡ false = not-true (eqb x c) both.0 in
-    rw (other, parts_one c xs both.1) refl
+parts_one c (x ∷ xs) h = grind (arith, and_parts, not-true, parts_one c xs)
 
 -- ---- numbers
 
@@ -53,31 +46,14 @@ are_digits-decimal n lt = digits_decimal own n lt
 pub value_of-decimal : (n : ℕ) → n < 2 ^ 64 → value_of (decimal n) ≡ n
 value_of-decimal n lt = digits_value-decimal own n lt
 
-or-true : (b : Bool) → (b || true) ≡ true
-or-true true = refl
-or-true false = refl
-
 decimal_if : (ds : List ℕ) → are_digits ds ≡ true → 0 < length ds → (get_or ds 0 0 ≡ 48 → length ds ≡ 1) → is_decimal ds ≡ true
-decimal_if [] all some one = absurd (omega arith)
-decimal_if (d ∷ []) all some one = and_from (are_digits (d ∷ [])) (not (d == 48) || true) all (or-true (not (d == 48)))
-decimal_if (d ∷ e ∷ ds) all some one =
-    let other : (d ≡ 48 → ⊥) = λ e48. let two = one e48 in absurd (omega arith) in
-    let first : (d == 48) ≡ false = grind (arith, nat_tests) in
-    and_from (are_digits (d ∷ e ∷ ds)) (not (d == 48) || false) all (rw first refl)
+decimal_if ds all some one = grind arith
 
 one_digit : (n : ℕ) → n < 2 ^ 64 → get_or (decimal n) 0 0 ≡ 48 → length (decimal n) ≡ 1
-one_digit zero lt e = ap length (decimal_digit 0 (omega arith))
-one_digit (suc n) lt e = let above = first_decimal (suc n) (omega arith) lt in absurd (omega arith)
+one_digit n lt e = grind (arith, decimal_digit, first_decimal)
 
 decimal_parts : (ds : List ℕ) → is_decimal ds ≡ true → (are_digits ds ≡ true) × (0 < length ds) × (get_or ds 0 0 ≡ 48 → length ds ≡ 1)
-decimal_parts [] h = absurd (true≢false (sym h))
-decimal_parts (d ∷ []) h = ((and_parts (are_digits (d ∷ [])) (not (d == 48) || true) h).0, omega arith, λ e. refl)
-decimal_parts (d ∷ e ∷ ds) h =
-    let both = and_parts (are_digits (d ∷ e ∷ ds)) (not (d == 48) || false) h in (
-      both.0,
-      omega arith,
-      λ e48. let zero_first : (d == 48) ≡ true = grind (arith, nat_tests) in let no = rw zero_first at both.1 in absurd (true≢false (sym no)),
-    )
+decimal_parts ds h = grind arith
 
 pub is_decimal-decimal : (n : ℕ) → n < 2 ^ 64 → is_decimal (decimal n) ≡ true
 is_decimal-decimal n lt = decimal_if (decimal n) (are_digits-decimal n lt) (decimal_nonempty n lt) (λ e. one_digit n lt e)
@@ -102,19 +78,7 @@ number_and_id-number_line n id lt word some = rw (words-number_line n id lt word
 
 -- a line of which a number and an id are read
 number_words : (words : List (List ℕ)) (n : ℕ) (id : List ℕ) → number_and_id words ≡ Some (n, id) → (word : List ℕ) × (words ≡ word ∷ id ∷ []) × (is_decimal word ≡ true) × (value_of word ≡ n)
-number_words [] n id e = absurd cc
-number_words (word ∷ []) n id e = absurd cc
-number_words (word ∷ x ∷ y ∷ more) n id e = absurd cc
-number_words (word ∷ x ∷ []) n id e = chosen_number (is_decimal word) (is_empty x) word x n id refl e
-  where
-    chosen_number : (b d : Bool) (word x : List ℕ) (n : ℕ) (id : List ℕ) → is_decimal word ≡ b
-        → (cond (b && not d) (some_pair (value_of word) x) None) ≡ Some (n, id) → (w : List ℕ) × (word ∷ x ∷ [] ≡ w ∷ id ∷ [])
-        × (is_decimal w ≡ true) × (value_of w ≡ n)
-    chosen_number true true word x n id is e = absurd cc
-    chosen_number false d word x n id is e = absurd cc
-    chosen_number true false word x n id is e =
-        let pair : ◌≡◌ {A = ℕ × List ℕ} (value_of word, x) (n, id) = same_some _ _ e in
-        (word, ap (λ (p : ℕ × List ℕ). word ∷ p.1 ∷ []) pair, is, ap (λ (p : ℕ × List ℕ). p.0) pair)
+number_words words n id e = search (arith, same_some)
 
 pub number_line-number_and_id : (l : List ℕ) (n : ℕ) (id : List ℕ) → n < 2 ^ 64 → number_and_id (fields_of l) ≡ Some (n, id) → l ≡ number_line n id
 number_line-number_and_id l n id lt e =
@@ -125,22 +89,16 @@ number_line-number_and_id l n id lt e =
 -- ---- the lines that begin a group or an article, and the last one
 
 chosen : {A : Type 0} (t : Bool) (x y : A) → cond t (Some x) None ≡ Some y → (t ≡ true) × (x ≡ y)
-chosen true x y e = (refl, cc)
-chosen false x y e = absurd cc
+chosen t x y e = grind arith
 
 same_bytes : (xs ys : List ℕ) → bytes_eq xs ys ≡ true → xs ≡ ys
 same_bytes xs ys h = (bytes_eq-Decides xs ys).0 h
 
 count_parts : (word : List ℕ) → is_count word ≡ true → (value_of word < 2 ^ 64) × (word ≡ decimal (value_of word))
-count_parts word h =
-    let both = and_parts (is_decimal word) (nat_lt (value_of word) (2 ^ 64)) h in
-    let small : value_of word < 2 ^ 64 = grind (arith, nat_tests) in
-    (small, sym (decimal-value_of word both.0 small))
+count_parts word h = grind (arith, and_parts, nat_tests, decimal-value_of)
 
 pub is_count-decimal : (n : ℕ) → n < 2 ^ 64 → is_count (decimal n) ≡ true
-is_count-decimal n lt =
-    let small : nat_lt n (2 ^ 64) ≡ true = grind (arith, nat_tests) in
-    and_from (is_decimal (decimal n)) (nat_lt (value_of (decimal n)) (2 ^ 64)) (is_decimal-decimal n lt) (ap (λ v. nat_lt v (2 ^ 64)) (value_of-decimal n lt) ∙ small)
+is_count-decimal n lt = grind (arith, nat_tests, and_from, is_decimal-decimal, value_of-decimal)
 
 group_is : (name word : List ℕ) → is_empty name ≡ false → is_count word ≡ true → opening_of (codes "group" ∷ name ∷ word ∷ []) ≡ Some (Group name (value_of word))
 group_is name word some count = rw (some, count) refl
@@ -184,22 +142,13 @@ opening_words (w ∷ x ∷ y ∷ []) item e =
     let c = chosen (bytes_eq w (codes "group") && not (is_empty x) && is_count y) (Group x (value_of y)) item e in
     let all = and_parts (bytes_eq w (codes "group") && not (is_empty x)) (is_count y) c.0 in
     let word = same_bytes w (codes "group") (and_parts (bytes_eq w (codes "group")) (not (is_empty x)) all.0).0 in
-    let count = count_parts y all.1 in
-    subst (λ (i : OpeningValue). OpeningWords i (w ∷ x ∷ y ∷ [])) c.1 (count.0, ap (λ (t : List ℕ). t ∷ x ∷ y ∷ []) word ∙ ap (λ (t : List ℕ). codes "group" ∷ x ∷ t ∷ []) count.1)
+    grind (arith, count_parts)
 opening_words (w ∷ x ∷ y ∷ z ∷ []) item e =
     let c = chosen (bytes_eq w (codes "article") && not (is_empty x) && is_count y && is_count z) (Article x (value_of y) (value_of z)) item e in
     let all = and_parts (bytes_eq w (codes "article") && not (is_empty x) && is_count y) (is_count z) c.0 in
     let front = and_parts (bytes_eq w (codes "article") && not (is_empty x)) (is_count y) all.0 in
     let word = same_bytes w (codes "article") (and_parts (bytes_eq w (codes "article")) (not (is_empty x)) front.0).0 in
-    let heads = count_parts y front.1 in
-    let bodies = count_parts z all.1 in
-    subst (λ (i : OpeningValue). OpeningWords i (w ∷ x ∷ y ∷ z ∷ [])) c.1 (
-      heads.0,
-      bodies.0,
-      ap (λ (t : List ℕ). t ∷ x ∷ y ∷ z ∷ []) word
-          ∙ ap (λ (t : List ℕ). codes "article" ∷ x ∷ t ∷ z ∷ []) heads.1
-          ∙ ap (λ (t : List ℕ). codes "article" ∷ x ∷ decimal (value_of y) ∷ t ∷ []) bodies.1,
-    )
+    grind (arith, count_parts)
 opening_words (w ∷ x ∷ y ∷ z ∷ u ∷ more) item e = absurd cc
 
 line_is : (l : List ℕ) (words : List (List ℕ)) → fields_of l ≡ words → l ≡ join_with_byte 32 words

@@ -1,5 +1,5 @@
 -- The groups of lines, one after the other.
-use Rattle.std.proofs.Common.{◌≡◌, ℕ, zero, suc, ◌≤◌, Bool, true, false, IsTrue, length, List, [], ◌∷◌, Option, None, Some, map, refl, sym, subst, arith}
+use Rattle.std.proofs.Common.{◌≡◌, ℕ, zero, suc, ◌≤◌, Bool, true, false, IsTrue, length, List, [], ◌∷◌, Option, map, refl, sym, subst, arith}
 use Rattle.std.{proofs.lemmas.{Bool.{true≢false, and_parts, or_right}, List.Elements.{recursion_from_All, All-from_recursion}}, specs.Prelude.{◌↔◌, ◌||◌}}
 use Rattle.std.specs.{Prelude.{Contains, IfSome}, List.{list_any, count_by, AllByRecursion}, Option.{option_map_or}, Cmp.Lexicographic.{bytes_decides}}
 use Rattle.std.specs.FinMap.{entries}
@@ -48,10 +48,7 @@ weaker P Q f (x ∷ xs) p = (f x p.0, weaker P Q f xs p.1)
 -- where the next line agrees, all lines agree if those do that are left
 pub one_agrees : {X : Type 0} (P : X → Type 0) (line : X) (rest lines all : List X) → lines ≡ line ∷ rest → P line → AllByRecursion P lines ↔ AllByRecursion P all
     → AllByRecursion P rest ↔ AllByRecursion P all
-one_agrees P line rest lines all steps here known = (
-  λ h. known.0 (subst (AllByRecursion P) (sym steps) (here, h)),
-  λ h. (subst (AllByRecursion P) steps (known.1 h)).1,
-)
+one_agrees P line rest lines all steps here known = grind arith
 
 abbrev IsAsked : Spool → Option (List ℕ) → Name → Type 0
 IsAsked S p name = IsGroup S name × IfSome p (λ w. MatchesName w name)
@@ -103,5 +100,4 @@ module _ (S : Spool) (names : (name : Name) → IsGroup S name → IsGroupName n
 pub decided_by : ((wildmat name : List ℕ) → IsTrue (matches_name wildmat name) ↔ MatchesName wildmat name)
     → (p : Option (List ℕ)) (name : Name) → IsTrue (option_map_or (λ w. matches_name w name) p true)
     ↔ IfSome p (λ w. MatchesName w name)
-decided_by law None name = (λ t. tt, λ t. refl)
-decided_by law (Some w) name = law w name
+decided_by law p name = grind arith

@@ -1,15 +1,9 @@
 -- Numbers that are listed one after the other are those of a group within a range.
-use Rattle.std.proofs.Common.{◌≡◌, ◌⊎◌, inl, inr, ℕ, zero, suc, ◌<◌, ◌≤◌, true, List, [], ◌∷◌, Option, None, Some, IsSome, MatchOption, refl, sym, subst, arith}
+use Rattle.std.proofs.Common.{◌≡◌, ◌⊎◌, inl, inr, ℕ, suc, ◌<◌, ◌≤◌, true, List, [], ◌∷◌, Option, Some, MatchOption, refl, sym, subst, arith}
 use Rattle.std.{proofs.lemmas.Bool.{and_parts, cases_lt, Decides.{nat_tests}}, specs.{Prelude.{Contains, IfSome, ◌↔◌, nat_lt, ⊤}, List.{list_all}}}
-use Rattle.std.specs.FinMap.{get}
 use Rattle.nntp_wire.specs.declared.range.Range.{Range}
 use Rattle.nntp_article.specs.Session.Spool.{Numbers, IsNumber, IsNextAbove, Lists, NoneAbove}
 use Rattle.nntp_spool.specs.Inner.ListedNumbers.{IsAbove, IsNextFrom, ListsFrom}
-
--- none is not some
-some_none : {A : Type 0} (o : Option A) → o ≡ None → IsSome o → ⊥
-some_none None e s = cc
-some_none (Some x) e s = absurd cc
 
 contains_first : (n : ℕ) (ns : List ℕ) → Contains (n ∷ ns) n
 contains_first n ns = (0, omega arith, refl)
@@ -18,8 +12,7 @@ contains_later : (n m : ℕ) (ns : List ℕ) → Contains ns m → Contains (n �
 contains_later n m ns (k, lt, e) = (suc k, omega arith, e)
 
 contains_cons : (n m : ℕ) (ns : List ℕ) → Contains (n ∷ ns) m → (m ≡ n) ⊎ Contains ns m
-contains_cons n m ns (zero, lt, e) = inl (sym e)
-contains_cons n m ns (suc k, lt, e) = inr (k, omega arith, e)
+contains_cons n m ns h = grind arith
 
 contains_none : (m : ℕ) → Contains [] m → ⊥
 contains_none m (k, lt, e) = omega arith
@@ -32,8 +25,7 @@ above_all n m (k ∷ ns) h c = by (contains_cons k m ns c) (above_all n m ns bot
     both = and_parts (nat_lt n k) (list_all (λ k. nat_lt n k) ns) h
 
     by : (m ≡ k) ⊎ Contains ns m → (Contains ns m → n < m) → n < m
-    by (inl e) rest = let lt : n < k = grind (arith, nat_tests, both.0) in omega arith
-    by (inr c) rest = rest c
+    by h rest = grind (arith, nat_tests, both)
 
 -- one number more
 module _ (N : Numbers) (r : Range) (before : Option ℕ) where
@@ -41,21 +33,13 @@ module _ (N : Numbers) (r : Range) (before : Option ℕ) where
   taken n ns asc here fits = (λ h m. (forth h m, back h m), λ h m. (forth2 h m, back2 h m))
     where
       above : (m : ℕ) → n < m → IsAbove before m
-      above m lt = higher before here.1 lt
-        where
-          higher : (c : Option ℕ) → IsAbove c n → n < m → IsAbove c m
-          higher None a lt = tt
-          higher (Some c) a lt = omega arith
+      above m lt = grind arith
 
       forth : ListsFrom N r before (n ∷ ns) → (m : ℕ) → Contains ns m → IsNumber N m × (n < m) × IfSome r.last (λ last. m ≤ last)
       forth h m c = let is = (h m).0 (contains_later n m ns c) in (is.0, above_all n m ns asc c, is.2)
 
       back : ListsFrom N r before (n ∷ ns) → (m : ℕ) → (IsNumber N m × (n < m) × IfSome r.last (λ last. m ≤ last)) → Contains ns m
-      back h m (is, lt, fit) = by (contains_cons n m ns ((h m).1 (is, above m lt, fit)))
-        where
-          by : (m ≡ n) ⊎ Contains ns m → Contains ns m
-          by (inl e) = absurd (omega arith)
-          by (inr c) = c
+      back h m (is, lt, fit) = grind arith
 
       forth2 : ListsFrom N r (Some n) ns → (m : ℕ) → Contains (n ∷ ns) m → IsNumber N m × IsAbove before m × IfSome r.last (λ last. m ≤ last)
       forth2 h m c = by (contains_cons n m ns c)
@@ -82,8 +66,7 @@ module _ (N : Numbers) (r : Range) (before : Option ℕ) where
       is = (h n).0 (contains_first n ns)
 
       lower : (last : Option ℕ) (m : ℕ) → m < n → IfSome last (λ l. n ≤ l) → IfSome last (λ l. m ≤ l)
-      lower None m lt fit = tt
-      lower (Some l) m lt fit = omega arith
+      lower last m lt fit = grind arith
 
       least : (m : ℕ) → IsAbove before m → IsNumber N m → n ≤ m
       least m a is_m = by (cases_lt m n)
@@ -94,16 +77,7 @@ module _ (N : Numbers) (r : Range) (before : Option ℕ) where
 
   -- nothing is left
   pub none_left : (first : Option ℕ) → IsNextFrom N before first → ListsFrom N r before [] ↔ MatchOption first ⊤ (λ n. IfSome r.last (λ last. n ≤ last) → ⊥)
-  none_left None none = (λ h. tt, λ h m. (λ c. absurd (contains_none m c), λ (is, a, fit). absurd (some_none (get N m) (none m a) is)))
-  none_left (Some n) here = (
-    λ h fit. contains_none n ((h n).1 (here.0, here.1, fit)),
-    λ never m.
-        (λ c. absurd (contains_none m c), λ (is, a, fit). absurd (never (lower r.last m (here.2 m a is) fit))),
-  )
-    where
-      lower : (last : Option ℕ) (m : ℕ) → n ≤ m → IfSome last (λ l. m ≤ l) → IfSome last (λ l. n ≤ l)
-      lower None m le fit = tt
-      lower (Some l) m le fit = omega arith
+  none_left first none = grind arith
 
 -- from the start of the range on
 pub lists_from_range : (N : Numbers) (r : Range) (ns : List ℕ) (before : Option ℕ) → ((n : ℕ) → IsAbove before n ↔ (r.first ≤ n)) → ListsFrom N r before ns ↔ Lists N r ns
@@ -114,5 +88,4 @@ lists_from_range N r ns before from = (
 
 -- the least number above one is the next from it
 pub from_above : (N : Numbers) (c : ℕ) (next : Option ℕ) → MatchOption next (NoneAbove N c) (λ n. IsNextAbove N c n) → IsNextFrom N (Some c) next
-from_above N c None h = h
-from_above N c (Some n) h = (h.1, h.0, h.2)
+from_above N c next h = grind arith

@@ -1,19 +1,16 @@
 -- Entries in the order of their keys.
-use Rattle.std.proofs.Common.{◌≡◌, ◌⊎◌, inl, inr, Bool, true, false, cond, T, List, [], ◌∷◌, ◌++◌, Option, None, Some, refl, sym, ap, subst, ◌∙◌}
-use Rattle.std.{proofs.lemmas.Bool.{and_parts}, specs.{declared.cmp.Ordering.{Ordering, TheVariants.{Less, Equal, Greater}}, Ordering.{is_lt, eq_by_cmp}}}
+use Rattle.std.proofs.Common.{arith, ◌≡◌, ◌⊎◌, Bool, true, false, cond, T, List, [], ◌∷◌, ◌++◌, Option, None, Some, refl, sym, ap, ◌∙◌}
+use Rattle.std.{proofs.lemmas.Bool.{and_parts}, specs.{declared.cmp.Ordering.{Ordering, TheVariants.{Less, Greater}}, Ordering.{is_lt, eq_by_cmp}}}
 use Rattle.std.specs.{Ordering.{ordering_reverse}, Cmp.{IsTotalOrder, eq_by_cmp_equiv}, List.{list_all, AllByRecursion}, FinMap.{FinMap, get, entries, insert}}
 use Rattle.std.specs.FinMap.{put, find, is_sorted, entries-insert, get-insert, entries_sorted, get-entries, IsAntisymmetric, Entries.{below_all}}
 use Rattle.nntp_wire.proofs.ShownMaps.{equal_is}
 use Rattle.nntp_spool.specs.Ascending.{is_last}
 
 pub is_passed : (b : Bool) → T b → b ≡ true
-is_passed true h = refl
-is_passed false h = absurd h
+is_passed b h = grind arith
 
 pub less_is : (r : Ordering) → is_lt r ≡ true → r ≡ Less
-less_is Less e = refl
-less_is Equal e = cc
-less_is Greater e = cc
+less_is r e = grind arith
 
 abbrev some : {A : Type 0} → A → Option A
 some x = Some x
@@ -34,10 +31,7 @@ module _ {K : Type 0} {R : K → K → Ordering} (o : IsTotalOrder R) where
 module _ {K X : Type 0} {R : K → K → Ordering} (o : IsTotalOrder R) where
   put-last : (es : List (K × X)) (k : K) (v : X) → list_all (λ e. is_lt (R e.0 k)) es ≡ true → put R k v es ≡ es ++ (k, v) ∷ []
   put-last [] k v h = refl
-  put-last (e ∷ es) k v h =
-      let both = and_parts (is_lt (R e.0 k)) (list_all (λ f. is_lt (R f.0 k)) es) h in
-      let above : R k e.0 ≡ Greater = o.antisymm k e.0 ∙ ap ordering_reverse (less_is (R e.0 k) both.0) in
-      rw above (ap (λ (fs : List (K × X)). e ∷ fs) (put-last es k v both.1))
+  put-last (e ∷ es) k v h = grind (arith, and_parts, less_is, put-last es k v)
 
   -- an entry behind all others
   pub entries-insert_last : (m : FinMap R X) (k : K) (v : X) → is_last m k ≡ true → entries (insert m k v) ≡ entries m ++ (k, v) ∷ []
@@ -50,41 +44,26 @@ module _ {K X : Type 0} {R : K → K → Ordering} (o : IsTotalOrder R) where
   -- the keys before an entry are less
   pub less_before : (xs : List (K × X)) (e : K × X) (ys : List (K × X)) → is_sorted R (xs ++ e ∷ ys) ≡ true → list_all (λ f. is_lt (R f.0 e.0)) xs ≡ true
   less_before [] e ys h = refl
-  less_before (x ∷ xs) e ys h =
-      let both = and_parts (below_all R x.0 (xs ++ e ∷ ys)) (is_sorted R (xs ++ e ∷ ys)) h in
-      rw (below_middle x.0 xs e ys both.0) (less_before xs e ys both.1)
+  less_before (x ∷ xs) e ys h = grind (arith, and_parts, below_middle, less_before xs e ys)
 
   -- an entry behind lesser keys is found
   pub find_middle : (xs : List (K × X)) (e : K × X) (ys : List (K × X)) → list_all (λ f. is_lt (R f.0 e.0)) xs ≡ true → find R e.0 (xs ++ e ∷ ys) ≡ Some e.1
   find_middle [] e ys h = rw (tied_itself o e.0) refl
-  find_middle (x ∷ xs) e ys h =
-      let both = and_parts (is_lt (R x.0 e.0)) (list_all (λ f. is_lt (R f.0 e.0)) xs) h in
-      rw (apart o x.0 e.0 both.0) (find_middle xs e ys both.1)
+  find_middle (x ∷ xs) e ys h = grind (arith, and_parts, apart, find_middle xs e ys)
 
   pub find_front : (q : K) (v : X) (xs ys : List (K × X)) → find R q xs ≡ Some v → find R q (xs ++ ys) ≡ Some v
   find_front q v [] ys h = cc
-  find_front q v (x ∷ xs) ys h = step (eq_by_cmp R q x.0) (find R q xs) (find R q (xs ++ ys)) x.1 h (find_front q v xs ys)
-    where
-      step : (b : Bool) (f g : Option X) (w : X) → cond b (some w) f ≡ Some v → (f ≡ Some v → g ≡ Some v) → cond b (some w) g ≡ Some v
-      step true f g w h more = h
-      step false f g w h more = more h
+  find_front q v (x ∷ xs) ys h = grind (arith, find_front q v xs ys)
 
   find_below : (q : K) (es : List (K × X)) → below_all R q es ≡ true → find R q es ≡ None
   find_below q [] h = refl
-  find_below q (e ∷ es) h =
-      let both = and_parts (is_lt (R q e.0)) (below_all R q es) h in
-      let less : R q e.0 ≡ Less = less_is (R q e.0) both.0 in
-      rw less (find_below q es both.1)
+  find_below q (e ∷ es) h = grind (arith, and_parts, less_is, find_below q es)
 
   module _ (same : IsAntisymmetric R) where
     -- what holds of each entry holds of the one that is found
     pub all_found : (P : K → X → Type 0) (es : List (K × X)) → AllByRecursion (λ e. P e.0 e.1) es → (k : K) (v : X) → find R k es ≡ Some v → P k v
     all_found P [] all k v h = absurd (some_none v (sym h))
-    all_found P (e ∷ es) all k v h = step (eq_by_cmp R k e.0) refl h (all_found P es all.1 k v)
-      where
-        step : (b : Bool) → eq_by_cmp R k e.0 ≡ b → cond b (some e.1) (find R k es) ≡ Some v → (find R k es ≡ Some v → P k v) → P k v
-        step true t h more = subst (λ (x : X). P k x) (some_is e.1 v h) (subst (λ (q : K). P q e.1) (sym (same k e.0 (equal_is (R k e.0) t))) all.0)
-        step false t h more = more h
+    all_found P (e ∷ es) all k v h = grind (arith, all_found P es all.1 k v, some_is, equal_is)
 
     -- and what holds of each that is found holds of each entry
     pub found_all : (P : K → X → Type 0) (es : List (K × X)) → is_sorted R es ≡ true → ((k : K) (v : X) → find R k es ≡ Some v → P k v) → AllByRecursion (λ e. P e.0 e.1) es
@@ -95,8 +74,7 @@ module _ {K X : Type 0} {R : K → K → Ordering} (o : IsTotalOrder R) where
         both = and_parts (below_all R e.0 es) (is_sorted R es) sorted
 
         other : (k : K) (v : X) (b : Bool) → eq_by_cmp R k e.0 ≡ b → find R k es ≡ Some v → b ≡ false
-        other k v true t f = absurd (some_none v (sym f ∙ ap (λ (q : K). find R q es) (same k e.0 (equal_is (R k e.0) t)) ∙ find_below e.0 es both.0))
-        other k v false t f = refl
+        other k v b t f = grind (arith, some_none, equal_is, find_below, both)
 
         behind : (k : K) (v : X) → find R k es ≡ Some v → P k v
         behind k v f = h k v (rw (other k v (eq_by_cmp R k e.0) refl f) f)
@@ -112,5 +90,4 @@ module _ {K X : Type 0} {R : K → K → Ordering} (o : IsTotalOrder R) where
     got_more m k v q x g = step (eq_by_cmp R q k) refl (sym (get-insert o m k v q) ∙ g)
       where
         step : (b : Bool) → eq_by_cmp R q k ≡ b → cond b (some v) (get m q) ≡ Some x → ((q ≡ k) × (x ≡ v)) ⊎ (get m q ≡ Some x)
-        step true t h = inl (same q k (equal_is (R q k) t), sym (some_is v x h))
-        step false t h = inr h
+        step b t h = grind arith

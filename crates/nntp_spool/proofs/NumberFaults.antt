@@ -1,29 +1,16 @@
 -- What a builder answers to a number that has a fault, or that no memory is left for.
-use Rattle.std.{proofs.Common.{◌≡◌, ◌∙◌, refl, ap, ℕ, Bool, true, false, Option, Some, None, Result, Err}, specs.Prelude.{if◌then◌else◌, is_some, is_none, not}}
-use Rattle.std.specs.FinMap.{get, insert}
-use Rattle.nntp_wire.specs.{Decided.{is_message_id}, Limit.{greatest}}
-use Rattle.nntp_article.specs.{Article.Parts.{Id}, Session.{Machine.{is_article_number}, Spool.{Name, Spool, numbers}}}
+use Rattle.std.{proofs.Common.{arith, ◌≡◌, ◌∙◌, refl, ap, ℕ, Bool, true, false, Option, Some, None, Result, Err}, specs.Prelude.{if◌then◌else◌}}
+use Rattle.std.specs.FinMap.{insert}
+use Rattle.nntp_wire.specs.Limit.{greatest}
+use Rattle.nntp_article.specs.{Article.Parts.{Id}, Session.Spool.{Name, Spool, numbers}}
 use Rattle.nntp_spool.specs.{declared.value.spool_fault.SpoolFault.{SpoolFault}, Numbers.{has_id}, Inner.Building.{Building, Builds, BuildsBy, number_fault}}
 use Rattle.nntp_spool.specs.{Inner.Building.{place_fault}, Content.{with_group}}
 use Rattle.nntp_spool.specs.declared.value.spool_fault.SpoolFault.TheVariants as faults
 
--- a fault by the first of four tests is that by the five
-first_of_four : (a b c d e : Bool) (w x y z last f : SpoolFault) → (if a then Some w else (if b then Some x else (if c then Some y else (if d then Some z else None)))) ≡ Some f
-    → (if a then Some w else (if b then Some x else (if c then Some y else (if d then Some z else (if e then Some last else None))))) ≡ Some f
-first_of_four true b c d e w x y z last f is = is
-first_of_four false true c d e w x y z last f is = is
-first_of_four false false true d e w x y z last f is = is
-first_of_four false false false true e w x y z last f is = is
-first_of_four false false false false e w x y z last f is = absurd cc
-
 -- where four tests find no fault the fifth decides
 fifth : (a b c d e : Bool) (w x y z last : SpoolFault) → (if a then Some w else (if b then Some x else (if c then Some y else (if d then Some z else None)))) ≡ None
     → (if a then Some w else (if b then Some x else (if c then Some y else (if d then Some z else (if e then Some last else None))))) ≡ (if e then Some last else None)
-fifth true b c d e w x y z last is = absurd cc
-fifth false true c d e w x y z last is = absurd cc
-fifth false false true d e w x y z last is = absurd cc
-fifth false false false true e w x y z last is = absurd cc
-fifth false false false false e w x y z last is = refl
+fifth a b c d e w x y z last is = grind arith
 
 module _ (old : Building) (name : Name) (n : ℕ) (id : Id) where
   -- the fault of the number at its place
@@ -42,15 +29,11 @@ module _ (old : Building) (name : Name) (n : ℕ) (id : Id) where
 
   -- the number has a fault at its place
   pub misplaced : (f : SpoolFault) → old.failed ≡ false → placed ≡ Some f → builds (Err f) old
-  misplaced f works is =
-      by old.failed _ _ f works (first_of_four (is_none (get old.spool.groups name)) (not (is_article_number (greatest old.limit) n)) (not (is_message_id id))
-      (is_some (get (numbers old.spool name) n))
-      (has_id (numbers old.spool name) id) faults.UnknownGroup faults.BadNumber faults.BadId faults.DuplicateNumber faults.DuplicateId f is)
+  misplaced f works is = grind arith
 
   -- with none there, only another number of its id is a fault
   has : placed ≡ None → number_fault (greatest old.limit) old.spool name n id ≡ (if has_id (numbers old.spool name) id then Some faults.DuplicateId else None)
-  has is = fifth (is_none (get old.spool.groups name)) (not (is_article_number (greatest old.limit) n)) (not (is_message_id id)) (is_some (get (numbers old.spool name) n))
-      (has_id (numbers old.spool name) id) faults.UnknownGroup faults.BadNumber faults.BadId faults.DuplicateNumber faults.DuplicateId is
+  has is = grind (arith, fifth)
 
   -- another number has the id
   pub repeated : old.failed ≡ false → placed ≡ None → has_id (numbers old.spool name) id ≡ true → builds (Err faults.DuplicateId) old

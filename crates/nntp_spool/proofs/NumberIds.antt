@@ -1,10 +1,9 @@
 -- The ids of a group's numbers, and one more.
-use Rattle.std.proofs.Common.{◌≡◌, ℕ, Bool, true, false, cond, List, [], ◌∷◌, Option, None, Some, is_some, option_map, refl, sym, ap, subst, ◌∙◌, ⊎_elim}
+use Rattle.std.proofs.Common.{arith, ◌≡◌, ℕ, Bool, true, false, List, [], ◌∷◌, Option, None, Some, is_some, option_map, refl, sym, ap, ◌∙◌}
 use Rattle.std.proofs.lemmas.{Bool.{true≢false, false≢true, and_parts, and_from, cases_Bool, Decides.{same_from_decides}}, Map.Text.{is_eq-slice_cmp}}
-use Rattle.std.{proofs.lemmas.Slice.Eq.{bytes_eq-Decides}, specs.declared.{cmp.Ordering.{Ordering, TheVariants.{Less, Equal, Greater}}, rc.RcStr.{RcStr}}}
-use Rattle.std.specs.{Prelude.{◌||◌, not, bytes_eq}, Ordering.{nat_cmp, is_eq, match_ordering}, Cmp.{nat_cmp_total, Lexicographic.{slice_cmp}}, Bool.{Decides}}
-use Rattle.std.specs.{List.{list_all, list_any}, Set.{remove_key}, Rc.{rc_str_bytes}, BTreeSet.{insert_key}, FinMap.{get, insert, empty, entries, find, put}}
-use Rattle.std.specs.FinMap.{entries-insert, get-entries, Entries.{by_order}}
+use Rattle.std.{proofs.lemmas.Slice.Eq.{bytes_eq-Decides}, specs.{declared.{cmp.Ordering.{Ordering}, rc.RcStr.{RcStr}}, Prelude.{◌||◌, not, bytes_eq}}}
+use Rattle.std.specs.{Ordering.{nat_cmp, is_eq}, Cmp.{nat_cmp_total, Lexicographic.{slice_cmp}}, Bool.{Decides}, List.{list_all, list_any}, Set.{remove_key}}
+use Rattle.std.specs.{Rc.{rc_str_bytes}, BTreeSet.{insert_key}, FinMap.{get, insert, empty, entries, find, put, entries-insert, get-entries}}
 use Rattle.nntp_article.{specs.{Session.Spool.{Numbers}, Article.Parts.{Id}}, proofs.SessionLemmas.SetKeys.{or_swap, any-insert_key}}
 use Rattle.nntp_spool.{specs.{Numbers.{has_id}, Inner.Numbers.{AreIdsOf}}, proofs.{NumbersInOrder.{either_false, entries-empty}, ShownMaps.{octet_keys}}}
 
@@ -14,18 +13,11 @@ some_none x e = cc
 -- a test over entries, once one was put at a key that was not there
 any-put : {K X : Type 0} (R : K → K → Ordering) (t : K × X → Bool) (k : K) (v : X) (es : List (K × X)) → find R k es ≡ None → list_any t (put R k v es) ≡ (t (k, v) || list_any t es)
 any-put R t k v [] absent = refl
-any-put R t k v (e ∷ es) absent = by (R k e.0) absent (any-put R t k v es)
-  where
-    by : (r : Ordering) → cond (is_eq r) (Some e.1) (find R k es) ≡ None → (find R k es ≡ None → list_any t (put R k v es) ≡ (t (k, v) || list_any t es))
-        → list_any t (by_order r ((k, v) ∷ e ∷ es) ((e.0, v) ∷ es) (e ∷ put R k v es)) ≡ (t (k, v) || (t e || list_any t es))
-    by Less absent more = refl
-    by Equal absent more = absurd (some_none e.1 absent)
-    by Greater absent more = ap (λ b. t e || b) (more absent) ∙ or_swap (t e) (t (k, v)) (list_any t es)
+any-put R t k v (e ∷ es) absent = grind (arith, any-put R t k v es, some_none, or_swap)
 
 -- no value is there where none is found
 pub none_found : {V X : Type 0} (view : V → X) (found : Option V) (o : Option X) (b : Bool) → option_map view found ≡ o → b ≡ is_some found → b ≡ false → o ≡ None
-none_found view None o b is e f = sym is
-none_found view (Some v) o b is e f = absurd (true≢false (sym e ∙ f))
+none_found view found o b is e f = grind arith
 
 pub has_id-insert : (N : Numbers) (n : ℕ) (new id : List ℕ) → get N n ≡ None → has_id (insert N n new) id ≡ (bytes_eq new id || has_id N id)
 has_id-insert N n new id absent =
@@ -50,23 +42,12 @@ module _ (t : Id → Bool) {X : Type 0} (id : X → Id) (at : Id → X → Bool)
   -- it passes at an id that is there, where it passes at all
   passes-there : (xs : List X) (q : Id) → list_all (λ x. t (id x)) xs ≡ true → list_any (at q) xs ≡ true → t q ≡ true
   passes-there [] q all there = absurd (false≢true there)
-  passes-there (x ∷ xs) q all there =
-      let each : (t (id x) ≡ true) × (list_all (λ x. t (id x)) xs ≡ true) = and_parts _ _ all in
-      ⊎_elim (λ (is : at q x ≡ true). subst (λ i. t i ≡ true) ((decides q x).0 is) each.0)
-      (λ (no : at q x ≡ false). passes-there xs q each.1 (ap (λ b. b || list_any (at q) xs) (sym no) ∙ there))
-      (cases_Bool (at q x))
+  passes-there (x ∷ xs) q all there = grind (arith, and_parts, passes-there xs, cases_Bool)
 
   -- it passes at all, where it passes at each id that is there
   passes-all : (xs : List X) → ((q : Id) → list_any (at q) xs ≡ true → t q ≡ true) → list_all (λ x. t (id x)) xs ≡ true
   passes-all [] each = refl
-  passes-all (x ∷ xs) each =
-      and_from (t (id x)) (list_all (λ x. t (id x)) xs)
-      (each (id x) (ap (λ b. b || list_any (at (id x)) xs) ((decides (id x) x).1 refl)))
-      (passes-all xs (λ q there. each q (or_true (at q x) (list_any (at q) xs) there)))
-    where
-      or_true : (a b : Bool) → b ≡ true → (a || b) ≡ true
-      or_true true b e = refl
-      or_true false b e = e
+  passes-all (x ∷ xs) each = grind (arith, and_from, passes-all xs)
 
 -- a test passes at all ids of the numbers exactly if it does at all that are known
 pub all_ids : {A : Type 0} (t : Id → Bool) (ids : List (RcStr A)) (N : Numbers) → AreIdsOf ids N
@@ -98,9 +79,7 @@ module _ {A : Type 0} where
   -- what a set of the ids answers where one more is put into it
   pub is_added : (ids : List (RcStr A)) (M N : Numbers) (id : List ℕ) (k : RcStr A) (added : Bool) → AreIdsOf ids M
       → M ≡ N → rc_str_bytes k ≡ id → added ≡ not (list_any (is_of (rc_str_bytes k)) ids) → added ≡ not (has_id N id)
-  is_added ids M N id k added are same is e =
-      let of : list_any (is_of (rc_str_bytes k)) ids ≡ has_id M (rc_str_bytes k) = any_known (rc_str_bytes k) ids ∙ are (rc_str_bytes k) in
-      e ∙ ap not (of ∙ ap (λ m. has_id m (rc_str_bytes k)) same ∙ ap (has_id N) is)
+  is_added ids M N id k added are same is e = grind (arith, any_known)
 
   is_of_itself : (id : List ℕ) (k : RcStr A) → rc_str_bytes k ≡ id → is_of id k ≡ true
   is_of_itself id k is = is_eq-slice_cmp id (rc_str_bytes k) ∙ (bytes_eq-Decides id (rc_str_bytes k)).1 (sym is)
@@ -109,25 +88,12 @@ module _ {A : Type 0} where
   remove-insert : (id : List ℕ) (k : RcStr A) (ks : List (RcStr A)) → rc_str_bytes k ≡ id → list_any (λ known. bytes_eq id (rc_str_bytes known)) ks ≡ false
       → remove_key (is_of id) (insert_key octets_cmp ks k) ≡ ks
   remove-insert id k [] is absent = rw (is_of_itself id k is) refl
-  remove-insert id k (x ∷ ks) is absent =
-      let both = either_false (bytes_eq id (rc_str_bytes x)) (list_any (λ known. bytes_eq id (rc_str_bytes known)) ks) absent in
-      by (slice_cmp nat_cmp (rc_str_bytes k) (rc_str_bytes x)) (ap (λ (i : List ℕ). slice_cmp nat_cmp i (rc_str_bytes x)) is) (is_eq-slice_cmp id (rc_str_bytes x)
-      ∙ both.0) (remove-insert id k ks is both.1)
-    where
-      by : (r : Ordering) → r ≡ slice_cmp nat_cmp id (rc_str_bytes x) → is_of id x ≡ false → remove_key (is_of id) (insert_key octets_cmp ks k) ≡ ks
-          → remove_key (is_of id) (match_ordering r (k ∷ x ∷ ks) (x ∷ ks) (x ∷ insert_key octets_cmp ks k)) ≡ x ∷ ks
-      by Less e other more = rw (is_of_itself id k is) refl
-      by Equal e other more = absurd (true≢false (ap is_eq e ∙ other))
-      by Greater e other more = rw other (ap (λ (rest : List (RcStr A)). x ∷ rest) more)
+  remove-insert id k (x ∷ ks) is absent = grind (arith, either_false, is_eq-slice_cmp, remove-insert id k ks is, is_of_itself, true≢false)
 
   -- an id more, at a number that was not there
   pub one_id_more : (ids new : List (RcStr A)) (N : Numbers) (n : ℕ) (id : List ℕ) (k : RcStr A) → AreIdsOf ids N
       → get N n ≡ None → rc_str_bytes k ≡ id → new ≡ insert_key octets_cmp ids k → AreIdsOf new (insert N n id)
-  one_id_more ids new N n id k are absent is e q =
-      ap (list_any (λ known. bytes_eq q (rc_str_bytes known))) e
-      ∙ any-insert_key octets_cmp (λ known. bytes_eq q (rc_str_bytes known)) k ids (λ x tied. ap (bytes_eq q) (sym (octet_keys (rc_str_bytes k) (rc_str_bytes x) tied)))
-      ∙ ap (λ b. bytes_eq q (rc_str_bytes k) || b) (are q) ∙ ap (λ b. b || has_id N q) (either_way q (rc_str_bytes k) ∙ ap (λ i. bytes_eq i q) is)
-      ∙ sym (has_id-insert N n id q absent)
+  one_id_more ids new N n id k are absent is e q = grind (arith, any-insert_key, octet_keys, either_way, has_id-insert)
 
   -- an id that was put among others, and taken out again
   pub id_taken_back : (ids more new : List (RcStr A)) (N M : Numbers) (id : List ℕ) (k : RcStr A) → AreIdsOf ids N

@@ -1,10 +1,9 @@
 -- Numbers that follow one another are numbers of a group, and the other way round.
-use Rattle.std.proofs.Common.{◌≡◌, ◌⊎◌, inl, inr, ℕ, ◌+◌, ◌<◌, ◌≤◌, ◌^◌, Bool, true, false, cond, List, [], ◌∷◌, ◌++◌, None, Some, length, refl, sym, ap, ◌∙◌}
+use Rattle.std.proofs.Common.{◌≡◌, ◌⊎◌, inl, inr, ℕ, ◌+◌, ◌<◌, ◌≤◌, ◌^◌, Bool, true, false, List, [], ◌∷◌, ◌++◌, None, Some, length, refl, sym, ap, ◌∙◌}
 use Rattle.std.proofs.{Common.{append_assoc, arith}, lemmas.{Bool.{true≢false, and_parts, Decides.{nat_tests}}, List.{nil_from_length}}}
-use Rattle.std.{proofs.lemmas.Slice.Eq.{bytes_eq-Decides}, specs.{Prelude.{◌||◌, ◌==◌, nat_lt, bytes_eq}, List.{list_all, list_any, AllByRecursion}}}
-use Rattle.std.specs.{declared.cmp.Ordering.TheVariants.{Less, Equal, Greater}, Ordering.{nat_cmp, is_lt, eq_by_cmp}, Cmp.{nat_cmp_total}, FinMap.{get, insert}}
-use Rattle.std.specs.FinMap.{empty, entries, len, find, is_sorted, entries_sorted, get-entries, get-empty, len-empty, len-entries, same_entries_map}
-use Rattle.std.specs.FinMap.{nat_cmp-IsAntisymmetric, Entries.{below_all}}
+use Rattle.std.{proofs.lemmas.Slice.Eq.{bytes_eq-Decides}, specs.{Prelude.{◌||◌, bytes_eq}, List.{list_all, list_any, AllByRecursion}, Ordering.{nat_cmp}}}
+use Rattle.std.specs.{Ordering.{is_lt, eq_by_cmp}, Cmp.{nat_cmp_total}, FinMap.{get, insert, empty, entries, len, find, is_sorted, entries_sorted, get-entries}}
+use Rattle.std.specs.FinMap.{get-empty, len-empty, len-entries, same_entries_map, nat_cmp-IsAntisymmetric, Entries.{below_all}}
 use Rattle.nntp_wire.specs.Decided.{is_message_id}
 use Rattle.nntp_article.specs.Session.{Machine.{is_article_number}, Spool.{Numbers}}
 use Rattle.nntp_spool.{specs.{Numbers.{has_id}, Ascending.{is_last}, Inner.Content.{AreNumbers}}, proofs.FollowingNumbers.{AllFollow, with_all}}
@@ -12,8 +11,7 @@ use Rattle.nntp_spool.proofs.MapEntries.{is_passed, less_before, find_middle, fi
 use Rattle.nntp_spool.proofs.NumbersRead.{entries-with_all}
 
 pub either_false : (a b : Bool) → (a || b) ≡ false → (a ≡ false) × (b ≡ false)
-either_false true b e = absurd (true≢false e)
-either_false false b e = (refl, e)
+either_false a b e = grind arith
 
 pub any_none : {X : Type 0} (p : X → Bool) (xs : List X) → AllByRecursion (λ x. p x ≡ false) xs → list_any p xs ≡ false
 any_none p [] h = refl
@@ -59,10 +57,7 @@ one_more limit N n id a num is_id fresh =
     each_is q x (inr g) = a.each q x g
 
     one_is : (q m : ℕ) (x : List ℕ) → ((q ≡ n) × (x ≡ id)) ⊎ (get N q ≡ Some x) → ((m ≡ n) × (x ≡ id)) ⊎ (get N m ≡ Some x) → q ≡ m
-    one_is q m x (inl e) (inl d) = e.0 ∙ sym d.0
-    one_is q m x (inl e) (inr h) = absurd (fresh_id N id fresh m (h ∙ ap Some e.1))
-    one_is q m x (inr g) (inl d) = absurd (fresh_id N id fresh q (g ∙ ap Some d.1))
-    one_is q m x (inr g) (inr h) = a.one_to_one q m x g h
+    one_is q m x h h2 = search (arith, fresh_id)
 
 pub all_more : (limit : ℕ) (N : Numbers) (es : List (ℕ × List ℕ)) → AreNumbers limit N → AllFollow limit N es → AreNumbers limit (with_all N es)
 all_more limit N [] a h = a
@@ -101,27 +96,16 @@ with_all-entries limit N a =
 -- ---- how many numbers there are
 
 lower : (n m : ℕ) → is_lt (nat_cmp n m) ≡ true → n < m
-lower n m less = let is = first (nat_lt n m) (n == m) less in grind (arith, nat_tests)
-  where
-    first : (a b : Bool) → is_lt (cond a Less (cond b Equal Greater)) ≡ true → a ≡ true
-    first true b e = refl
-    first false true e = cc
-    first false false e = cc
+lower n m less = grind arith
 
 -- the numbers behind one of them are above it
 above : (least n limit : ℕ) (es : List (ℕ × List ℕ)) → below_all nat_cmp n es ≡ true → AllByRecursion (λ e. (least < e.0) × (e.0 ≤ limit)) es → AllByRecursion (λ e. (n < e.0) × (e.0 ≤ limit)) es
 above least n limit [] below all = tt
-above least n limit (e ∷ es) below all =
-    let both = and_parts (is_lt (nat_cmp n e.0)) (below_all nat_cmp n es) below in
-    ((lower n e.0 both.0, all.0.1), above least n limit es both.1 all.1)
+above least n limit (e ∷ es) below all = grind (arith, and_parts, lower, above least n limit es)
 
 within_limit : (least limit : ℕ) (es : List (ℕ × List ℕ)) → is_sorted nat_cmp es ≡ true → AllByRecursion (λ e. (least < e.0) × (e.0 ≤ limit)) es → least ≤ limit → length es + least ≤ limit
 within_limit least limit [] sorted all le = omega arith
-within_limit least limit (e ∷ es) sorted all le =
-    let both = and_parts (below_all nat_cmp e.0 es) (is_sorted nat_cmp es) sorted in
-    let more = within_limit e.0 limit es both.1 (above least e.0 limit es both.0 all.1) all.0.1 in
-    let first = all.0.0 in
-    omega arith
+within_limit least limit (e ∷ es) sorted all le = grind (arith, and_parts, within_limit e.0 limit es, above)
 
 -- a group has no more numbers than the limit allows
 pub few_numbers : (limit : ℕ) (N : Numbers) → limit < 2 ^ 64 → AreNumbers limit N → len N < 2 ^ 64

@@ -1,36 +1,31 @@
 -- The numbers of a group that are read are those that are written, and those that are written are read.
-use Rattle.std.proofs.Common.{◌≡◌, ℕ, zero, suc, ◌+◌, ◌^◌, ◌<◌, Bool, true, false, not, cond, List, [], ◌∷◌, ◌++◌, Option, None, Some, Result, Ok, Err, length}
-use Rattle.std.proofs.{Common.{refl, sym, ap, subst, ◌∙◌, append_assoc, arith}, lemmas.{Bool.{and_parts, Decides.{nat_tests}}, List.{append-nil}}}
+use Rattle.std.proofs.Common.{◌≡◌, ℕ, zero, suc, ◌+◌, ◌^◌, ◌<◌, Bool, true, false, not, cond, List, [], ◌∷◌, ◌++◌, Option, Some, Result, Ok, Err, length, refl}
+use Rattle.std.proofs.{Common.{sym, ap, subst, ◌∙◌, append_assoc, arith}, lemmas.{Bool.{and_parts, Decides.{nat_tests}}, List.{append-nil}}}
 use Rattle.std.specs.{Cmp.{nat_cmp_total}, FinMap.{entries, insert}}
 use Rattle.nntp_wire.specs.Decided.{is_message_id}
 use Rattle.nntp_article.specs.Session.{Spool.{Numbers}, Machine.{is_article_number}}
-use Rattle.nntp_spool.specs.{declared.text.read_fault.ReadFault.{ReadFault}, Text.{number_line}, Reading.{◌>>=◌, fault, shaped, Place, line_at, next_line}}
-use Rattle.nntp_spool.specs.{Reading.{number_in, number_at, repeat}, Fields.{fields_of, number_and_id}, Ascending.{is_last}, Numbers.{has_id}}
+use Rattle.nntp_spool.specs.{declared.text.read_fault.ReadFault.{ReadFault}, Text.{number_line}, Reading.{◌>>=◌, fault, shaped, Place, line_at, number_in}}
+use Rattle.nntp_spool.specs.{Reading.{number_at, repeat}, Fields.{fields_of, number_and_id}, Ascending.{is_last}, Numbers.{has_id}}
 use Rattle.nntp_spool.proofs.{FollowingNumbers.{Follows, AllFollow, number_lines, with_all}, MapEntries.{entries-insert_last}, NameOctets.{id-lacks, id-some}}
 use Rattle.nntp_spool.proofs.LineFields.{number_and_id-number_line, number_line-number_and_id}
 use Rattle.nntp_spool.specs.declared.text.read_fault.Kind.TheVariants as kinds
 
 -- the value of a step that did not fail
 pub bind_ok : {A B : Type 0} (r : Result A ReadFault) (f : A → Result B ReadFault) (y : B) → (r >>= f) ≡ Ok y → (x : A) × (r ≡ Ok x) × (f x ≡ Ok y)
-bind_ok (Ok x) f y e = (x, refl, e)
-bind_ok (Err d) f y e = absurd cc
+bind_ok r f y e = grind arith
 
 -- tests that did not fail
 pub unless_ok : {A : Type 0} (b : Bool) (d : ReadFault) (r : Result A ReadFault) (y : A) → cond (not b) (Err d) r ≡ Ok y → (b ≡ true) × (r ≡ Ok y)
-unless_ok true d r y e = (refl, e)
-unless_ok false d r y e = absurd cc
+unless_ok b d r y e = grind arith
 
 pub fits_test : {A : Type 0} (b : Bool) (r : Result A ReadFault) (f : ReadFault) (y : A) → cond b r (Err f) ≡ Ok y → (b ≡ true) × (r ≡ Ok y)
-fits_test true r f y e = (refl, e)
-fits_test false r f y e = absurd cc
+fits_test b r f y e = grind arith
 
 pub guard_ok : {A : Type 0} (b : Bool) (d : ReadFault) (r : Result A ReadFault) (y : A) → cond b (Err d) r ≡ Ok y → (b ≡ false) × (r ≡ Ok y)
-guard_ok true d r y e = absurd cc
-guard_ok false d r y e = (refl, e)
+guard_ok b d r y e = grind arith
 
 pub shaped_ok : {A : Type 0} (line : ℕ) (o : Option A) (x : A) → shaped line o ≡ Ok x → o ≡ Some x
-shaped_ok line None x e = absurd cc
-shaped_ok line (Some y) x e = cc
+shaped_ok line o x e = grind arith
 
 abbrev pub done : {A : Type 0} → A → Result A ReadFault
 done x = Ok x
@@ -39,12 +34,7 @@ pub ok_is : {A : Type 0} (x y : A) → done x ≡ done y → x ≡ y
 ok_is x y e = cc
 
 pub line_takes : (p : Place) (x : List ℕ × Place) → line_at p ≡ Ok x → p.segments ≡ x.0 ∷ x.1.segments
-line_takes p x e = takes p.line p.segments x e
-  where
-    takes : (line : ℕ) (segments : List (List ℕ)) (x : List ℕ × Place) → next_line line segments ≡ Ok x → segments ≡ x.0 ∷ x.1.segments
-    takes line [] x e = absurd cc
-    takes line (segment ∷ []) x e = absurd cc
-    takes line (segment ∷ next ∷ segments) x e = ap (λ (y : List ℕ × Place). y.0 ∷ y.1.segments) (ok_is (segment, record { line = line + 1; segments = next ∷ segments }) x e)
+line_takes p x e = grind arith
 
 -- ---- one number
 
@@ -101,9 +91,7 @@ entries-with_all limit N (e ∷ es) h =
 
 pub numbers_take : (limit count : ℕ) (N : Numbers) (p : Place) (x : Numbers × Place) → limit < 2 ^ 64 → repeat (number_at limit) count (N, p) ≡ Ok x
     → (es : List (ℕ × List ℕ)) × AllFollow limit N es × (length es ≡ count) × (x.0 ≡ with_all N es) × (p.segments ≡ number_lines es ++ x.1.segments)
-numbers_take limit zero N p x le e =
-    let same : ◌≡◌ {A = Numbers × Place} (N, p) x = ok_is _ _ e in
-    ([], tt, refl, sym (ap (λ (y : Numbers × Place). y.0) same), ap (λ (y : Numbers × Place). y.1.segments) same)
+numbers_take limit zero N p x le e = grind arith
 numbers_take limit (suc count) N p x le e =
     let a = bind_ok (number_at limit (N, p)) (repeat (number_at limit) count) x e in
     let one = number_at_takes limit N p a.0 le a.1 in
@@ -121,6 +109,4 @@ pub numbers_again : (limit line : ℕ) (es : List (ℕ × List ℕ)) (next : Lis
     (with_all N es, record { line = end; segments = next ∷ segments }))
 numbers_again limit line [] next segments N le h = (line, refl)
 numbers_again limit line (e ∷ []) next segments N le h = (line + 1, rw (number_at_again limit line e.0 e.1 next segments N le h.0) refl)
-numbers_again limit line (e ∷ f ∷ es) next segments N le h =
-    let more = numbers_again limit (line + 1) (f ∷ es) next segments (insert N e.0 e.1) le h.1 in
-    (more.0, rw (number_at_again limit line e.0 e.1 (number_line f.0 f.1) (number_lines es ++ next ∷ segments) N le h.0) more.1)
+numbers_again limit line (e ∷ f ∷ es) next segments N le h = grind (arith, numbers_again limit (line + 1) (f ∷ es) next segments (insert N e.0 e.1) le h.1, number_at_again)

@@ -1,10 +1,10 @@
 -- What a spool permits of a pairing is what it explains of the streams.
 use Rattle.std.proofs.Common.{◌≡◌, ℕ, ◌+◌, ◌<◌, List, [], ◌∷◌, ◌++◌, length, map, refl, sym, ap, subst, ◌∙◌, arith, length-append, append_assoc, ◌≤◌, inl, inr}
 use Rattle.std.proofs.lemmas.{Bool.{cases_lt}, List.{length-map}}
-use Rattle.nntp_wire.specs.{Answer.{Asked, Response}, Session.{prompts_of, ClientStream}}
-use Rattle.nntp_pair.specs.{declared.class.PairClass.{PairClass}, Pairing.{Paired, Unpaired, IsNext, AreNext, Ends, bad, responses_of, asked_at, places_of}}
-use Rattle.nntp_pair.{specs.Pairing.{streams}, proofs.{NextLemmas.{next-shorter, one-next, next-no-end}, PairingLemmas.{AreNext-push}}}
-use Rattle.nntp_pair.proofs.SpelledLemmas.{places-prompts, pairs-spelled, spelled-pairs}
+use Rattle.nntp_wire.specs.Session.{prompts_of, ClientStream}
+use Rattle.nntp_pair.specs.{declared.class.PairClass.{PairClass}, Pairing.{Paired, Unpaired, IsNext, AreNext, Ends, bad, responses_of, asked_at, streams}}
+use Rattle.nntp_pair.proofs.{NextLemmas.{next-shorter, one-next, next-no-end}, PairingLemmas.{AreNext-push}, SpelledLemmas.{places-prompts, pairs-spelled}}
+use Rattle.nntp_pair.proofs.SpelledLemmas.{spelled-pairs}
 use Rattle.nntp_article.specs.Session.{Spool.{Spool, IsSpool}, Machine.{State, start, MayAnswer, Run, after}, Explains.{Explains, ExplainsUpTo}}
 use Rattle.nntp_article.{specs.declared.session.profile.Profile.{Profile}, proofs.SessionLemmas.ClosingAnswers.{run-stays-open}}
 use Rattle.nntp_spool.specs.{Inner.Sessions.{state_after, MayAnswerAll}, Sessions.{RefusesAt}}
@@ -17,8 +17,7 @@ further [] others a b c n m le = (others, refl, subst (λ (u : Unpaired). AreNex
 further (x ∷ pairs) [] a b c n m le = absurd (omega arith)
 further (x ∷ pairs) (y ∷ others) a b c (d, n, more) (f, m, rest) le =
     let one = one-next a d f x y n m in
-    let tail = further pairs others d b c more (subst (λ (u : Unpaired). AreNext u others c) (sym one.1) rest) (omega arith) in
-    (tail.0, ap (λ (z : Paired). z ∷ others) (sym one.0) ∙ ap (λ (zs : List Paired). x ∷ zs) tail.1, tail.2)
+    grind (arith, further pairs others d b c more)
 
 -- ---- runs
 
@@ -32,9 +31,7 @@ pairs-run profile S s (x ∷ pairs) a b (d, n, more) may =
 run-pairs : (profile : Profile) (S : Spool) (s : State) (pairs : List Paired) (a b : Unpaired) → AreNext a pairs b
     → Run profile S s (map asked_at a.places) (responses_of pairs) → MayAnswerAll profile S s pairs
 run-pairs profile S s [] a b n run = tt
-run-pairs profile S s (x ∷ pairs) a b (d, n, more) run =
-    let r = subst (λ places. Run profile S s (map asked_at places) (x.response ∷ responses_of pairs)) n.place run in
-    (r.1.may, run-pairs profile S (after S s (asked_at x.place) x.response) pairs d b more (subst (λ (t : State). Run profile S t (map asked_at d.places) (responses_of pairs)) r.1.leads r.2))
+run-pairs profile S s (x ∷ pairs) a b (d, n, more) run = grind (arith, run-pairs profile S (after S s (asked_at x.place) x.response) pairs d b more)
 
 last-may : (profile : Profile) (S : Spool) (s : State) (pairs more : List Paired) (x : Paired)
     → MayAnswerAll profile S s (pairs ++ x ∷ more) → MayAnswer profile S (state_after S s pairs) (asked_at x.place) x.response
@@ -61,33 +58,14 @@ module _ (profile : Profile) (S : Spool) (is : IsSpool profile.limit S) (client 
   -- pairs that are permitted are explained
   pub permitted-explained : (pairs : List Paired) (left : Unpaired) → AreNext (streams client server) pairs left
       → MayAnswerAll profile S start pairs → ExplainsUpTo profile S client server (length pairs) left.server
-  permitted-explained pairs left n may =
-      let spelled = (pairs-spelled client server pairs left n).0 in
-      record {
-        is_spool = is;
-        answers = responses_of pairs;
-        octets = spelled.0;
-        count = length-map pairs (λ pair. pair.response);
-        run = subst (λ (ps : List Asked). Run profile S start ps (responses_of pairs)) (places-prompts client) (pairs-run profile S start pairs (streams client server) left n may);
-        spelled = spelled.1;
-        whole = spelled.2;
-      }
+  permitted-explained pairs left n may = grind (arith, pairs-spelled, length-map, places-prompts, pairs-run)
 
   -- and what is explained is permitted of as many pairs
   explained-pairs : (k : ℕ) (rest : List ℕ) → ExplainsUpTo profile S client server k rest
       → (pairs : List Paired) × (left : Unpaired) × AreNext (streams client server) pairs left × MayAnswerAll profile S start pairs × (length pairs ≡ k) × (left.server ≡ rest)
   explained-pairs k rest e =
       let found = spelled-pairs client server e.answers rest (e.octets, e.spelled, e.whole) (run-stays-open profile S start (prompts_of client) e.answers e.run) in
-      let run = subst (λ (rs : List Response). Run profile S start (map asked_at (places_of client)) rs) (sym found.3)
-      (subst (λ (ps : List Asked). Run profile S start ps e.answers) (sym (places-prompts client)) e.run) in (
-        found.0,
-        found.1,
-        found.2,
-        run-pairs profile S start found.0 (streams client server) found.1 found.2 run,
-        sym
-            (length-map found.0 (λ pair. pair.response)) ∙ ap length found.3 ∙ e.count,
-        found.4,
-      )
+      grind (arith, places-prompts, run-pairs, length-map)
 
   shorter : (left behind : Unpaired) (x : Paired) → IsNext left x behind → left.server ≡ [] → ⊥
   shorter left behind x is_next none = let lt = next-shorter left behind x is_next in let zero : length left.server ≡ 0 = ap length none in omega arith
@@ -138,8 +116,7 @@ module _ (profile : Profile) (S : Spool) (is : IsSpool profile.limit S) (client 
       one_more pairs (y ∷ more) b c first (d, is_next, on) may is count lt =
           let whole = first-may profile S start (pairs ++ y ∷ []) more (subst (MayAnswerAll profile S start) (sym (append_assoc pairs (y ∷ []) more)) may) in
           let explained = permitted-explained (pairs ++ y ∷ []) d (AreNext-push pairs (streams client server) b d y first is_next) whole in
-          let counted : length (pairs ++ y ∷ []) ≡ k + 1 = length-append pairs (y ∷ []) ∙ ap (λ (i : ℕ). i + 1) is in
-          never (d.server, subst (λ (i : ℕ). ExplainsUpTo profile S client server i d.server) counted explained)
+          grind (arith, length-append)
 
       none_left : (more : List Paired) (b c : Unpaired) → AreNext b more c → b.server ≡ [] → (c.server ≡ [] → ⊥) → ⊥
       none_left [] b c same none some = some (sym (ap (λ (u : Unpaired). u.server) same) ∙ none)

@@ -1,5 +1,5 @@
 -- The least number of what a `BTreeMap` shows, from what std says of its first entry and of a range.
-use Rattle.std.proofs.Common.{◌≡◌, ℕ, ◌≤◌, Option, None, Some, MatchOption, is_some, option_map, List, [], ◌∷◌, ◌++◌, sym, ap, subst, ◌∙◌, arith}
+use Rattle.std.proofs.Common.{◌≡◌, ℕ, ◌≤◌, Option, None, Some, MatchOption, is_some, option_map, List, [], ◌∷◌, ◌++◌, sym, ap, ◌∙◌, arith}
 use Rattle.std.{proofs.lemmas.Bool.Decides.{nat_tests}, specs.{Ordering.{nat_cmp, is_eq}, Cmp.{nat_cmp_total}, Map.{lookup}, BTreeMap.{BTreeMap, get}}}
 use Rattle.std.specs.{BTreeMap.{IsLowerBound, IsUpperBound, Range.{IsRangeOf}}, declared.ops.Bound.TheVariants.{Excluded, Unbounded}}
 use Rattle.nntp_article.specs.{Session.Spool.{Numbers, IsNumber, IsNextAbove, IsNextBelow, NoneAbove, NoneBelow}, Inner.Spool.{IsFirst}}
@@ -32,15 +32,7 @@ module _ {V : Type 0} (value : V → List ℕ) where
 
   pub next_above_from_range : (m : BTreeMap ℕ V) (n k : ℕ) (v : V) (r rest : List (ℕ × V)) → IsRangeOf nat_cmp (Excluded n) Unbounded m r → r ≡ (k, v) ∷ rest
       → IsNextAbove (as_numbers m) n k × (map.get (as_numbers m) k ≡ Some (value v))
-  next_above_from_range m n k v r rest is e =
-      let at : IsRangeOf nat_cmp (Excluded n) Unbounded m ((k, v) ∷ rest) = subst (IsRangeOf nat_cmp (Excluded n) Unbounded m) e is in (
-        (
-          grind (arith, nat_tests, at.1.0.0),
-          is_number-shown m k ∙ ap is_some at.1.1,
-          λ q h s. let below = at.2 q (grind (arith, nat_tests), tt) (sym (is_number-shown m q) ∙ s) in grind (arith, nat_tests),
-        ),
-        value-shown m k v at.1.1,
-      )
+  next_above_from_range m n k v r rest is e = grind (arith, nat_tests, is_number-shown, value-shown)
 
   pub none_above_from_range : (m : BTreeMap ℕ V) (n : ℕ) (r : List (ℕ × V)) → IsRangeOf nat_cmp (Excluded n) Unbounded m r → r ≡ [] → NoneAbove (as_numbers m) n
   none_above_from_range m n r is e q h = none-shown m q (is.5 e q (grind (arith, nat_tests), tt))

@@ -1,8 +1,7 @@
 -- The segments of octets between the octets that are a given one.
-use Rattle.std.proofs.Common.{◌≡◌, ℕ, zero, suc, ◌+◌, true, false, cond, eqb, List, [], ◌∷◌, Option, None, Some, Ok, length, take, drop, add-one, inl, inr}
-use Rattle.std.proofs.{Common.{refl, sym, ap, ◌∙◌, arith}, lemmas.{Bool.{cases_lt, le-ltb, lt-ltb, Decides.{nat_tests}}, List.Splits.{slice_split_first}}}
-use Rattle.std.{proofs.lemmas.List.{Splits.{slice_split_none}, Sums.{fails_before_first}}, specs.{Prelude.{position}, List.{slice_split, onto_first}}}
-use Rattle.std.specs.List.{position_or_len}
+use Rattle.std.proofs.Common.{◌≡◌, ℕ, zero, suc, ◌+◌, true, false, cond, eqb, List, [], ◌∷◌, Option, None, Some, Ok, length, take, drop, add-one, refl, sym, ap}
+use Rattle.std.proofs.{Common.{◌∙◌, arith}, lemmas.{Bool.{cases_lt, le-ltb, lt-ltb}, List.Splits.{slice_split_first, slice_split_none}}}
+use Rattle.std.{proofs.lemmas.List.Sums.{fails_before_first}, specs.{Prelude.{position}, List.{slice_split, onto_first}}}
 use Rattle.memchr.specs.Find.{IsFirstByte, is_byte}
 use Rattle.nntp_wire.proofs.ArgumentLemmas.{position-found}
 use Rattle.nntp_spool.specs.Reading.{next_line, segments_of, fault, is_end}
@@ -33,30 +32,14 @@ some_is_none m e = cc
 
 -- what a search for an octet found is its first place
 pub first_place : (c : ℕ) (bytes : List ℕ) (r : Option ℕ) → IsFirstByte (is_byte c) bytes r → position (λ x. eqb x c) bytes ≡ r
-first_place c bytes None none =
-    let len : position_or_len (λ x. eqb x c) bytes ≡ length bytes = position-found c bytes None none in
-    ap (λ b. cond b (Some (position_or_len (λ x. eqb x c) bytes)) None) (le-ltb _ _ (omega arith))
-first_place c bytes (Some n) found =
-    let at : position_or_len (λ x. eqb x c) bytes ≡ n = position-found c bytes (Some n) found in
-    let high = found.0.high in
-    ap (λ b. cond b (Some (position_or_len (λ x. eqb x c) bytes)) None) (lt-ltb _ _ (omega arith)) ∙ ap some at
+first_place c bytes r none = grind (arith, position-found, le-ltb, lt-ltb)
 
 -- the first octet c is at this place
 pub segments_found : (c : ℕ) (bytes : List ℕ) (at : ℕ) → position (λ x. eqb x c) bytes ≡ Some at → segments_at c bytes ≡ take at bytes ∷ segments_at c (drop (at + 1) bytes)
-segments_found c bytes at e =
-    elim (cases_lt (position_or_len (λ x. eqb x c) bytes) (length bytes)) [
-      | inl lt ↦
-          let found : at ≡ position_or_len (λ x. eqb x c) bytes = some_is _ _ (sym e ∙ ap (λ b. cond b (Some (position_or_len (λ x. eqb x c) bytes)) None) (lt-ltb _ _ lt)) in
-          rw found (slice_split_first (λ x. eqb x c) bytes 0 lt)
-      | inr le ↦ absurd (some_is_none _ (sym e ∙ ap (λ b. cond b (Some (position_or_len (λ x. eqb x c) bytes)) None) (le-ltb _ _ le)))
-    ]
+segments_found c bytes at e = grind (arith, cases_lt, some_is, lt-ltb, slice_split_first, some_is_none, le-ltb)
 
 pub segments_none : (c : ℕ) (bytes : List ℕ) → position (λ x. eqb x c) bytes ≡ None → segments_at c bytes ≡ bytes ∷ []
-segments_none c bytes e =
-    elim (cases_lt (position_or_len (λ x. eqb x c) bytes) (length bytes)) [
-      | inl lt ↦ absurd (some_is_none _ (sym (ap (λ b. cond b (Some (position_or_len (λ x. eqb x c) bytes)) None) (lt-ltb _ _ lt)) ∙ e))
-      | inr le ↦ slice_split_none (λ x. eqb x c) bytes (λ k d lt. fails_before_first (λ x. eqb x c) bytes k d (omega arith))
-    ]
+segments_none c bytes e = grind (arith, cases_lt, some_is_none, lt-ltb, slice_split_none, fails_before_first)
 
 -- the next line of a text
 pub line_found : (line : ℕ) (bytes : List ℕ) (at : ℕ) → position (λ x. eqb x 10) bytes ≡ Some at
@@ -81,15 +64,10 @@ pub is_end-segments : (bytes : List ℕ) → is_end (segments_of bytes) ≡ is_e
 is_end-segments [] = refl
 is_end-segments (x ∷ bytes) =
     let first = first_segment 10 bytes in
-    let more : segments_of bytes ≡ first.0 ∷ first.1 = first.2 in
-    elim (eqb x 10) as (λ b. is_end (cond b ([] ∷ segments_of bytes) (onto_first x (segments_of bytes))) ≡ false) [
-      | true ↦ rw more refl
-      | false ↦ rw more refl
-    ]
+    grind arith
 
 pub length_is_empty : (bytes : List ℕ) → eqb (length bytes) 0 ≡ is_empty bytes
-length_is_empty [] = refl
-length_is_empty (x ∷ bytes) = grind (arith, nat_tests)
+length_is_empty bytes = grind arith
 
 pub ended : (bytes : List ℕ) → eqb (length bytes) 0 ≡ is_end (segments_of bytes)
 ended bytes = length_is_empty bytes ∙ sym (is_end-segments bytes)

@@ -1,9 +1,9 @@
 -- The text of a whole spool is read as this spool.
-use Rattle.std.proofs.Common.{◌≡◌, ℕ, ◌+◌, ◌^◌, ◌<◌, ◌≤◌, Bool, true, false, eqb, List, [], ◌∷◌, ◌++◌, Ok, length, map, refl, sym, ap, ◌∙◌, append_assoc, arith}
+use Rattle.std.proofs.Common.{◌≡◌, ℕ, ◌+◌, ◌^◌, ◌<◌, ◌≤◌, Bool, true, List, [], ◌∷◌, ◌++◌, Ok, length, map, refl, sym, ap, ◌∙◌, append_assoc, arith}
 use Rattle.std.proofs.{Common.{length-append}, lemmas.{Bool.{and_from, and_parts, Decides.{nat_tests}}, List.{length-map, Folds.{list_all-append}}}}
-use Rattle.std.specs.{Prelude.{codes, ◌||◌, not, nat_lt}, Fmt.{decimal}, Ordering.{nat_cmp}, Cmp.{nat_cmp_total, Lexicographic.{slice_cmp, nat_list_cmp_total}}}
-use Rattle.std.specs.{List.{list_all, flat_map, AllByRecursion}, FinMap.{entries, len, nat_cmp-IsAntisymmetric}}
-use Rattle.nntp_wire.specs.{Limit.{greatest}, Octets.{is_clean, is_line_breaking}, declared.limit.Limit.{Limit, TheVariants.{Narrow, Wide}}}
+use Rattle.std.specs.{Prelude.{codes}, Fmt.{decimal}, Ordering.{nat_cmp}, Cmp.{nat_cmp_total, Lexicographic.{slice_cmp, nat_list_cmp_total}}, List.{list_all}}
+use Rattle.std.specs.{List.{flat_map, AllByRecursion}, FinMap.{entries, len, nat_cmp-IsAntisymmetric}}
+use Rattle.nntp_wire.specs.{Limit.{greatest}, declared.limit.Limit.{Limit}}
 use Rattle.nntp_article.specs.{Article.Parts.{Line, Id}, Session.{Spool.{Name, Spool, Numbers, Text, is_line}, Machine.{is_article_number}}}
 use Rattle.nntp_spool.specs.{Limited.{LimitedSpool}, Inner.{Text.{HasLineCounts}, Content.{IsNamed, IsArticle, IsContent}}, Text.{number_line, group_line}}
 use Rattle.nntp_spool.specs.Text.{article_line, barred, group_lines, article_lines, limit_lines, content_lines, spool_lines, spool_text, with_line_ends}
@@ -40,28 +40,18 @@ num-small limit n le h = grind (arith, nat_tests, and_parts)
 clean-group : (limit : ℕ) (name : Name) (N : Numbers) → limit < 2 ^ 64 → len N < 2 ^ 64 → IsNamed limit name N → clean (group_lines (name, N)) ≡ true
 clean-group limit name N le small named =
     let first = spaced-lacks (codes "group") (name ++ 32 ∷ decimal (len N)) refl
-    (spaced-lacks name (decimal (len N)) (name-lacks 10 name (omega arith) refl named.is_name)
-    (decimal-lacks (len N) small)) in
+    (grind (arith, spaced-lacks, name-lacks, decimal-lacks)) in
     let each = got_all nat_cmp_total nat_cmp-IsAntisymmetric (λ n id. lacks 10 (number_line n id) ≡ true) N (λ n id g.
     let is = named.numbers.each n id g in spaced-lacks (decimal n) id (decimal-lacks n (num-small limit n le is.0)) (id-lacks 10 id (omega arith) is.1)) in
     and_from (lacks 10 (group_line name (len N))) (clean (map (λ e. number_line e.0 e.1) (entries N))) first (clean-map (λ e. number_line e.0 e.1) (entries N) each)
 
 line-lacks : (l : Line) → is_line l ≡ true → lacks 10 l ≡ true
-line-lacks l h = let both = and_parts (is_clean l) (list_all (λ c. nat_lt c 256) l) h in list_all_weaken
-    (λ c. not (is_line_breaking c)) (λ c. not (eqb c 10))
-    (λ c passes. no_line_feed c (eqb c 0) (eqb c 13) (eqb c 10) passes) l both.0
-  where
-    no_line_feed : (c : ℕ) (a b d : Bool) → not (a || b || d) ≡ true → not d ≡ true
-    no_line_feed c a b false h = refl
-    no_line_feed c true b true h = h
-    no_line_feed c false true true h = h
-    no_line_feed c false false true h = h
+line-lacks l h = grind (arith, and_parts, list_all_weaken)
 
 clean-article : (id : Id) (t : Text) → length t.head < 2 ^ 64 → length t.body < 2 ^ 64 → IsArticle id t → clean (article_lines (id, t)) ≡ true
 clean-article id t h b is =
     let first = spaced-lacks (codes "article") (id ++ 32 ∷ (decimal (length t.head) ++ 32 ∷ decimal (length t.body))) refl
-    (spaced-lacks id (decimal (length t.head) ++ 32 ∷ decimal (length t.body)) (id-lacks 10 id (omega arith) is.is_id)
-    (spaced-lacks (decimal (length t.head)) (decimal (length t.body)) (decimal-lacks (length t.head) h) (decimal-lacks (length t.body) b))) in
+    (grind (arith, spaced-lacks, id-lacks, decimal-lacks)) in
     and_from (lacks 10 (article_line id (length t.head) (length t.body))) (clean (barred t.head ++ barred t.body)) first
     (clean-append (barred t.head) (barred t.body) (barred-clean t.head is.head_lines) (barred-clean t.body is.body_lines))
   where
@@ -78,13 +68,10 @@ clean-content limit F le content sizes =
     let articles = clean-flat article_lines (entries F.articles)
     (got_all nat_list_cmp_total octet_keys (λ id t. clean (article_lines (id, t)) ≡ true) F.articles
     (λ id t g. let s = sizes id t g in clean-article id t s.0 s.1 (content.articles id t g))) in
-    clean-append (flat_map group_lines (entries F.groups))
-    (flat_map article_lines (entries F.articles) ++ codes "end" ∷ []) groups
-    (clean-append (flat_map article_lines (entries F.articles)) (codes "end" ∷ []) articles refl)
+    grind (arith, clean-append)
 
 clean-limit : (limit : Limit) → clean (limit_lines limit) ≡ true
-clean-limit Narrow = refl
-clean-limit Wide = refl
+clean-limit limit = grind arith
 
 clean-text : (L : LimitedSpool) → IsContent (greatest L.limit) L.spool → HasLineCounts L.spool → clean (spool_lines L) ≡ true
 clean-text L content sizes = clean-append (limit_lines L.limit) (content_lines L.spool) (clean-limit L.limit) (clean-content (greatest L.limit) L.spool (greatest_small L.limit) content sizes)
@@ -131,10 +118,7 @@ counted L lt =
     λ id t g.
     let fits = all_got nat_list_cmp_total octet_keys (λ id t. length (article_lines (id, t)) ≤ length (spool_text L)) F.articles
     (within article_lines (entries F.articles) (length (spool_text L)) (omega arith)) id t g in
-    let both = length-append (barred t.head) (barred t.body) in
-    let heads = length-map t.head (λ line. 124 ∷ line) in
-    let bodies = length-map t.body (λ line. 124 ∷ line) in
-    (omega arith, omega arith)
+    grind (arith, length-append, length-map)
 
 -- ---- the whole
 

@@ -1,9 +1,9 @@
 -- A session, exchange by exchange.
-use Rattle.std.proofs.Common.{◌≡◌, ℕ, ◌+◌, List, [], ◌∷◌, ◌++◌, length, refl, sym, ap, subst, ◌∙◌, length-append, Result, IfOk}
+use Rattle.std.proofs.Common.{arith, ◌≡◌, ℕ, ◌+◌, List, [], ◌∷◌, ◌++◌, length, refl, sym, ap, subst, ◌∙◌, length-append, Result, IfOk}
 use Rattle.nntp_pair.specs.{Pairing.{Paired, Unpaired, IsNext, AreNext, Ends, bad, asked_at, streams}, declared.class.PairClass.{PairClass}}
 use Rattle.nntp_pair.proofs.PairingLemmas.{AreNext-push, index-counts}
-use Rattle.nntp_article.specs.Session.{Spool.{Spool, IsSpool}, Explains.{Explains, ExplainsUpTo}, Machine.{State, Visible, start, MayAnswer, after}}
-use Rattle.nntp_article.specs.{Session.Machine.{visible_after}, declared.session.profile.Profile.{Profile}}
+use Rattle.nntp_article.specs.Session.{Spool.{Spool, IsSpool}, Explains.{Explains}, Machine.{State, Visible, start, MayAnswer, after, visible_after}}
+use Rattle.nntp_article.specs.declared.session.profile.Profile.{Profile}
 use Rattle.nntp_said.specs.{Asks.{position_after}, Inner.Asks.{state_at}, declared.position.Position.{Position, TheVariants.{Nowhere}}}
 use Rattle.nntp_said.proofs.CurrentArticle.{after-state_at}
 use Rattle.nntp_spool.specs.{declared.verification.verified.Verified.{Verified}, Verifying.{IsVerified}, Inner.Sessions.{state_after, MayAnswerAll}}
@@ -13,9 +13,7 @@ use Rattle.nntp_wire.specs.Session.{ClientStream}
 -- a spool and a profile that are the same leave what is verified as it is
 pub verified_by_same : {E : Type 0} (profile other : Profile) (S T : Spool) (client : ClientStream) (server : List ℕ) (r : Result Verified E) → profile ≡ other
     → S ≡ T → IfOk r (λ verified. IsVerified profile S client server verified) → IfOk r (λ verified. IsVerified other T client server verified)
-verified_by_same profile other S T client server r same equal is =
-    subst (λ (U : Spool). IfOk r (λ verified. IsVerified other U client server verified)) equal
-    (subst (λ (p : Profile). IfOk r (λ verified. IsVerified p S client server verified)) same is)
+verified_by_same profile other S T client server r same equal is = grind arith
 
 pub spool_by_same : (profile other : Profile) (S T : Spool) → profile ≡ other → S ≡ T → IsSpool other.limit T → IsSpool profile.limit S
 spool_by_same profile other S T same equal is = subst (λ (U : Spool). IsSpool profile.limit U) (sym equal) (subst (λ (p : Profile). IsSpool p.limit T) (sym same) is)
@@ -49,9 +47,7 @@ pub one_more_answer : (profile : Profile) (S : Spool) (client : ClientStream) (s
     (x : Paired) → Permitted profile S client server left (state_at S v at) count → IsNext left x behind
     → MayAnswer profile S (state_at S v at) (asked_at x.place) x.response → w ≡ visible_after v (asked_at x.place) x.response
     → moved ≡ position_after at (asked_at x.place) x.response → Permitted profile S client server behind (state_at S w moved) (x.index + 1)
-one_more_answer profile S client server left behind v w at moved count x p is may shown stands =
-    one_more_pair profile S client server left behind (state_at S v at) (state_at S w moved) count x p is may
-    ((λ i. state_at S (shown i) (stands i)) ∙ sym (after-state_at profile.marks S v at (asked_at x.place) x.response may.agrees))
+one_more_answer profile S client server left behind v w at moved count x p is may shown stands = grind (arith, one_more_pair, after-state_at)
 
 module _ (profile : Profile) (S : Spool) (is : IsSpool profile.limit S) (client : ClientStream) (server : List ℕ) (left : Unpaired) (s : State) (count : ℕ)
     (p : Permitted profile S client server left s count) where
@@ -65,6 +61,4 @@ module _ (profile : Profile) (S : Spool) (is : IsSpool profile.limit S) (client 
   answers_nothing class ends = subst (RefusesAt profile S client server) (sym p.counted) (bad-refused profile S is client server p.pairs left class p.next p.may ends)
 
   pub all_permitted : left.server ≡ [] → Explains profile S client server count
-  all_permitted none =
-      let upto = permitted-explained profile S is client server p.pairs left p.next p.may in
-      subst (λ (n : ℕ). ExplainsUpTo profile S client server n []) (sym p.counted) (subst (λ (rest : List ℕ). ExplainsUpTo profile S client server (length p.pairs) rest) none upto)
+  all_permitted none = grind (arith, permitted-explained)

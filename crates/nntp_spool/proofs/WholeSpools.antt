@@ -1,20 +1,19 @@
 -- A spool is groups and articles that a spool may hold, each id with its article.
-use Rattle.std.proofs.Common.{◌≡◌, ℕ, ◌≤◌, ◌<◌, ◌^◌, Ok, Err, Bool, true, IsSome, List, [], ◌∷◌, ◌++◌, Option, None, Some, is_some, length, refl, sym, ap}
-use Rattle.std.proofs.{Common.{subst, ◌∙◌, arith}, lemmas.{Bool.{true≢false, and_from, and_parts, Decides.{nat_tests}}, List.Sums.{AllPass-from_list_all}}}
-use Rattle.std.{proofs.lemmas.List.{Sums.{list_all-from_AllPass}, Folds.{list_all-append}}, specs.{Prelude.{unwrap_or}, List.{list_all, AllByRecursion}}}
-use Rattle.std.specs.{Option.{option_map_or}, Ordering.{nat_cmp}, Cmp.{nat_cmp_total, Lexicographic.{nat_list_cmp_total, bytes_decides}}, FinMap.{get, empty}}
-use Rattle.std.specs.FinMap.{entries, get-empty, nat_cmp-IsAntisymmetric}
-use Rattle.nntp_wire.{proofs.DecidedLemmas.{group_name-iff, message_id-iff}, specs.{Limit.{greatest}, Octets.{is_clean}}}
-use Rattle.nntp_spool.proofs.{LineFields.{list_all_weaken}, MapEntries.{all_got, got_all}, NumbersInOrder.{no_numbers, all_passed}, NumbersRead.{ok_is, done}}
+use Rattle.std.proofs.Common.{◌≡◌, ℕ, ◌≤◌, ◌<◌, ◌^◌, Ok, Err, Bool, true, IsSome, List, [], ◌∷◌, ◌++◌, Option, None, Some, is_some, length, refl, sym, ap, ◌∙◌}
+use Rattle.std.proofs.{Common.{arith}, lemmas.{Bool.{and_from, and_parts, Decides.{nat_tests}}, List.Sums.{AllPass-from_list_all, list_all-from_AllPass}}}
+use Rattle.std.{proofs.lemmas.List.Folds.{list_all-append}, specs.{Prelude.{unwrap_or}, List.{list_all, AllByRecursion}, Option.{option_map_or}}}
+use Rattle.std.specs.{Ordering.{nat_cmp}, Cmp.{nat_cmp_total, Lexicographic.{nat_list_cmp_total, bytes_decides}}, FinMap.{get, empty, entries, get-empty}}
+use Rattle.std.specs.FinMap.{nat_cmp-IsAntisymmetric}
+use Rattle.nntp_wire.{proofs.DecidedLemmas.{group_name-iff, message_id-iff}, specs.Limit.{greatest}}
+use Rattle.nntp_spool.proofs.{LineFields.{list_all_weaken}, MapEntries.{all_got, got_all}, NumbersInOrder.{no_numbers, all_passed}, NumbersRead.{ok_is}}
 use Rattle.nntp_spool.{proofs.{ShownMaps.{octet_keys}, TextTaken.{text_takes}, TextReadAgain.{text_again, counted}}, specs.Content.{all_known}}
 use Rattle.nntp_spool.specs.{Content.{ids_have_articles}, Inner.{Content.{IdsHaveArticles, AreNumbers, IsNamed, IsContent}, Text.{IsWritten}}}
 use Rattle.nntp_spool.specs.{Reading.{spool_at}, declared.text.read_fault.ReadFault.{ReadFault}, Limited.{LimitedSpool, IsWithinLimit}, Text.{spool_text}}
-use Rattle.nntp_article.specs.{Article.Parts.{Line, Id, is_head, is_clean_head, said_id}, Session.Machine.{is_article_number, says_own_id, is_same}}
-use Rattle.nntp_article.specs.Session.Spool.{Name, Spool, Numbers, numbers, IsSpool, is_line}
+use Rattle.nntp_article.specs.{Article.Parts.{Line, Id, is_clean_head, said_id}, Session.{Machine.{is_article_number, says_own_id, is_same}, Spool.{Name}}}
+use Rattle.nntp_article.specs.Session.Spool.{Spool, Numbers, numbers, IsSpool, is_line}
 
 value_of_some : {A : Type 0} (o : Option A) → IsSome o → (x : A) × (o ≡ Some x)
-value_of_some None h = absurd (true≢false (sym h))
-value_of_some (Some x) h = (x, refl)
+value_of_some o h = grind arith
 
 pub passed_all : {X : Type 0} (p : X → Bool) (xs : List X) → AllByRecursion (λ x. p x ≡ true) xs → list_all p xs ≡ true
 passed_all p [] h = refl
@@ -63,11 +62,9 @@ module _ (limit : ℕ) (S : Spool) where
     ids = λ id is. let t = value_of_some (get S.articles id) is in (message_id-iff id).0 (content.articles id t.0 t.1).is_id;
     heads = λ id t g.
         let a = content.articles id t g in (
-          (and_parts (list_all is_clean t.head) (is_head t.head)
-              (and_parts (is_clean_head t.head) (says_own_id id t.head) a.head).0).1,
+          grind (arith, and_parts),
           AllPass-from_list_all is_line
-              (t.head ++ t.body) (list_all-append is_line t.head t.body
-              ∙ and_from (list_all is_line t.head) (list_all is_line t.body) a.head_lines a.body_lines),
+              (t.head ++ t.body) (grind (arith, list_all-append, and_from)),
         );
     own_ids = λ id said t g says. said_own id said t.head (and_parts (is_clean_head t.head) (says_own_id id t.head) (content.articles id t g).head).1 says;
   }
@@ -76,23 +73,14 @@ module _ (limit : ℕ) (S : Spool) where
   content_of_spool s = record {
     groups = λ name N g.
         let same : numbers S name ≡ N = ap (λ o. unwrap_or o empty) g in
-        record {
-          is_name = (group_name-iff name).1 (s.names name (ap is_some g));
-          numbers = subst (AreNumbers limit) same (record {
-            each = λ n id at.
-                let between = s.numbers_in_limit name n (ap is_some at) in
-                (num_is limit n between.0 between.1, (message_id-iff id).1 (s.ids id (s.ids_have_articles name n id at)));
-            one_to_one = s.one_to_one name;
-          });
-        };
+        grind (arith, group_name-iff, num_is, message_id-iff);
     articles = λ id t g.
         let h = s.heads id t g in
         let lines = and_parts (list_all is_line t.head) (list_all is_line t.body) (sym (list_all-append is_line t.head t.body) ∙ list_all-from_AllPass is_line (t.head ++ t.body) h.1) in
         record {
           is_id = (message_id-iff id).1 (s.ids id (ap is_some g));
           head = and_from (is_clean_head t.head) (says_own_id id t.head)
-              (and_from (list_all is_clean t.head) (is_head t.head)
-              (list_all_weaken is_line is_clean (λ l passes. (and_parts (is_clean l) _ passes).0) t.head lines.0) h.0)
+              (grind (arith, and_from, list_all_weaken, and_parts))
               (own_said id (said_id t.head) (λ said says. s.own_ids id said t g says));
           head_lines = lines.0;
           body_lines = lines.1;
@@ -123,13 +111,8 @@ same_text K L k l e = ok_is K L (sym (written_is_read K k) ∙ ap spool_at e ∙
 
 -- what was read is the spool whose text the octets are
 pub read_is_same : (octets : List ℕ) (K L : LimitedSpool) → length octets < 2 ^ 64 → spool_at octets ≡ Ok K → IsWithinLimit L → octets ≡ spool_text L → K ≡ L
-read_is_same octets K L lt e is same =
-    ok_is K L (sym e ∙ ap spool_at same ∙ memory_is_read L is (subst (λ (os : List ℕ). length os < 2 ^ 64) same lt))
+read_is_same octets K L lt e is same = grind (arith, ok_is, memory_is_read)
 
 -- octets with a fault are no text
 pub fault_is_no_text : (octets : List ℕ) (fault : ReadFault) → length octets < 2 ^ 64 → spool_at octets ≡ Err fault → (L : LimitedSpool) → IsWithinLimit L → octets ≡ spool_text L → ⊥
-fault_is_no_text octets fault lt e L is same =
-    not_both L fault (sym (memory_is_read L is (subst (λ (os : List ℕ). length os < 2 ^ 64) same lt)) ∙ ap spool_at (sym same) ∙ e)
-  where
-    not_both : (L : LimitedSpool) (fault : ReadFault) → done L ≡ Err fault → ⊥
-    not_both L fault e = cc
+fault_is_no_text octets fault lt e L is same = grind (arith, memory_is_read)

@@ -1,17 +1,13 @@
 -- What a writer took after several calls.
-use Rattle.std.proofs.Common.{◌≡◌, ℕ, ◌<◌, ◌+◌, List, [], ◌∷◌, ◌++◌, Option, None, Some, Result, Ok, Err, length, get_or, take, drop, drop-cons, add-one, subst}
+use Rattle.std.proofs.Common.{arith, ◌≡◌, ℕ, ◌<◌, ◌+◌, List, [], ◌∷◌, ◌++◌, Option, Result, Ok, Err, length, get_or, take, drop, drop-cons, add-one, subst}
 use Rattle.std.{proofs.{Common.{refl, sym, ap, ◌∙◌, append_assoc}, lemmas.List.{append-nil, take-append-drop}}, specs.Io.KnownBytes.{Appends}}
 use Rattle.nntp_spool.specs.{Writing.{Wrote}, Inner.Writing.{WritesBut}, Watched.{inner_of}, declared.watched.Watched.{Watched}}
 
 Appends-nil : (a : Option (List ℕ)) → Appends a a []
-Appends-nil None = tt
-Appends-nil (Some xs) = sym (append-nil xs)
+Appends-nil a = grind (arith, append-nil)
 
 Appends-then : (a b c : Option (List ℕ)) (x y : List ℕ) → Appends a b x → Appends b c y → Appends a c (x ++ y)
-Appends-then None b c x y h g = tt
-Appends-then (Some xs) None c x y h g = absurd h
-Appends-then (Some xs) (Some ys) None x y h g = absurd g
-Appends-then (Some xs) (Some ys) (Some zs) x y h g = g ∙ ap (λ (t : List ℕ). t ++ y) h ∙ append_assoc xs x y
+Appends-then a b c x y h g = grind (arith, append_assoc)
 
 Wrote-start : (a : Option (List ℕ)) (whole : List ℕ) → Wrote a a whole whole
 Wrote-start a whole = ([], refl, Appends-nil a)
@@ -22,18 +18,10 @@ Wrote-all a waiting whole rest e = subst (λ (t : List ℕ). Wrote a a (waiting 
 
 -- a call stopped before this rest of what waited and its octets
 pub Wrote-on : (a b c : Option (List ℕ)) (whole waiting x y rest : List ℕ) → Wrote a b whole (waiting ++ (x ++ y)) → Wrote b c (waiting ++ x) rest → Wrote a c whole (rest ++ y)
-Wrote-on a b c whole waiting x y rest h g = (
-  h.0 ++ g.0,
-  h.1 ∙ ap (λ (t : List ℕ). h.0 ++ t) (sym (append_assoc waiting x y) ∙ ap (λ (t : List ℕ). t ++ y) g.1 ∙ append_assoc g.0 rest y) ∙ sym (append_assoc h.0 g.0 (rest ++ y)),
-  Appends-then a b c h.0 g.0 h.2 g.2,
-)
+Wrote-on a b c whole waiting x y rest h g = grind (arith, append_assoc, Appends-then)
 
 pub Wrote-take : (a b c : Option (List ℕ)) (whole rest : List ℕ) (n : ℕ) → Wrote a b whole rest → Appends b c (take n rest) → Wrote a c whole (drop n rest)
-Wrote-take a b c whole rest n h g = (
-  h.0 ++ take n rest,
-  h.1 ∙ ap (λ (t : List ℕ). h.0 ++ t) (sym (take-append-drop n rest)) ∙ sym (append_assoc h.0 (take n rest) (drop n rest)),
-  Appends-then a b c h.0 (take n rest) h.2 g,
-)
+Wrote-take a b c whole rest n h g = search (arith, take-append-drop, append_assoc, Appends-then)
 
 -- one more of items whose texts stand one after the other
 module _ {X : Type 0} (T : List X → List ℕ) (f : X → List ℕ) (law : (x : X) (xs : List X) → T (x ∷ xs) ≡ f x ++ T xs) where
@@ -46,16 +34,11 @@ module _ {X : Type 0} (T : List X → List ℕ) (f : X → List ℕ) (law : (x :
   -- of the items of a slice
   pub Wrote-item : (a b c : Option (List ℕ)) (whole waiting : List ℕ) (xs : List X) (i : ℕ) (d : X) (piece rest : List ℕ) → i < length xs → piece ≡ f (get_or xs i d)
       → Wrote a b whole (waiting ++ T (drop i xs)) → Wrote b c (waiting ++ piece) rest → Wrote a c whole (rest ++ T (drop (i + 1) xs))
-  Wrote-item a b c whole waiting xs i d piece rest lt is h g =
-      Wrote-head a b c whole waiting (drop i xs) (get_or xs i d) (drop (i + 1) xs) piece rest (rw add-one (drop-cons xs i d lt)) is h g
+  Wrote-item a b c whole waiting xs i d piece rest lt is h g = search (arith, Wrote-head, add-one, drop-cons)
 
 -- a call that is to write all that is left
 pub Wrote-last : (a b c : Option (List ℕ)) (whole y rest : List ℕ) → Wrote a b whole y → Wrote b c y rest → Wrote a c whole rest
-Wrote-last a b c whole y rest h g = (
-  h.0 ++ g.0,
-  h.1 ∙ ap (λ (t : List ℕ). h.0 ++ t) g.1 ∙ sym (append_assoc h.0 g.0 rest),
-  Appends-then a b c h.0 g.0 h.2 g.2,
-)
+Wrote-last a b c whole y rest h g = grind (arith, append_assoc, Appends-then)
 
 pub Writes-last : {A E : Type 0} (r : Result A E) (a b c : Option (List ℕ)) (whole y rest : List ℕ) → Wrote a b whole y → WritesBut r b c y rest → WritesBut r a c whole rest
 Writes-last (Ok x) a b c whole y rest h g = Wrote-last a b c whole y rest h g

@@ -1,5 +1,5 @@
 -- What a writer took of lines.
-use Rattle.std.proofs.{Common.{◌≡◌, ℕ, List, [], ◌∷◌, ◌++◌, Option, subst, sym, ap}, lemmas.List.{append-nil, Concat.{flat_map-append}}}
+use Rattle.std.proofs.{Common.{arith, ◌≡◌, ℕ, List, [], ◌∷◌, ◌++◌, Option, subst, sym, ap}, lemmas.List.{append-nil, Concat.{flat_map-append}}}
 use Rattle.nntp_wire.specs.declared.limit.Limit.{Limit}
 use Rattle.nntp_article.specs.Session.Spool.{Spool}
 use Rattle.nntp_spool.specs.{Limited.{LimitedSpool}, Text.{with_line_ends, group_line, article_line, limit_lines, content_lines, spool_text}, Writing.{Wrote}}
@@ -38,8 +38,7 @@ pub Article-first : (a b : Option (List ℕ)) (waiting id : List ℕ) (m heads n
     → Wrote a b (waiting ++ with_line_ends (article_line id heads bodies ∷ more)) (rest ++ with_line_ends more)
 Article-first a b waiting id m heads n bodies more rest e f g =
     Lines-first a b waiting (article_line id heads bodies ∷ []) more rest
-    (subst (λ (k : ℕ). Wrote a b (waiting ++ with_line_ends (article_line id k bodies ∷ [])) rest) e
-    (subst (λ (k : ℕ). Wrote a b (waiting ++ with_line_ends (article_line id m k ∷ [])) rest) f g))
+    (grind arith)
 
 -- the lines of a spool's limit, where nothing waits before them
 pub Limit-first : (start a b : Option (List ℕ)) (waiting : List ℕ) (limit : Limit) (L : LimitedSpool) (S : Spool) (rest : List ℕ)
@@ -49,6 +48,4 @@ Limit-first start a b waiting limit L S rest same none e f g =
     let left = rest ++ with_line_ends (content_lines S) in
     let first = subst (λ (l : Limit). Wrote a b (waiting ++ with_line_ends (limit_lines l)) rest) e g in
     let all = Lines-first a b waiting (limit_lines L.limit) (content_lines S) rest first in
-    subst (λ (t : Option (List ℕ)). Wrote t b (spool_text L) left) same
-    (subst (λ (t : List ℕ). Wrote a b (t ++ spool_text L) left) none
-    (subst (λ (T : Spool). Wrote a b (waiting ++ with_line_ends (limit_lines L.limit ++ content_lines T)) left) f all))
+    grind arith
