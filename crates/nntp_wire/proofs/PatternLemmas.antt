@@ -115,9 +115,6 @@ pub record Search (whole : Type 0) (items left after from : List ℕ) : Type 0 w
   pub from_are : IsUtf8Of fs from
   pub left_is : IsLeft whole (map item_of is) ts (map item_of behind) fs
 
-pub search-start : (ps ts pattern text : List ℕ) → IsUtf8Of ps pattern → IsUtf8Of ts text → Search (Matches (map item_of ps) ts) pattern text pattern []
-search-start ps ts pattern text p q = grind arith
-
 pub search-star : (whole : Type 0) (items left after from : List ℕ) (rest : Bor (List ℕ))
     → ((ps ts : List ℕ) → IsUtf8Of ps items → IsUtf8Of ts left → Takes (Star rest) ps ts) → Search whole items left after from → Search whole rest.now left rest.now left
 search-star whole items left after from rest takes s =

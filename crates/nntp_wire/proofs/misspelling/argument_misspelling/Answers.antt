@@ -19,9 +19,4 @@ returns-then-not-is_argument c =
     sym wrong ∙ c.loop-due.invariant.1
 
 pub loop-due-preserved : goal.loop-due-preserved
-loop-due-preserved c =
-    let due = slice_index_or c.args.dues.now c.loop-due.due-index Number in
-    let front = argument-first c.loop-due.rest.now c.in-Some.word.now c.in-Some.others.now c.in-Some.ensures in
-    let right = argument-right c.loop-due.place c.loop-due.due-index c.args.dues.now Number due c.loop-due-test.true refl (arguments_of c.loop-due.rest.now)
-    (arguments_of c.in-Some.others.now) c.in-Some.word.now front (sym c.is_argument.ensures ∙ c.if-not-is_argument.false) in
-    (omega (arith, c.loop-due.invariant.0), sym right ∙ c.loop-due.invariant.1)
+loop-due-preserved c = grind (arith, argument-first, argument-right)

@@ -1,5 +1,5 @@
-use Rattle.std.proofs.{Common.{◌≡◌, sym, ◌∙◌, inl, inr, ◌⊎◌, map}, lemmas.Bool.{false≢true}}
-use Rattle.nntp_wire.{specs.Wildmat.{item_of}, proofs.PatternLemmas.{empty-iff, utf8-cons, utf8-nil, one-nil, one-other}}
+use Rattle.std.proofs.{Common.{arith, sym, ◌∙◌, map}, lemmas.Bool.{false≢true}}
+use Rattle.nntp_wire.{specs.Wildmat.{item_of}, proofs.PatternLemmas.{empty-iff, utf8-cons, utf8-nil, one-other}}
 use Rattle.nntp_wire.proofs.pattern.first_step.Goals.{else-item-ne63-via-then-item-ne63+else-item-c, else-item-ne63-via-else-item-ne63}
 use Rattle.nntp_wire.proofs.pattern.first_step.Goals as goal
 
@@ -22,8 +22,7 @@ pub returns-in_default-first_char-clause-takes : goal.returns-in_default-first_c
 returns-in_default-first_char-clause-takes c = λ ps ts p q m.
     let found = c.in-Some.ensures.found in
     let d = utf8-cons ps c.args.items.now c.in-Some.rest.now c.in-Some.item found.0 found.1 p in
-    let n = utf8-nil ts c.args.text.now c.in_default-first_char.ensures.none q in
-    one-nil c.in-Some.item (map item_of d.0) c.if-item-eq42.false (rw (d.1, n) at m)
+    grind arith
 
 pub returns-then-item-c-clause-takes : goal.returns-then-item-c-clause-takes
 returns-then-item-c-clause-takes c = λ ps ts p q m.
@@ -39,6 +38,4 @@ returns-clause-takes c = λ ps ts p q.
     let d = utf8-cons ps c.args.items.now c.in-Some.rest.now c.in-Some.item found.0 found.1 p in
     let also = c.in-Some-first_char.ensures.found in
     let e = utf8-cons ts c.args.text.now c.in-Some-first_char.others.now c.in-Some-first_char.c also.0 also.1 q in
-    let fits : (c.in-Some.item ≡ 63) ⊎ (c.in-Some.item ≡ c.in-Some-first_char.c) =
-    elim c.else-item-ne63.branch [ else-item-ne63-via-then-item-ne63+else-item-c w ↦ inr w.if-item-c.false | else-item-ne63-via-else-item-ne63 w ↦ inl w.if-item-ne63.false ] in
-    (c.in-Some.item, c.in-Some-first_char.c, d.0, e.0, d.2, e.2, d.1, e.1, (c.if-item-eq42.false, fits))
+    grind arith

@@ -1,14 +1,9 @@
 use Rattle.std.proofs.Common.{map, arith}
-use Rattle.nntp_wire.{specs.Wildmat.{Matches, item_of}, proofs.PatternLemmas.{search-start, search-star, search-one, search-fails}}
+use Rattle.nntp_wire.{specs.Wildmat.{Matches, item_of}, proofs.PatternLemmas.{search-star, search-one, search-fails}}
 use Rattle.nntp_wire.proofs.pattern.matches_items.Goals as goal
 
 pub loop-rest-init : goal.loop-rest-init
-loop-rest-init c = record {
-  search = λ ps ts p q. search-start ps ts c.args.pattern.now c.args.text.now p q;
-  items = omega arith;
-  left = omega arith;
-  tried = omega arith;
-}
+loop-rest-init c = grind arith
 
 pub loop-rest-preserved-in-Star : goal.loop-rest-preserved-in-Star
 loop-rest-preserved-in-Star c = record {
@@ -31,9 +26,7 @@ loop-rest-preserved-in-One c = record {
 pub loop-rest-preserved : goal.loop-rest-preserved
 loop-rest-preserved c =
     let found = c.in-Some.ensures.found in record {
-      search = λ ps ts p q. search-fails (Matches (map item_of ps) ts) c.loop-rest.items.now c.loop-rest.left.now
-          c.loop-rest.after.now c.loop-rest.from.now c.in-Some.others.now c.in-Some.field-0-0 found.0 found.1
-          c.in-Fails.ensures.takes (c.loop-rest.invariant.search ps ts p q);
+      search = λ ps ts p q. grind (arith, search-fails);
       items = omega arith;
       left = omega (arith, c.in-Some.ensures.shorter, c.loop-rest.invariant.tried);
       tried = omega (arith, c.in-Some.ensures.shorter, c.loop-rest.invariant.tried);

@@ -6,8 +6,7 @@ pub loop-line-init : goal.loop-line-init
 loop-line-init c = passed-none c.args.bytes.now c.requires
 
 pub loop-line-preserved : goal.loop-line-preserved
-loop-line-preserved c = passed-more c.loop-line._line c.args.bytes.now c.loop-line.rest.now c.in-Some.field-0-0.now
-    c.in-Some.others.now c.loop-line.invariant c.in-Some.ensures.parts.0 c.in-Some.ensures.parts.1
+loop-line-preserved c = grind (arith, passed-more)
 
 pub returns-in_default-clause-front : goal.returns-in_default-clause-front
 returns-in_default-clause-front c = (passed-end c.loop-line._line c.args.count c.args.bytes.now c.loop-line.rest.now c.loop-line.invariant (omega arith) c.in_default.ensures.parts).front

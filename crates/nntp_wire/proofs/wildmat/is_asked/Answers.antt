@@ -1,26 +1,21 @@
-use Rattle.std.{proofs.{Common.{◌≡◌, Bool, true, false, ◌&&◌, Option, None, Some, refl, sym, ◌∙◌}, lemmas.Bool.{true≢false}}, specs.Option.{SomeIff, is_some}}
+use Rattle.std.{proofs.{Common.{arith, ◌≡◌, Bool, true, false, ◌&&◌, Option, refl, ◌∙◌}, lemmas.Bool.{true≢false}}, specs.Option.{SomeIff, is_some}}
 use Rattle.std.specs.Option.{option_map_or}
 use Rattle.nntp_wire.specs.{Name.{IsGroupName}, Decided.{is_group_name, matches_name}}
 use Rattle.nntp_wire.proofs.wildmat.is_asked.Goals.{in_default-via-in-Some+else-not-matches_octets, in_default-via-in_default}
 use Rattle.nntp_wire.proofs.wildmat.is_asked.Goals as goal
 
 not-both : (a b : Bool) → (a ≡ true → b ≡ true → ⊥) → false ≡ (a && b)
-not-both true true not = absurd (not refl refl)
-not-both true false not = refl
-not-both false b not = refl
+not-both a b not = grind arith
 
 -- what is made of octets that pass a test is there as the test says
 made-if : {X : Type 0} (test other : Bool) (P : Type 0) (made : Option X) (x : X) → (test ≡ true → P) → (P → test ≡ true) → SomeIff made P x
     → (P → other ≡ true) → is_some made ≡ (test && other)
-made-if true other P None x fact back is also = absurd (is (fact refl))
-made-if false other P None x fact back is also = refl
-made-if test other P (Some y) x fact back is also = rw (back is.0, also is.0) refl
+made-if test other P made x fact back is also = grind arith
 
 pub returns-in-Some : goal.returns-in-Some
 returns-in-Some c =
     rw c.in-Some.is (not-both (is_group_name c.args.name.now) (matches_name c.in-Some.wildmat c.args.name.now)
-    (λ name matches. true≢false (sym ((c.matches_octets.ensures ((c.group_names_are_decided.ensures c.args.name.now).0 name)).1
-    ((c.matching_is_decided.ensures c.in-Some.wildmat c.args.name.now).0 matches)) ∙ c.if-not-matches_octets.true)))
+    (search (arith, true≢false)))
 
 pub returns-in_default : goal.returns-in_default
 returns-in_default c =

@@ -1,5 +1,5 @@
-use Rattle.std.proofs.{Common.{◌≡◌, ◌≢◌, ◌++◌, ◌∷◌, [], List, ℕ, sym, subst, ap, ◌∙◌}, lemmas.Bool.{false≢true, Decides.{Decides-eqb}}}
-use Rattle.std.{proofs.lemmas.{List.{append_cancel_left}, Slice.Eq.{strip_prefix_is, slice_eq-Decides}}, specs.Option.{MatchOption}}
+use Rattle.std.proofs.{Common.{arith, ◌≡◌, ◌≢◌, ◌++◌, List, ℕ, subst, ap, ◌∙◌}, lemmas.{Bool.{false≢true, Decides.{Decides-eqb}}, List.{append_cancel_left}}}
+use Rattle.std.{proofs.lemmas.Slice.Eq.{strip_prefix_is, slice_eq-Decides}, specs.Option.{MatchOption}}
 use Rattle.nntp_wire.{specs.{Octets.{crlf}, Inner.Block.{Sends}, Block.{sent}}, proofs.SubBlockLemmas.{article-iff, sent-append}}
 use Rattle.nntp_wire.proofs.block.Block.is_article.Goals as goal
 
@@ -9,11 +9,7 @@ returns-in_default c =
     let back = crlf ++ sent c.args.body.now in
     let none : (rest : List ℕ) → c.self.inside.sent.now ≢ front ++ rest =
     subst (λ r. MatchOption r ((rest : List ℕ) → c.self.inside.sent.now ≢ front ++ rest) (λ x. c.self.inside.sent.now ≡ front ++ x.now)) c.in_default.is
-    (strip_prefix_is Decides-eqb c.self.inside.sent.now front c.strip_prefix.result c.strip_prefix.ensures.cases) in (
-      λ e. absurd (false≢true e),
-      λ same. absurd (none back (c.self.invariant.whole ∙ ap sent (c.self.view_is ∙ same) ∙ sent-append c.args.head.now ([] ∷ c.args.body.now)
-          ∙ ap (λ t. t ++ back) (sym (c.head.invariant.whole ∙ ap sent c.head.view_is)))),
-    )
+    (strip_prefix_is Decides-eqb c.self.inside.sent.now front c.strip_prefix.result c.strip_prefix.ensures.cases) in grind (arith, false≢true, sent-append)
 
 pub returns-in-Some-strip_prefix : goal.returns-in-Some-strip_prefix
 returns-in-Some-strip_prefix c =
@@ -24,12 +20,8 @@ returns-in-Some-strip_prefix c =
     let behind = c.in-Some-strip_prefix.back.now in
     let first : bytes ≡ front ++ rest = subst (λ r. MatchOption r ((rest : List ℕ) → bytes ≢ front ++ rest) (λ x. bytes ≡ front ++ x.now)) c.in-Some.is
     (strip_prefix_is Decides-eqb bytes front c.strip_prefix.result c.strip_prefix.ensures.cases) in
-    let second : rest ≡ crlf ++ behind = subst (λ r. MatchOption r ((others : List ℕ) → rest ≢ crlf ++ others) (λ x. rest ≡ crlf ++ x.now)) c.in-Some-strip_prefix.is
-    (strip_prefix_is Decides-eqb rest crlf c.strip_prefix-2.result c.strip_prefix-2.ensures.cases) in
+    let second : rest ≡ crlf ++ behind = grind arith in
     let whole : bytes ≡ front ++ (crlf ++ behind) = first ∙ ap (λ t. front ++ t) second in
     let last = slice_eq-Decides Decides-eqb behind back c.eq.result c.eq.ensures in
     let iff = article-iff bytes front back c.args.self.now c.args.head.now c.args.body.now
-    (subst (Sends bytes) c.self.view_is c.self.invariant) (subst (Sends front) c.head.view_is c.head.invariant) (subst (Sends back) c.body.view_is c.body.invariant) in (
-      λ e. iff.0 (whole ∙ ap (λ t. front ++ (crlf ++ t)) (last.0 e)),
-      λ same. last.1 (append_cancel_left crlf behind back (append_cancel_left front (crlf ++ behind) (crlf ++ back) (sym whole ∙ iff.1 same))),
-    )
+    (subst (Sends bytes) c.self.view_is c.self.invariant) (subst (Sends front) c.head.view_is c.head.invariant) (subst (Sends back) c.body.view_is c.body.invariant) in grind (arith, append_cancel_left)

@@ -1,11 +1,10 @@
-use Rattle.std.proofs.{Common.{◌∙◌, ◌≡◌, ap, arith, length, subst, sym}, lemmas.{Bool.{false≢true, Decides.{Decides-eqb}}, Slice.Eq.{slice_eq-Decides}}}
+use Rattle.std.proofs.{Common.{◌∙◌, ◌≡◌, ap, arith, length, subst, sym}, lemmas.{Bool.Decides.{Decides-eqb}, Slice.Eq.{slice_eq-Decides}}}
 use Rattle.nntp_wire.{specs.{Inner.Block.{HasNoEmptyLine}, Octets.{crlf}}, proofs.EmptyLineLemmas.{IsSplit, nonempty-start, nonempty-more, nonempty-end}}
 use Rattle.nntp_wire.proofs.EmptyLineLemmas.{next-is, next-fits, split-empty}
 use Rattle.nntp_wire.proofs.block.Block.split_at_empty_line.Goals as goal
 
 pub loop-line-init : goal.loop-line-init
-loop-line-init c = nonempty-start c.self.inside.sent.now c.into_iter-line-iterator.result c.self.invariant (c.into_iter-line-iterator.ensures.into_iter_gives
-    ∙ c.lines_with_terminator-line-items.ensures.value)
+loop-line-init c = grind (arith, nonempty-start)
 
 pub split_at-requires : goal.split_at-requires
 split_at-requires c =
@@ -41,8 +40,7 @@ overflow_add-length c =
 pub loop-line-preserved : goal.loop-line-preserved
 loop-line-preserved c =
     let next = next-is c.self.inside.sent.now c.in-Some.line.now c.loop-line.line-iterator c.next.new.self c.loop-line.length c.loop-line.invariant c.in-Some.ensures.steps in
-    nonempty-more _ _ _ _ next (λ is. false≢true (sym c.if-eq.false
-    ∙ (slice_eq-Decides Decides-eqb c.in-Some.line.now c.as_slice.result.now c.eq.result c.eq.ensures).1 (is ∙ sym c.as_slice.ensures)))
+    nonempty-more _ _ _ _ next (grind arith)
 
 pub returns : goal.returns
 returns c = subst HasNoEmptyLine c.self.view_is (nonempty-end c.self.inside.sent.now c.loop-line.line-iterator c.loop-line.length c.loop-line.invariant c.in-None.ensures.steps.0)

@@ -1,7 +1,7 @@
 use Rattle.std.proofs.Common.{◌≡◌, ◌∙◌, ◌+◌, ◌-◌, ℕ, Bool, Option, ap, List, ◌++◌, length, take, refl, sym, subst, arith, length-append, true}
-use Rattle.nntp_wire.specs.{Octets.{crlf}, Lines.{HasNoCrlf}, Block.{dot_line}, Inner.{Block.{end_of_block}, Search.{IsSearched, IsThrough}}, Answer.{Asked}}
-use Rattle.nntp_wire.{specs.{Answer.{code_of}, Frame.{is_due_by}, declared.search.Search.{Search, TheVariants.{Found}}}, proofs.FrameLemmas.{no_line_no_frame}}
-use Rattle.nntp_wire.proofs.FrameLemmas.{undue_frame, due_frame, no_block_no_frame, block_found, IsBlockAt}
+use Rattle.nntp_wire.specs.{Octets.{crlf}, Lines.{HasNoCrlf}, Inner.{Block.{end_of_block}, Search.{IsSearched, IsThrough}}, Answer.{Asked, code_of}}
+use Rattle.nntp_wire.{specs.{Frame.{is_due_by}, declared.search.Search.{Search, TheVariants.{Found}}}, proofs.FrameLemmas.{no_line_no_frame, undue_frame}}
+use Rattle.nntp_wire.proofs.FrameLemmas.{due_frame, no_block_no_frame, block_found, IsBlockAt}
 use Rattle.nntp_wire.proofs.framing.FrameSearch.frame.Goals as goal
 
 -- what the search for the block's end found
@@ -39,8 +39,7 @@ returns-in_default-clause-none c =
 pub overflow_sub-end : goal.overflow_sub-end
 overflow_sub-end c =
     let at = block_at c.args.stream.now c.in_ok-line.line.now c.in_ok-line.rest.now c.args.self.now.block_end c.in-Found.end c.in_ok-line.ensures.parts c.requires.searched.block c.in-Found.is in
-    let size = at.size in
-    omega arith
+    grind arith
 
 pub new-requires-clause-code : goal.new-requires-clause-code
 new-requires-clause-code c = let parts = c.in_ok-line.ensures.parts in c.requires.through.code c.in_ok-line.line.now c.in_ok-line.rest.now parts.0 parts.1
@@ -53,12 +52,7 @@ new-requires-2-clause-frame c =
     let line = c.in_ok-line.line.now in
     let sent = take (c.in-Found.end - length line) c.in_ok-line.rest.now in
     let at = block_at c.args.stream.now line c.in_ok-line.rest.now c.args.self.now.block_end c.in-Found.end c.in_ok-line.ensures.parts c.requires.searched.block c.in-Found.is in
-    let size = at.size in
-    rw c.split_at.ensures.front (record {
-      is_line = c.in_ok-line.ensures.parts.0;
-      before_dot_line = at.before_dot_line;
-      len_is = omega (arith, length-append (line ++ crlf) (sent ++ dot_line), length-append line crlf, length-append sent dot_line);
-    })
+    grind (arith, length-append)
 
 pub returns-clause-found : goal.returns-clause-found
 returns-clause-found c =

@@ -1,12 +1,11 @@
-use Rattle.std.proofs.{Common.{◌≡◌, ◌∙◌, ◌++◌, ℕ, List, Option, sym, ap}, lemmas.Bool.{false≢true}}
+use Rattle.std.proofs.{Common.{arith, ◌≡◌, ◌∙◌, ◌++◌, ℕ, List, Option, sym, ap}, lemmas.Bool.{false≢true}}
 use Rattle.nntp_wire.{specs.{Octets.{crlf}, Lines.{HasNoCrlf}, Answer.{code_of}, Frame.{is_due_by}}, proofs.FrameLemmas.{one_line, no_line_first}}
 use Rattle.nntp_wire.proofs.framing.FrameSearch.go_on.Goals as goal
 
 -- what is read of the line that the search split off is read of each first line
 read-there : (s line rest other behind : List ℕ) (code : Option ℕ) → HasNoCrlf line × (s ≡ (line ++ crlf) ++ rest) → code ≡ code_of line
     → HasNoCrlf other → s ≡ (other ++ crlf) ++ behind → code ≡ code_of other
-read-there s line rest other behind code parts reads is_line whole =
-    reads ∙ ap code_of (one_line line other rest behind parts.0 is_line (sym parts.1 ∙ whole)).0
+read-there s line rest other behind code parts reads is_line whole = grind (arith, one_line)
 
 pub returns-in_default-clause-through : goal.returns-in_default-clause-through
 returns-in_default-clause-through c = record {

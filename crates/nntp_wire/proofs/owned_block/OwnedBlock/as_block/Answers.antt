@@ -1,4 +1,4 @@
-use Rattle.std.{proofs.Common.{IsTrue, ap, length, arith, subst, ◌∙◌}, specs.List.{list_all}}
+use Rattle.std.{proofs.Common.{IsTrue, ap, arith, subst, ◌∙◌}, specs.List.{list_all}}
 use Rattle.nntp_wire.{specs.{Inner.{Octets.{are_octets}, Block.{received}}, Block.{AreClean}}, proofs.SubBlockLemmas.{length-lines}}
 use Rattle.nntp_wire.proofs.owned_block.OwnedBlock.as_block.Goals as goal
 
@@ -9,6 +9,4 @@ pub returns-clause-octets : goal.returns-clause-octets
 returns-clause-octets g c = subst (λ lines. IsTrue (list_all are_octets lines)) (ap received c.as_slice.ensures.value ∙ c.self.view_is) c.block_of.ensures.octets
 
 pub returns-clause-short : goal.returns-clause-short
-returns-clause-short g c =
-    let sent = c.self.inside.sent in
-    omega (arith, length-lines (received sent.items), ap length c.self.invariant.whole, ap length c.self.view_is, sent.ok.0, sent.ok.1, sent.small)
+returns-clause-short g c = grind (arith, length-lines)

@@ -1,6 +1,5 @@
-use Rattle.std.proofs.Common.{◌∙◌, subst, ap, take, drop}
-use Rattle.nntp_wire.{specs.{Octets.{crlf}, Lines.{lines_of_stream}, Inner.Search.{IsSearched, IsThrough}}, proofs.FrameLemmas.{line_found}}
-use Rattle.nntp_wire.proofs.StreamLemmas.{lines-none, lines-first}
+use Rattle.std.proofs.Common.{arith, subst}
+use Rattle.nntp_wire.{specs.{Octets.{crlf}, Inner.Search.{IsSearched, IsThrough}}, proofs.{FrameLemmas.{line_found}, StreamLemmas.{lines-none, lines-first}}}
 use Rattle.nntp_wire.proofs.stream.LineSearch.split.Goals as goal
 
 pub returns-in_default-clause-lines : goal.returns-in_default-clause-lines
@@ -14,6 +13,4 @@ returns-clause-parts c =
 pub returns-clause-lines : goal.returns-clause-lines
 returns-clause-lines c =
     let parts = line_found c.args.stream.now c.in-Found.end (subst (IsSearched crlf c.args.stream.now) c.in-Found.is c.requires.searched) in
-    rw (c.split_at-2.ensures.back, c.split_at.ensures.back, c.split_at.ensures.front)
-    (ap lines_of_stream parts.1 ∙ lines-first (take c.in-Found.end c.args.stream.now)
-    (drop 2 (drop c.in-Found.end c.args.stream.now)) parts.0)
+    grind (arith, lines-first)
