@@ -15,9 +15,6 @@ pub verified_by_same : {E : Type 0} (profile other : Profile) (S T : Spool) (cli
     → S ≡ T → IfOk r (λ verified. IsVerified profile S client server verified) → IfOk r (λ verified. IsVerified other T client server verified)
 verified_by_same profile other S T client server r same equal is = grind arith
 
-pub spool_by_same : (profile other : Profile) (S T : Spool) → profile ≡ other → S ≡ T → IsSpool other.limit T → IsSpool profile.limit S
-spool_by_same profile other S T same equal is = subst (λ (U : Spool). IsSpool profile.limit U) (sym equal) (subst (λ (p : Profile). IsSpool p.limit T) (sym same) is)
-
 -- so far the exchanges are permitted
 pub record Permitted (profile : Profile) (S : Spool) (client : ClientStream) (server : List ℕ) (left : Unpaired) (s : State) (count : ℕ) : Type 0 where
   pub pairs : List Paired

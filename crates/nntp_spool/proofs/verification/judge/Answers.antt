@@ -1,16 +1,13 @@
-use Rattle.std.proofs.{Common.{◌≡◌, sym, subst, ◌∙◌}, lemmas.Bool.{true≢false}}
+use Rattle.std.proofs.{Common.{arith, ◌≡◌, sym, subst, ◌∙◌}, lemmas.Bool.{true≢false}}
 use Rattle.nntp_wire.specs.{Inner.{View.{asked}, AnswerView.{response}}, Session.{taken}, declared.overviews.Overviews.TheVariants.{Opaque}}
 use Rattle.nntp_pair.specs.Pairing.{asked_at}
 use Rattle.nntp_article.specs.Session.{Machine.{MayAnswer, visible_after}, Spool.{Spool}}
 use Rattle.nntp_said.specs.{Asks.{position_after}, Inner.Asks.{state_at}}
-use Rattle.nntp_spool.{specs.Inner.AskedCounts.{AreCounted}, proofs.VerifiedPairs.{one_more_answer, none_permitted, not_permitted, answers_nothing}}
-use Rattle.nntp_spool.proofs.VerifiedPairs.{all_permitted}
+use Rattle.nntp_spool.{specs.Inner.AskedCounts.{AreCounted}, proofs.VerifiedPairs.{one_more_answer, not_permitted, answers_nothing, all_permitted}}
 use Rattle.nntp_spool.proofs.verification.judge.Goals as goal
 
 pub loop-exchange-init : goal.loop-exchange-init
-loop-exchange-init g c =
-    let first = none_permitted c.args.profile c.args.content.now (taken Opaque c.args.client.now) c.args.server.now c.args.visible.now c.requires.start in
-    (rw c.new-pairs.ensures first, c.requires.counted, c.new-group.ensures)
+loop-exchange-init g c = grind arith
 
 pub returns-then-not-branch : goal.returns-then-not-branch
 returns-then-not-branch g c =

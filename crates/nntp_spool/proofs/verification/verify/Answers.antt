@@ -1,13 +1,11 @@
-use Rattle.std.proofs.Common.{ap, ◌∙◌}
+use Rattle.std.proofs.Common.{arith, ap, ◌∙◌}
 use Rattle.nntp_article.specs.Session.Limit.{profile_of}
-use Rattle.nntp_spool.proofs.VerifiedPairs.{spool_by_same, verified_by_same}
+use Rattle.nntp_spool.proofs.VerifiedPairs.{verified_by_same}
 use Rattle.nntp_wire.specs.{Session.{taken}, declared.overviews.Overviews.TheVariants.{Opaque}}
 use Rattle.nntp_spool.proofs.verification.verify.Goals as goal
 
 pub judge-requires-clause-spool : goal.judge-requires-clause-spool
-judge-requires-clause-spool g c =
-    spool_by_same c.of-profile.result _ c.content-content.result.now _ (c.of-profile.ensures ∙ ap (λ limit. profile_of limit c.args.marks) c.limit.ensures)
-    c.content-content.ensures.value c.content-content.ensures.is_spool
+judge-requires-clause-spool g c = grind arith
 
 pub returns : goal.returns
 returns g c =

@@ -1,5 +1,5 @@
-use Rattle.std.proofs.{Common.{◌≡◌, ◌∙◌, refl, sym, ap, ℕ, Bool, true, false, Option, Some, None, List, [], ◌∷◌}, lemmas.Bool.{not-true, not-false}}
-use Rattle.std.specs.Prelude.{◌&&◌, not, if◌then◌else◌, bytes_eq, codes}
+use Rattle.std.{proofs.{Common.{arith, ◌≡◌, refl, ℕ, Bool, false, Option, Some, None, List, [], ◌∷◌}, lemmas.Bool.{not-true}}, specs.Prelude.{◌&&◌, not}}
+use Rattle.std.specs.Prelude.{if◌then◌else◌, bytes_eq, codes}
 use Rattle.nntp_article.specs.Article.Parts.{is_empty}
 use Rattle.nntp_spool.{specs.Fields.{OpeningValue, Article, is_count, value_of, opening_of}, proofs.SplitLines.{length_is_empty}}
 use Rattle.nntp_spool.proofs.text.fields.article_opening.Goals.{then-ne-via-then-ne, then-ne-via-else-ne+then-is_empty, in_default-via-in-Some+in_default}
@@ -12,28 +12,17 @@ module _ {A : Type 0} (x : A) where
   tested a b c d = if a && b && c && d then Some x else None
 
   second : (a b c d : Bool) → b ≡ false → None ≡ tested a b c d
-  second true b c d e = rw e refl
-  second false b c d e = refl
+  second a b c d e = grind arith
 
   third : (a b c d : Bool) → c ≡ false → None ≡ tested a b c d
-  third true true c d e = rw e refl
-  third true false c d e = refl
-  third false b c d e = refl
+  third a b c d e = grind arith
 
   fourth : (a b c d : Bool) → d ≡ false → None ≡ tested a b c d
-  fourth true true true d e = rw e refl
-  fourth true true false d e = refl
-  fourth true false c d e = refl
-  fourth false b c d e = refl
+  fourth a b c d e = grind arith
 
 -- what a count was read as
 no_count : (is : Bool) (v : ℕ) → None ≡ (if is then Some v else None) → is ≡ false
-no_count true v e = absurd cc
-no_count false v e = refl
-
-a_count : (is : Bool) (v n : ℕ) → Some n ≡ (if is then Some v else None) → (is ≡ true) × (n ≡ v)
-a_count true v n e = (refl, cc)
-a_count false v n e = absurd cc
+no_count is v e = grind arith
 
 -- the four fields of a line
 module _ (word id heads bodies : List ℕ) where
@@ -55,28 +44,11 @@ module _ (word id heads bodies : List ℕ) where
   no_bodies : None ≡ (if is_count bodies then Some (value_of bodies) else None) → None ≡ opened
   no_bodies e = fourth said (bytes_eq word (codes "article")) (not (is_empty id)) (is_count heads) (is_count bodies) (no_count (is_count bodies) (value_of bodies) e)
 
-  opens : (n m : ℕ) → bytes_eq word (codes "article") ≡ true → not (is_empty id) ≡ true → Some n ≡ (if is_count heads then Some (value_of heads) else None)
-      → Some m ≡ (if is_count bodies then Some (value_of bodies) else None) → Some (Article id n m) ≡ opened
-  opens n m is some h b =
-      let head = a_count (is_count heads) (value_of heads) n h in
-      let body = a_count (is_count bodies) (value_of bodies) m b in
-      rw (is, some, head.0, body.0) (λ i. Some (Article id (head.1 i) (body.1 i)))
-
 pub returns-then-ne : goal.returns-then-ne
-returns-then-ne c = elim c.then-ne.branch [
-  | then-ne-via-then-ne w ↦ no_word c.args.word.now c.args.id.now c.args.heads.now c.args.bodies.now
-      (ap (bytes_eq c.args.word.now) (sym c.as_slice.ensures) ∙ not-true (bytes_eq c.args.word.now c.as_slice.result.now) (sym w.if-ne.ensures))
-  | then-ne-via-else-ne+then-is_empty w ↦ no_id c.args.word.now c.args.id.now c.args.heads.now c.args.bodies.now (ap not (sym (length_is_empty c.args.id.now) ∙ sym w.if-is_empty.ensures))
-]
+returns-then-ne c = grind (arith, no_word, not-true, no_id, length_is_empty)
 
 pub returns-in_default : goal.returns-in_default
-returns-in_default c = elim c.in_default.branch [
-  | in_default-via-in-Some+in_default w ↦ no_bodies c.args.word.now c.args.id.now c.args.heads.now c.args.bodies.now w.in_default.ensures'
-  | in_default-via-in_default w ↦ no_heads c.args.word.now c.args.id.now c.args.heads.now c.args.bodies.now (sym w.in_default.is-0 ∙ c.count_of.ensures)
-]
+returns-in_default c = grind (arith, no_bodies, no_heads)
 
 pub returns-in-Some-Some : goal.returns-in-Some-Some
-returns-in-Some-Some c =
-    opens c.args.word.now c.args.id.now c.args.heads.now c.args.bodies.now c.in-Some-Some.heads c.in-Some-Some.bodies
-    (ap (bytes_eq c.args.word.now) (sym c.as_slice.ensures) ∙ not-false (bytes_eq c.args.word.now c.as_slice.result.now) (sym c.if-ne.ensures))
-    (ap not (sym (length_is_empty c.args.id.now) ∙ sym c.if-is_empty.ensures)) c.in-Some-Some.ensures c.in-Some-Some.ensures'
+returns-in-Some-Some c = grind arith

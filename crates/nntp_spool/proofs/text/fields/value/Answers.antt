@@ -1,4 +1,4 @@
-use Rattle.std.proofs.Common.{◌+◌, ◌-◌, ap, ◌∙◌, arith, get_or}
+use Rattle.std.proofs.Common.{arith}
 use Rattle.nntp_spool.proofs.Decimals.{value_more, value_past, digit_least}
 use Rattle.nntp_spool.proofs.text.fields.value.Goals as goal
 
@@ -11,11 +11,7 @@ pub overflow_sub-digit : goal.overflow_sub-digit
 overflow_sub-digit c = digit_least c.args.digits.now c.loop-digit.digit-index c.requires c.loop-digit-test.true
 
 pub returns-in_default-checked_add : goal.returns-in_default-checked_add
-returns-in_default-checked_add c =
-    let p = value_past c.args.digits.now c.loop-digit.digit-index c.loop-digit.value c.requires c.loop-digit-test.true c.loop-digit.invariant in
-    omega (arith, c.in_default-checked_add.ensures, c.in-Some.ensures.1)
+returns-in_default-checked_add c = grind (arith, value_past)
 
 pub loop-digit-preserved : goal.loop-digit-preserved
-loop-digit-preserved c =
-    let p = value_more c.args.digits.now c.loop-digit.digit-index c.loop-digit.value c.requires c.loop-digit-test.true c.loop-digit.invariant in
-    c.in-Some-checked_add.ensures.1 ∙ ap (λ t. t + (get_or c.args.digits.now c.loop-digit.digit-index 0 - 48)) c.in-Some.ensures.1 ∙ p
+loop-digit-preserved c = grind (arith, value_more)

@@ -1,12 +1,11 @@
-use Rattle.std.{proofs.Common.{◌≡◌, refl, sym, ℕ, Bool, true, false, List, None, Some, Ok}, specs.Prelude.{if◌then◌else◌}}
+use Rattle.std.{proofs.Common.{arith, ◌≡◌, sym, ℕ, Bool, true, List, None, Some, Ok}, specs.Prelude.{if◌then◌else◌}}
 use Rattle.nntp_wire.specs.Decided.{is_message_id}
 use Rattle.nntp_article.specs.Session.Machine.{is_article_number}
 use Rattle.nntp_spool.specs.{Fields.{fields_of, number_and_id, value_of}, Reading.{number_in}}
 use Rattle.nntp_spool.proofs.text.read.number_in.Goals as goal
 
 passed : (is : Bool) (value number : ℕ) → Some number ≡ (if is then Some value else None) → (is ≡ true) × (value ≡ number)
-passed true value number e = (refl, cc)
-passed false value number e = cc
+passed is value number e = grind arith
 
 -- the number and the id of a line are read where both are right
 both : (limit at value number : ℕ) (line id said : List ℕ) → Some (value, id) ≡ number_and_id (fields_of line) → Some number ≡ (if is_article_number limit value then Some value else None)

@@ -15,8 +15,7 @@ returns-in_err-put_article-clause-text g c =
           (λ x. with_line_ends (article_lines (rc_str_bytes x.0, text_stored x.1)))
           (λ x xs. with_line_ends-append (article_lines (rc_str_bytes x.0, text_stored x.1)) _) _ _ _ _ _ c.args.articles.now c.loop-article.article-index c.article-item.result _ w.0
           c.loop-article-test.true
-          (ap (λ s. with_line_ends (article_lines (s, text_stored c.article-item.result.1))) (c.as_bytes.ensures.value ∙ c.as_str.ensures.value)
-          ∙ ap (λ e. with_line_ends (article_lines (rc_str_bytes e.0, text_stored e.1))) c.article-item.is)
+          (grind arith)
           c.loop-article.invariant.wrote w.1,
     )
 
@@ -26,8 +25,7 @@ loop-article-preserved g c = record {
       (λ x. with_line_ends (article_lines (rc_str_bytes x.0, text_stored x.1)))
       (λ x xs. with_line_ends-append (article_lines (rc_str_bytes x.0, text_stored x.1)) _) _ _ _ _ _ c.args.articles.now c.loop-article.article-index c.article-item.result _ _
       c.loop-article-test.true
-      (ap (λ s. with_line_ends (article_lines (s, text_stored c.article-item.result.1))) (c.as_bytes.ensures.value ∙ c.as_str.ensures.value)
-      ∙ ap (λ e. with_line_ends (article_lines (rc_str_bytes e.0, text_stored e.1))) c.article-item.is)
+      (grind arith)
       c.loop-article.invariant.wrote c.in_ok-put_article.ensures.text;
   same = grind (arith, c.in_ok-put_article.ensures.failed);
   writer = c.in_ok-put_article.ensures.same_writer ∙ c.loop-article.invariant.writer;

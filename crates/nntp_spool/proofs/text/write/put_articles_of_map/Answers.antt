@@ -12,8 +12,7 @@ returns-in_err-put_article-clause-text g c =
       Wrote-head (λ es. with_line_ends (flat_map article_lines (list_map (λ e. (rc_str_bytes e.0, text_stored e.1)) es)))
           (λ x. with_line_ends (article_lines (rc_str_bytes x.0, text_stored x.1)))
           (λ x xs. with_line_ends-append (article_lines (rc_str_bytes x.0, text_stored x.1)) _) _ _ _ _ _ _ _ _ _ w.0
-          c.in-Some.ensures.steps (ap (λ s. with_line_ends (article_lines (s, (text_stored c.in-Some.article.now))))
-          (c.as_bytes.ensures.value ∙ c.as_str.ensures.value)) c.loop-id.invariant.wrote w.1,
+          c.in-Some.ensures.steps (grind arith) c.loop-id.invariant.wrote w.1,
     )
 
 pub loop-id-preserved : goal.loop-id-preserved
@@ -21,8 +20,7 @@ loop-id-preserved g c = record {
   wrote = Wrote-head (λ es. with_line_ends (flat_map article_lines (list_map (λ e. (rc_str_bytes e.0, text_stored e.1)) es)))
       (λ x. with_line_ends (article_lines (rc_str_bytes x.0, text_stored x.1)))
       (λ x xs. with_line_ends-append (article_lines (rc_str_bytes x.0, text_stored x.1)) _) _ _ _ _ _ _ _ _ _ _
-      c.in-Some.ensures.steps (ap (λ s. with_line_ends (article_lines (s, (text_stored c.in-Some.article.now))))
-      (c.as_bytes.ensures.value ∙ c.as_str.ensures.value)) c.loop-id.invariant.wrote c.in_ok-put_article.ensures.text;
+      c.in-Some.ensures.steps (grind arith) c.loop-id.invariant.wrote c.in_ok-put_article.ensures.text;
   same = grind (arith, c.in_ok-put_article.ensures.failed);
   writer = c.in_ok-put_article.ensures.same_writer ∙ c.loop-id.invariant.writer;
 }

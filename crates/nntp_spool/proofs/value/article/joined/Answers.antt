@@ -1,5 +1,5 @@
-use Rattle.std.proofs.Common.{◌≡◌, ℕ, ◌+◌, ◌<◌, length, [], ◌∷◌, ◌++◌, List, Vec, true, drop, get_or, sym, ap, ◌∙◌, drop-cons, add-one, append_assoc}
-use Rattle.std.{proofs.lemmas.Bool.{and_parts}, specs.List.{list_all}}
+use Rattle.std.proofs.Common.{arith, ◌≡◌, ℕ, ◌+◌, ◌<◌, length, ◌∷◌, List, Vec, true, drop, get_or, sym, ap, ◌∙◌, drop-cons, add-one, append_assoc}
+use Rattle.std.specs.List.{list_all}
 use Rattle.nntp_wire.specs.{Inner.Held.{held}, Octets.{is_clean}}
 use Rattle.nntp_article.specs.Session.Spool.{is_line}
 use Rattle.nntp_spool.proofs.value.article.joined.Given.{Over}
@@ -14,15 +14,10 @@ split g lines i line octets lt is e =
 
 -- the first of lines, and those behind it
 first_is_line : (lines : List (List ℕ)) (line : List ℕ) (rest : List (List ℕ)) → lines ≡ line ∷ rest → list_all is_line lines ≡ true → (is_clean line ≡ true) × (list_all is_line rest ≡ true)
-first_is_line lines line rest e all =
-    let both = and_parts (is_line line) (list_all is_line rest) (ap (list_all is_line) (sym e) ∙ all) in
-    ((and_parts (is_clean line) _ both.0).0, both.1)
+first_is_line lines line rest e all = grind arith
 
 pub push-requires : goal.push-requires
-push-requires g c =
-    let i = c.loop-line.line-index in
-    let e = split g c.args.lines.now i c.line-item.result c.as_slice.result.now c.loop-line-test.true c.line-item.is c.as_slice.ensures.value in
-    (first_is_line (held (drop i c.args.lines.now)) c.as_slice.result.now (held (drop (i + 1) c.args.lines.now)) e c.loop-line.invariant.are_lines).0
+push-requires g c = search (arith, split, first_is_line)
 
 pub loop-line-preserved : goal.loop-line-preserved
 loop-line-preserved g c =
@@ -30,7 +25,4 @@ loop-line-preserved g c =
     let line = c.as_slice.result.now in
     let rest = held (drop (i + 1) c.args.lines.now) in
     let e = split g c.args.lines.now i c.line-item.result line c.loop-line-test.true c.line-item.is c.as_slice.ensures.value in
-    record {
-      copied = ap (λ t. t ++ rest) c.in_ok-push.ensures.ok ∙ append_assoc c.loop-line.block (line ∷ []) rest ∙ ap (λ t. c.loop-line.block ++ t) (sym e) ∙ c.loop-line.invariant.copied;
-      are_lines = (first_is_line (held (drop i c.args.lines.now)) line rest e c.loop-line.invariant.are_lines).1;
-    }
+    grind (arith, append_assoc, first_is_line)

@@ -1,5 +1,4 @@
-use Rattle.std.{proofs.{Common.{◌≡◌, true, List, [], ◌∷◌, Option, None, Some, refl, sym, ap, ◌∙◌}, lemmas.Bool.{and_from}}, specs.List.{list_all}}
-use Rattle.std.specs.Option.{option_map_or}
+use Rattle.std.{proofs.{Common.{arith, ◌≡◌, true, List, [], ◌∷◌, Option, refl}, lemmas.Bool.{and_from}}, specs.{List.{list_all}, Option.{option_map_or}}}
 use Rattle.nntp_wire.specs.{Octets.{is_clean}, Block.{AreClean}}
 use Rattle.nntp_article.specs.{Article.Parts.{Id, Line, is_head, said_id}, Session.Machine.{is_same}}
 use Rattle.nntp_spool.specs.Content.{is_head_of}
@@ -14,16 +13,7 @@ head_says : (id : Id) (lines : List Line) (said : Option Id) → AreClean lines 
 head_says id lines said clean head e = rw (clean_all lines clean, head, e) refl
 
 pub returns-in-Some-message_id : goal.returns-in-Some-message_id
-returns-in-Some-message_id g c =
-    let same = c.as_block.ensures.same in
-    let is = ap is_head (sym same) ∙ c.in-Some.ensures.0 in
-    let said = ap said_id (sym (c.in-Some.ensures.1 ∙ same)) ∙ sym c.message_id.ensures ∙ c.in-Some-message_id.is in
-    c.eq.ensures ∙ ap (λ s. is_same s c.args.id.now) c.as_str.ensures.value
-    ∙ sym (head_says c.args.id.now c.args.lines.now (Some c.in-Some-message_id.said) c.as_block.ensures.clean is said)
+returns-in-Some-message_id g c = grind (arith, head_says)
 
 pub returns-in-None : goal.returns-in-None
-returns-in-None g c =
-    let same = c.as_block.ensures.same in
-    let is = ap is_head (sym same) ∙ c.in-Some.ensures.0 in
-    let said = ap said_id (sym (c.in-Some.ensures.1 ∙ same)) ∙ sym c.message_id.ensures ∙ c.in-None.is in
-    sym (head_says c.args.id.now c.args.lines.now None c.as_block.ensures.clean is said)
+returns-in-None g c = grind (arith, head_says)

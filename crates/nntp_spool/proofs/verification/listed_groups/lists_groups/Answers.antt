@@ -1,13 +1,10 @@
-use Rattle.std.proofs.{Common.{map, length, sym, ◌∙◌}, lemmas.{Bool.{true≢false, Decides.{Decides-eqb}}, List.{length-map}}}
+use Rattle.std.proofs.{Common.{arith, map, length, sym, ◌∙◌}, lemmas.{Bool.{true≢false, Decides.{Decides-eqb}}, List.{length-map}}}
 use Rattle.nntp_wire.specs.Inner.View.{active_value}
 use Rattle.nntp_spool.proofs.ListedGroups.{agree-lines, agree-count, decided_by}
 use Rattle.nntp_spool.proofs.verification.listed_groups.lists_groups.Goals as goal
 
 pub returns-then-not-agree_lines-clause-lists : goal.returns-then-not-agree_lines-clause-lists
-returns-then-not-agree_lines-clause-lists g c =
-    let decided = decided_by c.matching_is_decided.ensures c.args.wildmat.now in
-    let agree = agree-lines c.args.spool.now c.requires.names c.args.wildmat.now decided (map active_value c.args.groups.now) in
-    (λ t. absurd (true≢false (sym t)), λ h. absurd (true≢false (sym (c.agree_lines.ensures.1 (agree h)) ∙ c.if-not-agree_lines.true)))
+returns-then-not-agree_lines-clause-lists g c = grind (arith, decided_by, agree-lines, true≢false)
 
 pub returns-clause-lists : goal.returns-clause-lists
 returns-clause-lists g c =

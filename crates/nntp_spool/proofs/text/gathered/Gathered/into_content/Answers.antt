@@ -1,6 +1,5 @@
-use Rattle.std.{proofs.Common.{ap, ◌∙◌}, specs.{Ordering.{nat_cmp}, Cmp.Lexicographic.{slice_cmp, nat_list_cmp_total}, String.{string_bytes}}}
-use Rattle.nntp_wire.proofs.ShownMaps.{shown}
-use Rattle.nntp_spool.proofs.{GatheredEntries.{sorted_listed}, ShownMaps.{octet_keys, spool_is}}
+use Rattle.std.{proofs.Common.{arith}, specs.{Ordering.{nat_cmp}, Cmp.Lexicographic.{slice_cmp, nat_list_cmp_total}, String.{string_bytes}}}
+use Rattle.nntp_spool.proofs.{GatheredEntries.{sorted_listed}, ShownMaps.{octet_keys}}
 use Rattle.nntp_spool.proofs.text.gathered.Gathered.into_content.Goals as goal
 
 pub map_of-requires : goal.map_of-requires
@@ -10,6 +9,4 @@ pub invariant_of-result : goal.invariant_of-result
 invariant_of-result g c = (c.self.invariant.line_counts, c.new.ensures)
 
 pub returns : goal.returns
-returns g c = spool_is _ _
-    (ap (shown (slice_cmp nat_cmp) (λ k. string_bytes k) (λ v. v)) c.in_ok-map_of.ensures ∙ ap (λ s. s.groups) c.self.view_is)
-    (ap (λ s. s.articles) c.self.view_is)
+returns g c = grind arith

@@ -1,7 +1,6 @@
-use Rattle.std.{proofs.{Common.{ap, subst, sym, ◌∙◌}, lemmas.Result.{IfOk-weaker}}, specs.{Ordering.{nat_cmp}, Cmp.Lexicographic.{slice_cmp}}}
-use Rattle.std.specs.{Cmp.Lexicographic.{nat_list_cmp_total}, FinMap.{is_sorted}, Rc.{rc_str_bytes}}
-use Rattle.nntp_spool.specs.Inner.{ArticleLines.{text_stored}, ArticlesView.{articles_shown, entries_held, AreInOrder}}
-use Rattle.nntp_spool.proofs.{GatheredEntries.{sorted_listed}, ShownMaps.{octet_keys}}
+use Rattle.std.{proofs.Common.{arith, ap, subst, ◌∙◌}, specs.{Ordering.{nat_cmp}, Cmp.Lexicographic.{slice_cmp, nat_list_cmp_total}, FinMap.{is_sorted}}}
+use Rattle.std.specs.Rc.{rc_str_bytes}
+use Rattle.nntp_spool.{specs.Inner.{ArticleLines.{text_stored}, ArticlesView.{AreInOrder}}, proofs.{GatheredEntries.{sorted_listed}, ShownMaps.{octet_keys}}}
 use Rattle.nntp_spool.proofs.value.articles.Articles.into_map.Goals as goal
 
 pub map_of-requires : goal.map_of-requires
@@ -10,6 +9,4 @@ map_of-requires g c =
     ∙ sorted_listed (slice_cmp nat_cmp) (λ k. rc_str_bytes k) text_stored nat_list_cmp_total octet_keys c.in-InOrder.articles.items (subst AreInOrder c.in-InOrder.is c.self.invariant)
 
 pub returns-in-InOrder : goal.returns-in-InOrder
-returns-in-InOrder g c =
-    IfOk-weaker c.map_of.result _ _ (λ m h.
-    ap (λ es. articles_shown es) (h ∙ ap (λ v. v.items) c.in-InOrder.articles-is) ∙ ap (λ h. articles_shown (entries_held h)) (sym c.in-InOrder.is) ∙ c.self.view_is) c.map_of.ensures
+returns-in-InOrder g c = grind arith

@@ -1,4 +1,4 @@
-use Rattle.std.{proofs.{Common.{◌∙◌, refl, sym, ap, subst, ℕ, List}, lemmas.Result.{err_from_is_err_and}}, specs.FinMap.{insert}}
+use Rattle.std.{proofs.{Common.{arith, ◌∙◌, refl, sym, ap, subst, ℕ, List}, lemmas.Result.{err_from_is_err_and}}, specs.FinMap.{insert}}
 use Rattle.nntp_wire.specs.Limit.{greatest}
 use Rattle.nntp_article.specs.Session.Spool.{numbers}
 use Rattle.nntp_spool.{specs.{Numbers.{has_id}, Inner.Building.{Builds, number_fault, place_fault}, Content.{with_group}}, proofs.NumberFaults.{misplaced}}
@@ -15,15 +15,7 @@ returns g c =
     (λ i. (texts.1 i, (c.in-Ok.ensures.ok ∙ texts.2) i)) c.put_number.ensures
 
 pub returns-in_err-name : goal.returns-in_err-name
-returns-in_err-name g c =
-    let name = c.args.name.now in
-    let id = c.args.id.now in
-    let n = c.args.number in
-    let p = err_from_is_err_and c.from_residual.result c.from_residual.ensures.1 in
-    let works = ap (λ b. b.failed) (sym c.self.view_is) ∙ c.if-self.false in
-    let fault = ap (λ b. place_fault (greatest b.limit) b.spool name n id) (sym c.self.view_is) ∙ ap (λ limit. place_fault limit c.self.inside.content name n id) (sym c.value.ensures)
-    ∙ c.in_err-name.ensures in
-    rw (p.1, p.2) (misplaced c.args.self.now name n id c.in_err-name.field-0.0 works fault)
+returns-in_err-name g c = grind (arith, err_from_is_err_and, misplaced)
 
 pub returns-then-has_id : goal.returns-then-has_id
 returns-then-has_id g c =

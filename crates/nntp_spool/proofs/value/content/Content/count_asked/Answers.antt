@@ -1,6 +1,5 @@
-use Rattle.std.proofs.{Common.{◌+◌, cond, sym, ap, ◌∙◌, rules}, lemmas.Iterator.Consumers.{YieldsList-at, YieldsList-from_rest, YieldsList-from_filter}}
-use Rattle.std.{proofs.lemmas.{Iterator.Consumers.{count_from_yields_List}, List.{Folds.{fold-map}, Sums.{length-filter}}}, specs.List.{count_by}}
-use Rattle.std.specs.String.{string_bytes}
+use Rattle.std.proofs.{Common.{arith, rules}, lemmas.Iterator.Consumers.{YieldsList-at, YieldsList-from_rest, YieldsList-from_filter, count_from_yields_List}}
+use Rattle.std.{proofs.lemmas.List.{Folds.{fold-map}, Sums.{length-filter}}, specs.String.{string_bytes}}
 use borrow.Author.Tests.{tests}
 use Rattle.nntp_article.specs.Session.Spool.{Name, Numbers}
 use Rattle.nntp_wire.specs.Inner.Decided.{is_asked}
@@ -15,5 +14,4 @@ returns g c =
     (YieldsList-from_filter _ (λ e. asked (string_bytes e.0, e.1))
     (YieldsList-at c.filter.ensures.source (YieldsList-from_rest es c.iter.ensures.rest)) c.filter.ensures.closure
     (λ x b q k. search (rules, tests))) in
-    counted ∙ length-filter (λ e. asked (string_bytes e.0, e.1)) es ∙ sym (fold-map (λ n e. n + cond (asked e) 1 0) (λ e. (string_bytes e.0, e.1)) 0 es)
-    ∙ ap (count_by asked) (group_entries es c.args.self.now.groups (ap (λ s. s.groups) c.self.view_is) c.iter.ensures.ordered)
+    grind (arith, length-filter, fold-map, group_entries)

@@ -1,5 +1,5 @@
-use Rattle.std.proofs.{Common.{◌≡◌, not, None, Ok, Err, Result, is_some, option_map, ap, sym, subst, ◌∙◌}, lemmas.Bool.{true≢false}}
-use Rattle.std.specs.{Prelude.{unwrap_or, OnOk, OnErr, IfOk, IfErr, false}, Option.{option_copied_mut}, Ordering.{nat_cmp}, Cmp.Lexicographic.{slice_cmp}}
+use Rattle.std.{proofs.{Common.{arith, ◌≡◌, not, None, Result, is_some, option_map, ap, sym, subst, ◌∙◌}, lemmas.Bool.{true≢false}}, specs.Prelude.{unwrap_or}}
+use Rattle.std.specs.{Prelude.{OnOk, OnErr, IfOk, IfErr, false}, Option.{option_copied_mut}, Ordering.{nat_cmp}, Cmp.Lexicographic.{slice_cmp}}
 use Rattle.std.specs.{Cmp.Lexicographic.{nat_list_cmp_total}, Rc.{rc_str_bytes}, String.{string_bytes}}
 use Rattle.nntp_wire.proofs.ShownMaps.{get-shown, replaced, missing, insert-same}
 use Rattle.nntp_spool.{specs.Numbers.{has_id}, proofs.{BuiltContent.{number_in_group}, ShownMaps.{octet_keys, spool_is}}}
@@ -7,12 +7,10 @@ use Rattle.std.specs.FinMap as map
 use Rattle.nntp_spool.proofs.value.content.Content.put_number.Goals as goal
 
 on_ok : {P Q T E : Type 0} (r : Result T E) → (P → Q) → OnOk r P → OnOk r Q
-on_ok (Ok x) f p = f p
-on_ok (Err e) f p = p
+on_ok r f p = grind arith
 
 on_err : {P Q T E : Type 0} (r : Result T E) → (P → Q) → OnErr r P → OnErr r Q
-on_err (Ok x) f p = p
-on_err (Err e) f p = f p
+on_err r f p = grind arith
 
 pub returns-in_default-clause-added : goal.returns-in_default-clause-added
 returns-in_default-clause-added g c =

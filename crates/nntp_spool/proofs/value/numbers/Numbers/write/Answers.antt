@@ -13,8 +13,7 @@ returns-in_err-put_number_line-clause-text g c =
       Wrote-head (λ es. with_line_ends (list_map (λ e. number_line e.0 (rc_str_bytes e.1)) es))
           (λ e. with_line_ends (number_line e.0 (rc_str_bytes e.1) ∷ []))
           (λ x xs. with_line_ends-cons (number_line x.0 (rc_str_bytes x.1)) (list_map (λ e. number_line e.0 (rc_str_bytes e.1)) xs)) _ _ _ _ _ _ _ _
-          _ w.0 c.in-Some.ensures.steps (ap (λ s. with_line_ends
-          (number_line c.in-Some.number.now s ∷ [])) (c.as_bytes.ensures.value ∙ c.as_str.ensures.value)) c.loop-number.invariant.wrote w.1,
+          _ w.0 c.in-Some.ensures.steps (grind arith) c.loop-number.invariant.wrote w.1,
     )
 
 pub loop-number-preserved : goal.loop-number-preserved

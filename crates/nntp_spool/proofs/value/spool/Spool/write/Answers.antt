@@ -1,4 +1,4 @@
-use Rattle.std.proofs.{Common.{rules, [], ap, refl}, lemmas.Result.{err_from_is_err_and}}
+use Rattle.std.proofs.{Common.{arith, rules, [], ap, refl}, lemmas.Result.{err_from_is_err_and}}
 use Rattle.nntp_spool.{specs.{Watched.{inner_of}, Text.{spool_text}, Inner.Buffering.{waiting}}, proofs.Written.{Wrote-last, Writes-last, Writes-at}}
 use Rattle.nntp_spool.proofs.WrittenLines.{Limit-first}
 use Rattle.nntp_spool.proofs.value.spool.Spool.write.Goals as goal
@@ -11,8 +11,7 @@ returns-in_err-put_limit-clause-text g c =
     let same = ap (λ w. g.W.Write.contents (inner_of w)) c.new-output.ensures.writer in
     let w = c.in_err-put_limit.ensures.text in
     let left = Limit-first start _ _ (waiting c.new-output.result) c.limit.result L L.spool w.0 same c.new-output.ensures.empty c.limit.ensures refl w.1 in
-    let at = Writes-at g.W.Write.contents c.from_residual.result start c.put_limit.new.output.writer.now (spool_text L) [] (rw p.1 (_, left)) in
-    search (rules, at)
+    grind arith
 
 pub returns-in_err-write-clause-text : goal.returns-in_err-write-clause-text
 returns-in_err-write-clause-text g c =
@@ -36,6 +35,4 @@ returns-clause-text g c =
     let first = Limit-first start _ _ (waiting c.new-output.result) c.limit.result L c.content.result.now _
     same c.new-output.ensures.empty c.limit.ensures c.content.ensures.value c.in_ok-put_limit.ensures.text in
     let all = Wrote-last start _ _ (spool_text L) _ _ first c.in_ok-write.ensures.text in
-    let at = Writes-at g.W.Write.contents c.hand_on.result start c.hand_on.new.self.writer.now (spool_text L) []
-    (Writes-last c.hand_on.result _ _ _ _ _ [] all c.hand_on.ensures.text) in
-    search (rules, at)
+    grind (arith, Writes-at, Writes-last)
