@@ -1,5 +1,5 @@
-use Rattle.std.{proofs.Common.{◌≢◌, ◌∙◌, length, [], MatchOption, refl, sym, ap, subst}, specs.Prelude.{⊤, nat_lt}}
-use Rattle.nntp_wire.specs.{Lines.{lines_of_stream}, Inner.Search.{IsFrameThrough}, Session.{taken}}
+use Rattle.std.{proofs.Common.{arith, ◌≢◌, ◌∙◌, [], MatchOption, refl, sym, ap, subst}, specs.Prelude.{⊤}}
+use Rattle.nntp_wire.specs.{Inner.Search.{IsFrameThrough}, Session.{taken}}
 use Rattle.nntp_pair.specs.{Pairing.{Awaits, IsBad, HasNext, Place}, Inner.{Feeding.{IsEnding, EndsForGood, left_of}, Searching.{left_from, IsForNext}}}
 use Rattle.nntp_pair.{specs.declared.class.PairClass.{PairClass}, proofs.{FeedLemmas.{is-empty, not-empty, cut-left, surplus-left}, PairLemmas.{lines-count}}}
 use Rattle.nntp_pair.proofs.feed.Feed.end.Goals.{in-Some, in-None}
@@ -7,12 +7,7 @@ use Rattle.nntp_pair.specs.declared.ending.Ending.TheVariants as ending
 use Rattle.nntp_pair.proofs.feed.Feed.end.Goals as goal
 
 pub returns-then-is_empty : goal.returns-then-is_empty
-returns-then-is_empty g c =
-    let sound = ap (λ fed. fed.has_failed) c.self.view_is ∙ c.requires.0 in
-    let none = sym c.as_slice.ensures ∙ is-empty c.as_slice.result.now (sym c.is_empty.ensures ∙ c.if-is_empty.true) in
-    let count = c.count_lines-unanswered.ensures ∙ ap (λ t. length (lines_of_stream t)) c.as_slice-then-is_empty.ensures
-    ∙ sym (lines-count (nat_lt 0 c.self.inside.index) (taken c.self.inside.overviews c.self.inside.client)) in
-    subst (λ fed. IsEnding fed (ending.End c.count_lines-unanswered.result)) c.self.view_is (sound, (none, count))
+returns-then-is_empty g c = grind (arith, is-empty, lines-count)
 
 pub returns : goal.returns
 returns g c =

@@ -5,9 +5,4 @@ pub invariant_of-self : goal.invariant_of-self
 invariant_of-self g c =
     let counted = c.self.invariant.counted in
     rw (c.clear.ensures, c.clear-2.ensures)
-    (record {
-      counted = omega arith;
-      small = c.self.invariant.small;
-      searched = c.new-self-inside.ensures.searched;
-      through = c.new-self-inside.ensures.through;
-    })
+    (grind arith)
