@@ -24,4 +24,5 @@ returns-in-Some-strip_prefix c =
     let whole : bytes ≡ front ++ (crlf ++ behind) = first ∙ ap (λ t. front ++ t) second in
     let last = slice_eq-Decides Decides-eqb behind back c.eq.result c.eq.ensures in
     let iff = article-iff bytes front back c.args.self.now c.args.head.now c.args.body.now
-    (subst (Sends bytes) c.self.view_is c.self.invariant) (subst (Sends front) c.head.view_is c.head.invariant) (subst (Sends back) c.body.view_is c.body.invariant) in grind (arith, append_cancel_left)
+    (subst (Sends bytes) c.self.view_is c.self.invariant) (subst (Sends front) c.head.view_is c.head.invariant) (subst (Sends back) c.body.view_is c.body.invariant) in
+    grind (arith, append_cancel_left)
