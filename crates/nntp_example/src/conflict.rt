@@ -1,17 +1,15 @@
 //! The accepted answers with which the bad one conflicts, and about what.
-ghost use Rattle.std.specs.Prelude.{◌≡◌, ◌∷◌, length, IfOk, IfSome};
+ghost use Rattle.std.specs.Prelude.{◌≡◌, ◌∷◌, length, map, IfOk, IfSome};
 ghost use Rattle.std.specs.List.{AllByRecursion};
-ghost use Rattle.nntp_wire.specs.Inner.AnswerView.{response};
-ghost use Rattle.nntp_wire.specs.Answer.{Asked};
 ghost use Rattle.nntp_article.specs.Session.Limit.{profile_of};
-ghost use Rattle.nntp_article.specs.Session.Machine.{Visible, visible_after};
+ghost use Rattle.nntp_facts.specs.Standing.{stands_of};
 ghost use Rattle.nntp_theory.specs.Inner.Conflict.{FitsThere};
 ghost use Rattle.nntp_theory.specs.Conflict.{SomeHas, told_with, below};
 
 use crate::session::{CLIENT, NAME, SERVER};
-use nntp_facts::{Conflict, Core, Facts, Noted, Placed, Point};
-use nntp_pair::{Pairs, Step};
-use nntp_wire::{Answer, GroupName, Limit, Marks};
+use nntp_facts::{Conflict, Core, Facts, Noted, Placed, Point, Standing};
+use nntp_pair::{Exchange, Pairs, Step};
+use nntp_wire::{Limit, Marks};
 use std::alloc::{AllocError, Global};
 use std::mem;
 use std::test::Fail;
@@ -23,20 +21,14 @@ pub(crate) struct Contradiction<'a> {
     pub(crate) bad: Placed<'a>,
 }
 
-/// The name of the group that is selected behind an answer.
-fn selected_after<'a>(
-    selected: &Option<GroupName<'a>>,
-    answer: &Answer<'a>,
-) -> Option<GroupName<'a>>
-    ensures { (v : Visible) (asked : Asked) → selected.now ≡ v.selected → result ≡ (visible_after v asked (response answer.now)).selected }
+/// An exchange of the one session where that stands.
+fn placed<'a>(standing: Standing<'a>, exchange: Exchange<'a>) -> Placed<'a>
+    ensures { result ≡ record { session = 1; standing = standing.entry; exchange = exchange.entry } }
 {
-    match answer {
-        Answer::Group { name, .. } => Some(name.copy()),
-        Answer::Numbers { name, .. } => Some(name.copy()),
-        _ => match selected {
-            Some(name) => Some(name.copy()),
-            None => None,
-        },
+    Placed {
+        session: 1,
+        standing,
+        exchange,
     }
 }
 
@@ -48,24 +40,25 @@ pub(crate) fn first_contradiction<'a>(
     client: &'a [u8],
     server: &'a [u8],
 ) -> Result<Option<Contradiction<'a>>, AllocError>
-    ensures fit { IfOk result (λ found. IfSome found (λ c. AllByRecursion (FitsThere (profile_of limit marks)) (c.bad ∷ c.answers.items))) }
+    ensures fit { IfOk result (λ found. IfSome found (λ c.
+        AllByRecursion (FitsThere (profile_of limit marks)) (stands_of c.bad ∷ map stands_of c.answers.items))) }
     ensures conflict { IfOk result (λ found. IfSome found (λ c. SomeHas (profile_of limit marks)
-        (told_with (profile_of limit marks) c.bad c.answers.items (below (length c.answers.items))) → ⊥)) }
+        (told_with (profile_of limit marks) (stands_of c.bad) (map stands_of c.answers.items)
+        (below (length (map stands_of c.answers.items)))) → ⊥)) }
 {
     let mut facts = Facts::new(alloc, limit, marks);
     let mut answers = Vec::new(alloc);
-    let mut selected = None;
+    let mut standing = Standing::nowhere();
     let mut pairs = Pairs::new(client, server);
     while let Step::Exchange(exchange) = pairs.next() {
-        let position = facts.position();
         match facts.note(&exchange) {
             Ok(Noted::Consistent) => {
-                let after = selected_after(&selected, exchange.answer());
-                let before = mem::replace(&mut selected, after);
-                answers.push(Placed::new(before, position, exchange))?;
+                let after = standing.after(&exchange);
+                let before = mem::replace(&mut standing, after);
+                answers.push(placed(before, exchange))?;
             }
             Ok(Noted::Contradiction) => {
-                let bad = Placed::new(selected, position, exchange);
+                let bad = placed(standing, exchange);
                 return Ok(Some(Contradiction { answers, bad }));
             }
             _ => return Ok(None),
@@ -81,9 +74,9 @@ fn core_of(
     marks: Marks,
     found: &Contradiction<'_>,
 ) -> Result<Core, AllocError>
-    requires fit { AllByRecursion (FitsThere (profile_of limit marks)) (found.now.bad ∷ found.now.answers.items) }
-    requires conflict { SomeHas (profile_of limit marks) (told_with (profile_of limit marks) found.now.bad found.now.answers.items
-        (below (length found.now.answers.items))) → ⊥ }
+    requires fit { AllByRecursion (FitsThere (profile_of limit marks)) (stands_of found.now.bad ∷ map stands_of found.now.answers.items) }
+    requires conflict { SomeHas (profile_of limit marks) (told_with (profile_of limit marks) (stands_of found.now.bad) (map stands_of found.now.answers.items)
+        (below (length (map stands_of found.now.answers.items)))) → ⊥ }
 {
     Core::find(alloc, limit, marks, &found.answers, &found.bad, 4)
 }

@@ -1,80 +1,21 @@
--- One answer more: where it leaves a session, and what is told of it.
-use Rattle.std.proofs.Common.{◌≡◌, ◌∙◌, sym, subst, refl, ap, ℕ, ◌+◌, ◌-◌, ◌≤◌, Bool, true, false, List, [], ◌∷◌, ◌++◌, Option, None, Some, length, arith}
+-- One answer more, and what is told of it.
+use Rattle.std.proofs.Common.{◌≡◌, ◌∙◌, sym, subst, refl, ap, ℕ, ◌+◌, ◌-◌, ◌≤◌, Bool, true, false, List, [], ◌∷◌, ◌++◌, Option, Some, length, arith}
 use Rattle.std.{proofs.Common.{append_assoc, append-nil, length-append}, specs.{Prelude.{nat_lt, cond, codes, decimal}, Option.{option_map}}}
-use Rattle.nntp_wire.specs.Answer.{Asked, Response, group_is, numbers_are, sends, active_are, plain, overviews_are}
-use Rattle.nntp_article.specs.{declared.session.profile.Profile.{Profile}, Session.{Machine.{Visible, start, visible_after}, Spool.{Name}}}
-use Rattle.nntp_pair.specs.{Pairing.{Paired, asked_at, asked_of, responses_of}, declared.class.Class.{Class}}
-use Rattle.nntp_theory.specs.{Classes.{visible_from, position_from}, Conflict.{placed_behind}, Reading.{Judged, Accepted, Refused, Unspelled, accepted_of}}
-use Rattle.nntp_theory.{specs.Reading.{accepted_with}, proofs.Reading.JudgedSession.{accepted_one_more}}
-use Rattle.nntp_said.specs.declared.position.Position.{Position, TheVariants.{Nowhere}}
-use Rattle.nntp_explain.specs.{Explaining.{front_lines, place_lines, IsTold, IsExplained, AreExplained, count_bad}, Inner.ExplainingView.{placed_at, GoesOn}}
-use Rattle.nntp_explain.specs.{Reasons.{answer_at, rest_line}, Standing.{Standing, Cited, standing, standing_by, standing_from, standing_after, moved}}
-use Rattle.nntp_explain.specs.Standing.{cited_at, cited_from, closing, closing_with, closing_from}
+use Rattle.nntp_article.specs.declared.session.profile.Profile.{Profile}
+use Rattle.nntp_pair.specs.{Pairing.{Paired}, declared.class.Class.{Class}}
+use Rattle.nntp_theory.{specs.Reading.{Judged, Accepted, Refused, Unspelled, accepted_of, accepted_with}, proofs.Reading.JudgedSession.{accepted_one_more}}
+use Rattle.nntp_facts.specs.{declared.{standing.Standing.{Standing}, placed.Placed.{Placed as Cited}}, Standing.{standing_from, standing_after}}
+use Rattle.nntp_explain.specs.{Explaining.{front_lines, place_lines, IsTold, IsExplained, AreExplained, count_bad}, Inner.ExplainingView.{GoesOn}}
+use Rattle.nntp_explain.specs.{Reasons.{answer_at, rest_line}, Standing.{cited_at, cited_from}}
 use Rattle.nntp_printing.specs.{BadAnswer.{bad_lines, class_word, command_line, shown}, Printing.{escaped}}
 
--- ---- where a session stands
+-- ---- the accepted answers
 
--- an answer leads on from where those before it left the session
-pub standing_push : (s : Option Standing) (pairs : List Paired) (pair : Paired) → standing_from s (pairs ++ pair ∷ []) ≡ standing_after (standing_from s pairs) pair
-standing_push s [] pair = refl
-standing_push s (first ∷ pairs) pair = standing_push (standing_after s first) pairs pair
-
--- and is cited there
-pub cited_push : (session : ℕ) (s : Option Standing) (pairs : List Paired) (pair : Paired)
+-- one more is cited where those before it left the session
+pub cited_push : (session : ℕ) (s : Standing) (pairs : List Paired) (pair : Paired)
     → cited_from session s (pairs ++ pair ∷ []) ≡ cited_from session s pairs ++ cited_at session (standing_from s pairs) pair ∷ []
 cited_push session s [] pair = refl
 cited_push session s (first ∷ pairs) pair = ap (λ rest. cited_at session s first ∷ rest) (cited_push session (standing_after s first) pairs pair)
-
--- those that are accepted, the first one taken by itself
-joined : (past : List Paired) (first : Judged) (answers : List Judged) → past ++ accepted_of (first ∷ answers) ≡ accepted_with past first ++ accepted_of answers
-joined past (Accepted pair) answers = sym (append_assoc past (pair ∷ []) (accepted_of answers))
-joined past (Refused pair) answers = refl
-joined past (Unspelled index line initial block) answers = refl
-
--- and is the one that closed the connection, if it did
-closing_push : (session : ℕ) (before : Option Cited) (past : List Paired) (answers : List Judged) (answer : Judged)
-    → closing_from session before past (answers ++ answer ∷ []) ≡ closing_with session (closing_from session before past answers) (standing (past ++ accepted_of answers)) answer
-closing_push session before past [] answer = ap (λ accepted. closing_with session before (standing accepted) answer) (sym (append-nil past))
-closing_push session before past (first ∷ answers) answer =
-    closing_push session (closing_with session before (standing past) first) (accepted_with past first) answers answer
-    ∙ ap (λ accepted. closing_with session (closing_from session before past (first ∷ answers)) (standing accepted) answer) (sym (joined past first answers))
-
--- so it goes on behind what is kept of those before it
-pub closing_next : (session : ℕ) (answers : List Judged) (answer : Judged) (here : ℕ) (before : Option Cited) (stands : Option Standing) → here ≡ session → before ≡ closing session answers
-    → stands ≡ standing (accepted_of answers) → closing_with here before stands answer ≡ closing session (answers ++ answer ∷ [])
-closing_next session answers answer here before stands here-is before-is stands-is =
-    ap (λ (q : ℕ × Option Cited × Option Standing). closing_with q.0 q.1 q.2 answer) (λ i. (here-is i, before-is i, stands-is i)) ∙ sym (closing_push session None [] answers answer)
-
--- the name of the group in which it stands
-abbrev name_in : Option Standing → Option Name
-name_in s = option_map (λ s. s.name) s
-
--- a move stays in the group
-same_group : (pair : Paired) (s : Option Standing) → name_in (option_map (moved pair) s) ≡ name_in s
-same_group pair None = refl
-same_group pair (Some s) = refl
-
--- that is the selected group
-name_after : (response : Response) (asked : Asked) (pair : Paired) (s : Option Standing) (v : Visible) → name_in s ≡ v.selected
-    → name_in (standing_by response pair s) ≡ (visible_after v asked response).selected
-name_after (group_is m name) asked pair s v e = refl
-name_after (numbers_are m name lines) asked pair s v e = refl
-name_after (sends sent) asked pair s v e = same_group pair s ∙ e
-name_after (active_are lines) asked pair s v e = same_group pair s ∙ e
-name_after (overviews_are lines) asked pair s v e = same_group pair s ∙ e
-name_after (plain code) asked pair s v e = same_group pair s ∙ e
-
-name_from : (s : Option Standing) (v : Visible) (pairs : List Paired) → name_in s ≡ v.selected → name_in (standing_from s pairs) ≡ (visible_from v (asked_of pairs) (responses_of pairs)).selected
-name_from s v [] e = e
-name_from s v (pair ∷ pairs) e =
-    name_from (standing_after s pair) (visible_after v (asked_at pair.place) pair.response) pairs (name_after pair.response (asked_at pair.place) pair s v e)
-
--- an answer is placed behind the accepted ones, where it is placed by what is kept of them
-pub placed_there : (accepted : List Paired) (stands : Option Standing) (position : Position) (pair : Paired) → stands ≡ standing accepted
-    → position ≡ position_from Nowhere (asked_of accepted) (responses_of accepted) → placed_at stands position pair ≡ placed_behind accepted pair
-placed_there accepted stands position pair stands-is position-is =
-    let name : name_in stands ≡ (visible_from start.visible (asked_of accepted) (responses_of accepted)).selected = ap name_in stands-is ∙ name_from None start.visible accepted refl in
-    λ i. record { selected = name i; position = position-is i; asked = asked_at pair.place; response = pair.response }
 
 -- ---- one answer more
 
@@ -119,13 +60,13 @@ reason_follows : (b : Bool) (P Q N : Type 0) → (P → Q) → cond b P N → co
 reason_follows true P Q N f h = f h
 reason_follows false P Q N f h = h
 
-pub told_as : (before : ℕ) (stands : Option Standing) (index : ℕ) (class : Class) (line : Option (List ℕ)) (initial : List ℕ) (P Q : List ℕ → Type 0) (text : List ℕ)
+pub told_as : (before : ℕ) (stands : Standing) (index : ℕ) (class : Class) (line : Option (List ℕ)) (initial : List ℕ) (P Q : List ℕ → Type 0) (text : List ℕ)
     → ((reason : List ℕ) → P reason → Q reason) → IsTold before stands index class line initial P text → IsTold before stands index class line initial Q text
 told_as before stands index class line initial P Q text f (reason, whole, is) =
     (reason, whole, reason_follows (nat_lt before 100) (P reason) (Q reason) (reason ≡ []) (f reason) is)
 
 -- behind its lines a reason
-pub told_reason : (before : ℕ) (stands : Option Standing) (index : ℕ) (class : Class) (line : Option (List ℕ)) (initial : List ℕ) (Reason : List ℕ → Type 0) (old new reason : List ℕ) (is_told : Bool)
+pub told_reason : (before : ℕ) (stands : Standing) (index : ℕ) (class : Class) (line : Option (List ℕ)) (initial : List ℕ) (Reason : List ℕ → Type 0) (old new reason : List ℕ) (is_told : Bool)
     → is_told ≡ nat_lt before 100 → new ≡ (old ++ front_lines index class line initial ++ place_lines before stands) ++ reason → cond is_told (Reason reason) (reason ≡ [])
     → GoesOn (IsTold before stands index class line initial Reason) old new
 told_reason before stands index class line initial Reason old new reason is_told told-is whole is =
@@ -145,7 +86,7 @@ bad_long index class line initial =
     some 98 (codes "ad answer " ++ decimal index ++ codes " " ++ class_word class ++ codes "\n" ++ command_line line ++ codes "answer " ++ escaped initial ++ codes "\n")
 
 -- and so is what is told of it
-pub told_long : (before : ℕ) (stands : Option Standing) (index : ℕ) (class : Class) (line : Option (List ℕ)) (initial : List ℕ) (Reason : List ℕ → Type 0) (text : List ℕ)
+pub told_long : (before : ℕ) (stands : Standing) (index : ℕ) (class : Class) (line : Option (List ℕ)) (initial : List ℕ) (Reason : List ℕ → Type 0) (text : List ℕ)
     → IsTold before stands index class line initial Reason text → 1 ≤ length text
 told_long before stands index class line initial Reason text (reason, whole, is) =
     let lines = bad_long index class (option_map shown line) (shown initial) in

@@ -7,14 +7,15 @@ use Rattle.nntp_article.specs.{declared.session.profile.Profile.{Profile}, Sessi
 use Rattle.nntp_pair.specs.{Pairing.{Paired, Unpaired, end, bad as ends_at, Ends, line_ahead, streams, has_line}, declared.class.PairClass.{PairClass}}
 use Rattle.nntp_pair.specs.{declared.class.PairClass.TheVariants.{Malformed as PairMalformed}, Classes.{class_of}}
 use Rattle.nntp_theory.specs.{Permitted.{ArePermittedBehind}, Reading.{accepted_of, IsReadingBy}}
-use Rattle.nntp_facts.{specs.Inner.Noted.{HasNoted}, proofs.Keeping.NotedSessions.{session_begins}}
+use Rattle.nntp_facts.specs.{Inner.Noted.{HasNoted}, declared.{standing.Standing.{Standing}, placed.Placed.{Placed as Cited}}}
+use Rattle.nntp_facts.proofs.Keeping.NotedSessions.{session_begins}
 use Rattle.nntp_printing.specs.BadAnswer.{IsFirstLine}
 use Rattle.nntp_several.specs.{Reading.{ReadSession, AreReadings}, Sessions.{Named, unnamed}}
 use Rattle.nntp_explain.specs.Explaining.{IsTold, IsEndReason, IsSessionExplained, Counts, counts_of, counts_text, count_bad, titled, none_counted}
 use Rattle.nntp_explain.specs.{Explaining.{counted_with, AreSessionsExplained, IsExplanation, IsExplanationOfAll}, Inner.ExplainingView.{Kept, Before, begins}}
-use Rattle.nntp_explain.specs.{Inner.ExplainingView.{refuses, title_of, accepted_behind, AreKept, AreTold, IsRead, HaveRead, GoesOn}, Standing.{Standing}}
-use Rattle.nntp_explain.{specs.Standing.{Cited, number_behind}, proofs.{AnswerLemmas.{told_long}, SessionLemmas.{index_behind, cited_in_all, cited_with}}}
-use Rattle.nntp_explain.proofs.{SessionLemmas.{placed_with, behind_push, text_grows, all_counted}, ExplainLemmas.{told_first, title_left, few_more}}
+use Rattle.nntp_explain.specs.{Inner.ExplainingView.{refuses, title_of, accepted_behind, AreKept, AreTold, IsRead, HaveRead, GoesOn}, Standing.{number_behind}}
+use Rattle.nntp_explain.proofs.{AnswerLemmas.{told_long}, SessionLemmas.{index_behind, cited_in_all, cited_with, behind_push, text_grows, all_counted}}
+use Rattle.nntp_explain.proofs.ExplainLemmas.{told_first, own_accepted, title_left, few_more}
 
 -- ---- one session ends
 
@@ -26,8 +27,7 @@ read_at_end profile b client server kept text left unanswered t ends =
       read = record { answers = t.answers; ending = end unanswered };
       reading = record { left = left; judged = t.judged; ends = ends; passed_over = λ e. absurd (let f : end unanswered ≡ ends_at PairMalformed = e in cc) };
       noted = t.noted;
-      placed_are = t.placed_are;
-      cited_are = t.cited_are;
+      accepted_are = t.accepted_are;
       session_is = t.session_is;
       few = t.few;
       bad_are = t.bad_are;
@@ -42,8 +42,8 @@ pub read_at_octets : (profile : Profile) (b : Before) (client : ClientStream) (s
     (index : ℕ) (class : PairClass) (line : Option (List ℕ)) (octets : List ℕ) (unanswered : ℕ)
     → AreTold profile b client server kept text left → Ends left (ends_at class) → class ≢ PairMalformed → index ≡ left.index
     → line ≡ line_ahead left.places → octets ≡ left.server → unanswered ≡ count_by has_line (drop 1 left.places) → new ≡ refuses kept
-    → ((first : List ℕ) × IsFirstLine octets first × GoesOn (IsTold kept.bad kept.stands index (class_of class) line first (IsEndReason kept.session class kept.closing octets)) (text
-    ++ title_of kept) after)
+    → ((first : List ℕ) × IsFirstLine octets first
+    × GoesOn (IsTold kept.bad kept.stands index (class_of class) line first (IsEndReason kept.session class (drop kept.others kept.accepted) octets)) (text ++ title_of kept) after)
     → IsRead profile b client server new after unanswered
 read_at_octets profile b client server kept new text after left index class line octets unanswered t ends other at line-is octets-is unanswered-is new-is (first, is-first, (more, after-is, told)) =
     let number = number_behind b.earlier in
@@ -54,11 +54,10 @@ read_at_octets profile b client server kept new text after left index class line
       read = record { answers = t.answers; ending = ends_at class };
       reading = record { left = left; judged = t.judged; ends = ends; passed_over = λ e. other (same-class class e) };
       noted = t.noted;
-      placed_are = t.placed_are;
-      cited_are = t.cited_are;
+      accepted_are = t.accepted_are;
       session_is = t.session_is;
       few = few_more kept.bad text (title_of kept) more t.few
-          (told_long kept.bad kept.stands index (class_of class) line first (IsEndReason kept.session class kept.closing octets) more told);
+          (told_long kept.bad kept.stands index (class_of class) line first (IsEndReason kept.session class (drop kept.others kept.accepted) octets) more told);
       bad_are = ap (λ m. m + 1) t.bad_are ∙ more-bad b.bad n;
       unanswered_are = unanswered-is;
       lines = t.told ++ more;
@@ -69,8 +68,8 @@ read_at_octets profile b client server kept new text after left index class line
         ended = (
           first,
           subst (λ o. IsFirstLine o first) octets-is is-first,
-          subst (λ (q : ℕ × Option Standing × ℕ × Option (List ℕ) × ℕ × Option Cited × List ℕ). IsTold q.0 q.1 q.2 (class_of class) q.3 first (IsEndReason q.4 class q.5 q.6) more)
-              (λ i. (t.bad_are i, t.stands_there i, count i, line-is i, t.session_is i, t.closing_is i, octets-is i)) told,
+          subst (λ (q : ℕ × Standing × ℕ × Option (List ℕ) × ℕ × List Cited × List ℕ). IsTold q.0 q.1 q.2 (class_of class) q.3 first (IsEndReason q.4 class q.5 q.6) more)
+              (λ i. (t.bad_are i, t.stands_there i, count i, line-is i, t.session_is i, own_accepted profile b client server kept text left t i, octets-is i)) told,
         );
         text_is = refl;
       };
@@ -86,8 +85,8 @@ read_at_octets profile b client server kept new text after left index class line
 -- ---- what is kept of sessions that were read whole
 
 -- of none
-pub kept_first : (profile : Profile) (kept : Kept) → HasNoted profile kept.facts [] → kept.placed ≡ [] → kept.cited ≡ [] → kept.session ≡ 0 → AreKept profile [] kept
-kept_first profile kept h placed-is cited-is session-is =
+pub kept_first : (profile : Profile) (kept : Kept) → HasNoted profile kept.facts [] → kept.accepted ≡ [] → kept.session ≡ 0 → AreKept profile [] kept
+kept_first profile kept h accepted-is session-is =
     record {
       noted = record {
         profile_is = h.profile_is;
@@ -102,8 +101,7 @@ kept_first profile kept h placed-is cited-is session-is =
         lines = h.lines;
         few = h.few;
       };
-      placed_are = placed-is;
-      cited_are = cited-is;
+      accepted_are = accepted-is;
       session_is = session-is;
     }
 
@@ -114,8 +112,7 @@ kept_next profile b client server kept text unanswered r few =
     let past = accepted_of r.read.answers in
     record {
       noted = session_begins profile kept.facts b.earlier past r.noted few;
-      placed_are = r.placed_are ∙ placed_with b.earlier past;
-      cited_are = r.cited_are ∙ cited_with b.earlier past;
+      accepted_are = r.accepted_are ∙ cited_with b.earlier past;
       session_is = r.session_is ∙ sym (length-append b.earlier (past ∷ []));
     }
 
@@ -172,7 +169,7 @@ none_read profile kept text k bad-is text-is =
       as_many = refl;
       few = none-bad kept.bad (length text) bad-is;
       counts = none_counted;
-      answers_are = (let none = ap length k.cited_are in omega (arith, none, bad-is));
+      answers_are = (let none = ap length k.accepted_are in omega (arith, none, bad-is));
       bad_are = bad-is;
       unanswered_are = refl;
       explained = (text-is, refl);
@@ -210,8 +207,8 @@ one_more_read profile sessions s kept new text after before unanswered h r few =
       few = r.few;
       counts = counted_with h.counts c;
       answers_are = (
-          let cited = ap length r.cited_are ∙ cited_in_all b.earlier past in
-          let earlier = ap length h.are_kept.cited_are in
+          let cited = ap length r.accepted_are ∙ cited_in_all b.earlier past in
+          let earlier = ap length h.are_kept.accepted_are in
           let own = all_counted r.read.answers r.reading.left r.read.ending in
           let bad = r.bad_are in
           let sum = h.answers_are in
@@ -282,14 +279,14 @@ counts_are answers bad unanswered c a b u = λ i. counts_text (record { answers 
 -- that of one session
 pub explained_alone : (limit : Limit) (marks : Marks) (client : ClientStream) (server : List ℕ) (kept : Kept) (text label whole : List ℕ) (answers bad unanswered printed : ℕ) (good : Bool)
     → IsRead (profile_of limit marks) alone client server kept text unanswered
-    → answers ≡ length kept.cited → bad ≡ kept.bad → printed ≡ unanswered → label ≡ text ++ codes "end "
+    → answers ≡ length kept.accepted → bad ≡ kept.bad → printed ≡ unanswered → label ≡ text ++ codes "end "
     → whole ≡ label ++ counts_text (record { answers = answers + bad; bad = bad; unanswered = printed }) → good ≡ (bad == 0)
     → IsExplanation limit marks client server whole good
 explained_alone limit marks client server kept text label whole answers bad unanswered printed good r answers-is bad-is printed-is label-is whole-is good-is =
     let c = counts_of r.read r.reading.left in
     let past = accepted_of r.read.answers in
     let bad-all : bad ≡ c.bad = bad-is ∙ r.bad_are ∙ none-before c.bad in
-    let cited = ap length r.cited_are ∙ cited_in_all [] past in
+    let cited = ap length r.accepted_are ∙ cited_in_all [] past in
     let own = all_counted r.read.answers r.reading.left r.read.ending in
     let all : answers + bad ≡ c.answers = omega (arith, answers-is, bad-all, cited, own) in
     record {
@@ -307,7 +304,7 @@ explained_alone limit marks client server kept text label whole answers bad unan
 
 -- that of several
 pub explained_all : (limit : Limit) (marks : Marks) (sessions : List Named) (kept : Kept) (text one two whole : List ℕ) (count answers bad unanswered : ℕ) (good : Bool)
-    → HaveRead (profile_of limit marks) sessions kept text unanswered → count ≡ length sessions → answers ≡ length kept.cited → bad ≡ kept.bad
+    → HaveRead (profile_of limit marks) sessions kept text unanswered → count ≡ length sessions → answers ≡ length kept.accepted → bad ≡ kept.bad
     → one ≡ text ++ codes "end sessions=" ++ decimal count → two ≡ one ++ 32 ∷ []
     → whole ≡ two ++ counts_text (record { answers = answers + bad; bad = bad; unanswered = unanswered }) → good ≡ (bad == 0)
     → IsExplanationOfAll limit marks sessions whole good

@@ -1,29 +1,30 @@
 -- How an explanation goes through the answers of two streams, behind those of earlier sessions.
-use Rattle.std.proofs.Common.{◌≡◌, ◌≢◌, ◌∙◌, sym, subst, refl, ap, ℕ, ◌+◌, ◌-◌, ◌≤◌, List, [], ◌∷◌, ◌++◌, Option, None, Some, MatchOption, length, arith}
-use Rattle.std.{proofs.Common.{append-nil, append_assoc, length-append, inl, inr, Bool, true, false, Result, Ok, Err}, specs.Prelude.{OnOk, IfOk}}
-use Rattle.std.specs.{List.{AllByRecursion, flat_map}, Option.{option_map_or}}
+use Rattle.std.proofs.Common.{◌≡◌, ◌≢◌, ◌∙◌, sym, subst, refl, ap, ℕ, ◌+◌, ◌-◌, ◌≤◌, List, [], ◌∷◌, ◌++◌, Option, None, Some, MatchOption, length, map, drop}
+use Rattle.std.proofs.{Common.{arith, append-nil, append_assoc, length-append, inl, inr, Bool, true, false, Result, Ok, Err}, lemmas.List.{drop_at}}
+use Rattle.std.specs.{Prelude.{OnOk, IfOk}, List.{AllByRecursion}, Option.{option_map_or}}
 use Rattle.nntp_wire.specs.{Answer.{Asked}, Misspelling.{misspelling}, declared.misspelling.Misspelling.{Misspelling, TheVariants.{WrongBlock}}}
 use Rattle.nntp_wire.specs.Session.{ClientStream}
 use Rattle.nntp_article.specs.{declared.session.profile.Profile.{Profile}, Session.{Machine.{Visible}, Misfit.{misfit}}}
 use Rattle.nntp_pair.specs.{Pairing.{Paired, Unpaired, IsNext, IsPassedOver, asked_at, streams, Place}, declared.class.Class.{Class, TheVariants.{Malformed}}}
 use Rattle.nntp_pair.{specs.declared.class.Class.TheVariants.{OutOfPlace, Contradiction}, proofs.PassedLemmas.{passed-reason}}
-use Rattle.nntp_theory.specs.{Conflict.{Placed, placed_of, placed_behind, SomeHas, told_with, below, told}, Inner.Conflict.{FitsThere}}
-use Rattle.nntp_theory.specs.{Inner.Exchanged.{said_behind}, Permitted.{ArePermittedBehind}, Reading.{Judged, Accepted, Refused, Unspelled, accepted_of}}
-use Rattle.nntp_theory.{specs.{Reading.{accepted_with, class_behind, IsJudged}, declared.noted.Noted.{Noted}}, proofs.Members.{all_at, all_both, all_from}}
-use Rattle.nntp_theory.proofs.{Members.{in_contains}, Reading.JudgedSession.{accepted_one_more}}
+use Rattle.nntp_theory.specs.{Conflict.{Placed, placed_behind, SomeHas, told_with, below, told}, Inner.{Conflict.{FitsThere}, Exchanged.{said_behind}}}
+use Rattle.nntp_theory.specs.{Permitted.{ArePermittedBehind}, Reading.{Judged, Accepted, Refused, Unspelled, accepted_of, accepted_with, class_behind}}
+use Rattle.nntp_theory.{specs.{Reading.{IsJudged}, declared.noted.Noted.{Noted}}, proofs.Members.{all_at, all_both, all_from, in_contains}}
+use Rattle.nntp_theory.proofs.Reading.JudgedSession.{accepted_one_more}
 use Rattle.nntp_facts.specs.Inner.{Noted.{FactsKept, HasNotedBehind, IsNotedBehind, IsDue, profile_kept}, Points.{AreHeld, held_by}}
-use Rattle.nntp_facts.proofs.{Reading.NotedAsJudged.{unfit_refused, contradiction_refused}, Keeping.RefusedAnswers.{held_refused}}
-use Rattle.nntp_said.specs.{Facts.{Fact}, declared.position.Position.{Position}}
-use Rattle.nntp_several.{specs.Conflict.{placed_of_all}, proofs.ConflictsOfSessions.{accepted_fit_behind, noted_conflicts_behind, placed_next_behind}}
+use Rattle.nntp_facts.specs.{declared.{standing.Standing.{Standing}, placed.Placed.{Placed as Cited}}, Standing.{nowhere, standing, standing_after, stands_of}}
+use Rattle.nntp_facts.proofs.Reading.{NotedAsJudged.{unfit_refused, contradiction_refused}, Standings.{standing_push, stands_behind}}
+use Rattle.nntp_facts.proofs.Keeping.RefusedAnswers.{held_refused}
+use Rattle.nntp_said.specs.Facts.{Fact}
+use Rattle.nntp_several.{specs.Conflict.{placed_of_all}, proofs.ConflictsOfSessions.{accepted_fit_behind, noted_conflicts_behind}}
 use Rattle.nntp_printing.specs.Title.{title_line}
 use Rattle.nntp_explain.specs.Explaining.{IsTold, IsConflictOf, IsReason, IsExplained, AreExplained, count_bad, IsContradiction, WasRefused, are_looked_for}
 use Rattle.nntp_explain.specs.{Explaining.{bad_behind}, Inner.{Explaining.{ToldContradiction}, ExplainingView.{AddsReason, HasReason, IsRefused, TellsNext}}}
-use Rattle.nntp_explain.specs.Inner.ExplainingView.{Kept, Before, begins, placed_at, keeps, refuses, title_of, title_told, untold, unfitting_told, AreKept}
-use Rattle.nntp_explain.specs.{Inner.ExplainingView.{AreReasons, AreTold, GoesOn, unspelled_lines}, Reasons.{unfitting_lines, misspelling_line}}
-use Rattle.nntp_explain.specs.Standing.{Standing, Cited, standing, standing_after, cited, cited_at, cited_each, number_behind, cited_of_all, closing_after}
-use Rattle.nntp_explain.{specs.Standing.{closing_with}, proofs.{ReasonsGoOn.{reason_still}, AnswerLemmas.{standing_push, closing_next, placed_there}}}
-use Rattle.nntp_explain.proofs.{AnswerLemmas.{explained_push, good_push, bad_push, told_as, told_long}, SessionLemmas.{one_more_behind, index_behind}}
-use Rattle.nntp_explain.proofs.SessionLemmas.{due_behind, as_many_cited, as_many_of_all, cited_next, own_part, untitled, told_once, text_grows}
+use Rattle.nntp_explain.specs.Inner.ExplainingView.{Kept, Before, begins, cited_here, placed_here, keeps, refuses, title_of, title_told, untold, unfitting_told}
+use Rattle.nntp_explain.specs.{Inner.ExplainingView.{AreKept, AreReasons, AreTold, Contradicts, Fits, GoesOn, unspelled_lines}, Reasons.{unfitting_lines}}
+use Rattle.nntp_explain.specs.{Reasons.{misspelling_line}, Standing.{cited, cited_at, cited_each, number_behind, cited_of_all}}
+use Rattle.nntp_explain.proofs.{ReasonsGoOn.{reason_still}, AnswerLemmas.{explained_push, good_push, bad_push, told_as, told_long}}
+use Rattle.nntp_explain.proofs.SessionLemmas.{one_more_behind, index_behind, due_behind, all_stand, cited_next, untitled, told_once, text_grows}
 use Rattle.nntp_theory.specs.declared.noted.Noted.TheVariants as kinds
 
 -- ---- how it goes on
@@ -36,13 +37,11 @@ told_first profile earlier kept title text client server k few =
       answers = [];
       judged = refl;
       noted = k.noted;
-      placed_are = k.placed_are ∙ sym (append-nil (flat_map placed_of earlier));
-      cited_are = k.cited_are ∙ sym (append-nil (cited_each 1 earlier));
+      accepted_are = k.accepted_are ∙ sym (append-nil (cited_each 1 earlier));
       session_is = ap (λ n. n + 1) k.session_is;
-      others_are = ap length k.placed_are;
+      others_are = ap length k.accepted_are;
       title_is = refl;
       stands_there = refl;
-      closing_is = refl;
       reasons = tt;
       refused = tt;
       bad_are = omega arith;
@@ -60,32 +59,36 @@ told_due profile b client server kept text left behind pair t next =
     due_behind (ArePermittedBehind profile b.earlier) profile b.earlier client server t.answers left behind pair kept.facts t.judged t.noted next
 
 -- the answers of its session are behind those of others
-pub others_placed : (profile : Profile) (b : Before) (client : ClientStream) (server : List ℕ) (kept : Kept) (text : List ℕ) (left : Unpaired) → AreTold profile b client server kept text left
-    → kept.others ≤ length kept.placed
-others_placed profile b client server kept text left t =
+pub others_accepted : (profile : Profile) (b : Before) (client : ClientStream) (server : List ℕ) (kept : Kept) (text : List ℕ) (left : Unpaired) → AreTold profile b client server kept text left
+    → kept.others ≤ length kept.accepted
+others_accepted profile b client server kept text left t =
     let count = t.others_are in
-    let all = ap length t.placed_are in
-    let both = length-append (flat_map placed_of b.earlier) (placed_of (accepted_of t.answers)) in
+    let all = ap length t.accepted_are in
+    let both = length-append (cited_each 1 b.earlier) (cited (number_behind b.earlier) (accepted_of t.answers)) in
     omega (arith, count, all, both)
 
-pub others_cited : (profile : Profile) (b : Before) (client : ClientStream) (server : List ℕ) (kept : Kept) (text : List ℕ) (left : Unpaired) → AreTold profile b client server kept text left
-    → kept.others ≤ length kept.cited
-others_cited profile b client server kept text left t =
-    let count = t.others_are in
-    let same = as_many_cited 1 b.earlier in
-    let all = ap length t.cited_are in
-    let both = length-append (cited_each 1 b.earlier) (cited (number_behind b.earlier) (accepted_of t.answers)) in
-    omega (arith, count, same, all, both)
+-- these are its own
+pub own_accepted : (profile : Profile) (b : Before) (client : ClientStream) (server : List ℕ) (kept : Kept) (text : List ℕ) (left : Unpaired) (t : AreTold profile b client server kept text left)
+    → drop kept.others kept.accepted ≡ cited (number_behind b.earlier) (accepted_of t.answers)
+own_accepted profile b client server kept text left t =
+    ap (drop kept.others) t.accepted_are ∙ drop_at (cited_each 1 b.earlier) (cited (number_behind b.earlier) (accepted_of t.answers)) kept.others (sym t.others_are)
+
+-- each of all stands where it does by the answers of its session, and so does the next one
+pub all_there : (profile : Profile) (b : Before) (client : ClientStream) (server : List ℕ) (kept : Kept) (text : List ℕ) (left : Unpaired) (t : AreTold profile b client server kept text left)
+    → map stands_of kept.accepted ≡ placed_of_all b.earlier (accepted_of t.answers)
+all_there profile b client server kept text left t = ap (map stands_of) t.accepted_are ∙ all_stand b.earlier (accepted_of t.answers)
+
+next_there : (profile : Profile) (b : Before) (client : ClientStream) (server : List ℕ) (kept : Kept) (text : List ℕ) (left : Unpaired) (pair : Paired)
+    (t : AreTold profile b client server kept text left) → placed_here kept pair ≡ placed_behind (accepted_of t.answers) pair
+next_there profile b client server kept text left pair t = stands_behind (cited_here kept pair) (accepted_of t.answers) t.stands_there
 
 -- the reasons of contradictions stay what they are behind a further accepted answer
 reasons_behind : (profile : Profile) (b : Before) (client : ClientStream) (server : List ℕ) (kept : Kept) (text : List ℕ) (left : Unpaired) → AreTold profile b client server kept text left
-    → (p : Placed) (c : Cited)
-    → AreReasons profile (record kept { placed = kept.placed ++ p ∷ []; cited = kept.cited ++ c ∷ [] }) kept.contradictions
-reasons_behind profile b client server kept text left t p c =
-    let same = ap length t.placed_are ∙ as_many_of_all b.earlier (accepted_of t.answers) ∙ sym (ap length t.cited_are) in
+    → (c : Cited) → AreReasons profile (record kept { accepted = kept.accepted ++ c ∷ [] }) kept.contradictions
+reasons_behind profile b client server kept text left t c =
     all_from _ kept.contradictions
-    (λ told i. reason_still kept.session profile told.bad kept.placed (p ∷ []) kept.cited (c ∷ []) told.reason same
-    (all_at (λ (told : ToldContradiction). IsConflictOf kept.session profile told.bad kept.placed kept.cited told.reason) told kept.contradictions t.reasons i))
+    (λ told i. reason_still kept.session profile told.bad kept.accepted (c ∷ []) told.reason
+    (all_at (λ (told : ToldContradiction). IsConflictOf kept.session profile told.bad kept.accepted told.reason) told kept.contradictions t.reasons i))
 
 -- an answer that was refused was so behind one answer more
 still : (answers : List Judged) (answer : Judged) (bad : Placed) → WasRefused answers bad → WasRefused (answers ++ answer ∷ []) bad
@@ -112,7 +115,7 @@ refused_after answers pair bad old new placed all adds =
 told_good : (profile : Profile) (b : Before) (client : ClientStream) (server : List ℕ) (kept : Kept) (new : FactsKept) (text : List ℕ) (left behind : Unpaired) (pair : Paired)
     → AreTold profile b client server kept text left → IsNext left pair behind
     → ((past : List Paired) → HasNotedBehind profile kept.facts b.earlier past → IsNotedBehind profile b.earlier past pair kept.facts new kinds.Consistent)
-    → AreTold profile b client server (record (keeps kept.facts.position pair kept) { facts = new; closing = closing_after kept.session kept.closing kept.stands pair }) text behind
+    → AreTold profile b client server (record (keeps pair kept) { facts = new }) text behind
 told_good profile b client server kept new text left behind pair t next notes =
     let past = accepted_of t.answers in
     let noted = notes past t.noted in
@@ -122,16 +125,13 @@ told_good profile b client server kept new text left behind pair t next notes =
       answers = t.answers ++ Accepted pair ∷ [];
       judged = one_more_behind (ArePermittedBehind profile b.earlier) client server t.answers (Accepted pair) left behind t.judged (next, noted.0);
       noted = subst (HasNotedBehind profile new b.earlier) (sym accepted) noted.1;
-      placed_are = ap (λ (q : List Placed × Placed). q.0 ++ q.1 ∷ []) (λ i. (t.placed_are i, placed_there past kept.stands kept.facts.position pair t.stands_there t.noted.position i))
-          ∙ sym (placed_next_behind b.earlier past pair) ∙ ap (placed_of_all b.earlier) (sym accepted);
-      cited_are = ap (λ (q : List Cited × ℕ × Option Standing). q.0 ++ cited_at q.1 q.2 pair ∷ []) (λ i. (t.cited_are i, t.session_is i, t.stands_there i))
+      accepted_are = ap (λ (q : List Cited × ℕ × Standing). q.0 ++ cited_at q.1 q.2 pair ∷ []) (λ i. (t.accepted_are i, t.session_is i, t.stands_there i))
           ∙ sym (cited_next b.earlier past pair) ∙ ap (cited_of_all b.earlier) (sym accepted);
       session_is = t.session_is;
       others_are = t.others_are;
       title_is = t.title_is ∙ ap (untold b.title) (sym count);
-      stands_there = ap (λ s. standing_after s pair) t.stands_there ∙ sym (standing_push None past pair) ∙ ap standing (sym accepted);
-      closing_is = closing_next (number_behind b.earlier) t.answers (Accepted pair) kept.session kept.closing kept.stands t.session_is t.closing_is t.stands_there;
-      reasons = reasons_behind profile b client server kept text left t (placed_at kept.stands kept.facts.position pair) (cited_at kept.session kept.stands pair);
+      stands_there = ap (λ s. standing_after s pair) t.stands_there ∙ sym (standing_push nowhere past pair) ∙ ap standing (sym accepted);
+      reasons = reasons_behind profile b client server kept text left t (cited_here kept pair);
       refused = refused_still t.answers (Accepted pair) kept.contradictions t.refused;
       bad_are = t.bad_are ∙ ap (λ n. b.bad + n) (sym count);
       few = t.few;
@@ -160,7 +160,7 @@ told_bad : (profile : Profile) (b : Before) (client : ClientStream) (server : Li
     → (t : AreTold profile b client server kept text left) → IsJudged (ArePermittedBehind profile b.earlier) (accepted_of t.answers) left answer behind
     → accepted_with (accepted_of t.answers) answer ≡ accepted_of t.answers → IsExplained profile b.earlier b.bad t.answers answer more → 1 ≤ length more
     → AreReasons profile kept contradictions → AllByRecursion (λ c. WasRefused (t.answers ++ answer ∷ []) c.bad) contradictions
-    → AreTold profile b client server (record (refuses kept) { closing = closing_with kept.session kept.closing kept.stands answer; contradictions = contradictions })
+    → AreTold profile b client server (record (refuses kept) { contradictions = contradictions })
     ((text ++ title_of kept) ++ more) behind
 told_bad profile b client server kept text more left behind answer contradictions t judged same is some reasons refused =
     let accepted = accepted_one_more t.answers answer ∙ same in
@@ -171,13 +171,11 @@ told_bad profile b client server kept text more left behind answer contradiction
       answers = t.answers ++ answer ∷ [];
       judged = one_more_behind (ArePermittedBehind profile b.earlier) client server t.answers answer left behind t.judged judged;
       noted = subst (HasNotedBehind profile kept.facts b.earlier) (sym accepted) t.noted;
-      placed_are = t.placed_are ∙ ap (placed_of_all b.earlier) (sym accepted);
-      cited_are = t.cited_are ∙ ap (cited_of_all b.earlier) (sym accepted);
+      accepted_are = t.accepted_are ∙ ap (cited_of_all b.earlier) (sym accepted);
       session_is = t.session_is;
       others_are = t.others_are;
       title_is = told_once b.title n ∙ ap (untold b.title) (sym count);
       stands_there = t.stands_there ∙ ap standing (sym accepted);
-      closing_is = closing_next number t.answers answer kept.session kept.closing kept.stands t.session_is t.closing_is t.stands_there;
       reasons = reasons;
       refused = refused;
       bad_are = ap (λ n. n + 1) t.bad_are ∙ more-bad b.bad n ∙ ap (λ n. b.bad + n) (sym count);
@@ -208,7 +206,7 @@ told_behind : (profile : Profile) (b : Before) (client : ClientStream) (server :
     → (class : Class) (line : Option (List ℕ)) (initial : List ℕ) (Reason : List ℕ → Type 0) (more : List ℕ) → IsTold kept.bad kept.stands index class line initial Reason more
     → IsTold (b.bad + (index - length (accepted_of t.answers))) (standing (accepted_of t.answers)) index class line initial Reason more
 told_behind profile b client server kept text left t index at class line initial Reason more is =
-    subst (λ (q : ℕ × Option Standing). IsTold q.0 q.1 index class line initial Reason more) (λ i. (bad_before profile b client server kept text left t index at i, t.stands_there i)) is
+    subst (λ (q : ℕ × Standing). IsTold q.0 q.1 index class line initial Reason more) (λ i. (bad_before profile b client server kept text left t index at i, t.stands_there i)) is
 
 -- what is told of it explains it, since there is one
 unspelled_explained : (profile : Profile) (earlier : List (List Paired)) (before : ℕ) (past : List Judged) (left behind : Unpaired) (index : ℕ) (place : Place) (initial : List ℕ)
@@ -257,46 +255,45 @@ told_unfitting : (profile : Profile) (b : Before) (client : ClientStream) (serve
     → ((past : List Paired) → HasNotedBehind profile kept.facts b.earlier past → IsNotedBehind profile b.earlier past pair kept.facts kept.facts kinds.OutOfPlace)
     → IsTold kept.bad kept.stands pair.index OutOfPlace pair.place.line pair.initial
     (λ reason. reason ≡ unfitting_told kept pair) more
-    → AreTold profile b client server (record (refuses kept) { closing = closing_after kept.session kept.closing kept.stands pair }) ((text ++ title_of kept) ++ more) behind
+    → AreTold profile b client server (refuses kept) ((text ++ title_of kept) ++ more) behind
 told_unfitting profile b client server kept text left behind pair more t next notes is =
     let past = accepted_of t.answers in
     let number = number_behind b.earlier in
     let judged = unfit_refused profile b.earlier past pair kept.facts kept.facts left behind t.noted (notes past t.noted) next in
-    let placed = own_part kept.others kept.placed (flat_map placed_of b.earlier) (placed_of past) t.others_are t.placed_are in
-    let told = own_part kept.others kept.cited (cited_each 1 b.earlier) (cited number past) (t.others_are ∙ sym (as_many_cited 1 b.earlier)) t.cited_are in
+    let own = own_accepted profile b client server kept text left t in
     told_bad profile b client server kept text more left behind (Refused pair) kept.contradictions t judged.0 refl
     (refused_explained profile b.earlier b.bad t.answers pair OutOfPlace more judged.1
     (told_as (bad_behind b.bad t.answers pair.index) (standing past) pair.index OutOfPlace pair.place.line pair.initial _
     (IsReason profile b.earlier (bad_behind b.bad t.answers pair.index) t.answers pair OutOfPlace) more
-    (λ reason is. is ∙ ap (λ (q : Profile × Visible × ℕ × List Placed × List Cited). option_map_or (unfitting_lines q.2 q.3 q.4 pair.response) (misfit q.0 q.1 (asked_at pair.place) pair.response) [])
-    (λ i. (t.noted.profile_is i, t.noted.visible i, t.session_is i, placed i, told i)))
+    (λ reason is. is ∙ ap (λ (q : Profile × Visible × ℕ × List Cited). option_map_or (unfitting_lines q.2 q.3 pair.response) (misfit q.0 q.1 (asked_at pair.place) pair.response) [])
+    (λ i. (t.noted.profile_is i, t.noted.visible i, t.session_is i, own i)))
     (told_behind profile b client server kept text left t pair.index next.index OutOfPlace pair.place.line pair.initial _ more is)))
     (told_long kept.bad kept.stands pair.index OutOfPlace pair.place.line pair.initial (λ reason. reason ≡ unfitting_told kept pair) more is)
     t.reasons (refused_still t.answers (Refused pair) kept.contradictions t.refused)
 
 -- the reason of a contradiction, by what follows from that one was told before
-told_before : (looked_for : Bool) (P Q : Type 0) (here : ℕ) (profile : Profile) (facts : List Fact) (bad : Placed) (answers : List Placed) (told : List Cited) (text : List ℕ) → (P → Q)
-    → IsContradiction looked_for P here profile facts bad answers told text → IsContradiction looked_for Q here profile facts bad answers told text
-told_before true P Q here profile facts bad answers told text f is = is
-told_before false P Q here profile facts bad answers told text f (inl (conflict, inl p)) = inl (conflict, inl (f p))
-told_before false P Q here profile facts bad answers told text f (inl (conflict, inr alone)) = inl (conflict, inr alone)
-told_before false P Q here profile facts bad answers told text f (inr some) = inr some
+told_before : (looked_for : Bool) (P Q : Type 0) (here : ℕ) (profile : Profile) (facts : List Fact) (bad : Placed) (answers : List Cited) (text : List ℕ) → (P → Q)
+    → IsContradiction looked_for P here profile facts bad answers text → IsContradiction looked_for Q here profile facts bad answers text
+told_before true P Q here profile facts bad answers text f is = is
+told_before false P Q here profile facts bad answers text f (inl (conflict, inl p)) = inl (conflict, inl (f p))
+told_before false P Q here profile facts bad answers text f (inl (conflict, inr alone)) = inl (conflict, inr alone)
+told_before false P Q here profile facts bad answers text f (inr some) = inr some
 
 -- an exchange that contradicts those that were accepted
 told_contradiction : (profile : Profile) (b : Before) (client : ClientStream) (server : List ℕ) (kept : Kept) (text : List ℕ) (left behind : Unpaired) (pair : Paired) (more : List ℕ)
     (contradictions : List ToldContradiction) → (t : AreTold profile b client server kept text left) → IsNext left pair behind
     → ((past : List Paired) → HasNotedBehind profile kept.facts b.earlier past → IsNotedBehind profile b.earlier past pair kept.facts kept.facts kinds.Contradiction)
     → IsTold kept.bad kept.stands pair.index Contradiction pair.place.line pair.initial
-    (TellsNext kept (said_behind profile.marks b.earlier (accepted_of t.answers)) (placed_at kept.stands kept.facts.position pair)) more
-    → AreReasons profile kept contradictions → AddsReason (placed_at kept.stands kept.facts.position pair) kept.contradictions contradictions
-    → AreTold profile b client server (record (refuses kept) { closing = closing_after kept.session kept.closing kept.stands pair; contradictions = contradictions })
+    (TellsNext kept (said_behind profile.marks b.earlier (accepted_of t.answers)) (placed_here kept pair)) more
+    → AreReasons profile kept contradictions → AddsReason (placed_here kept pair) kept.contradictions contradictions
+    → AreTold profile b client server (record (refuses kept) { contradictions = contradictions })
     ((text ++ title_of kept) ++ more) behind
 told_contradiction profile b client server kept text left behind pair more contradictions t next notes is reasons adds =
     let past = accepted_of t.answers in
-    let bad = placed_at kept.stands kept.facts.position pair in
+    let bad = placed_here kept pair in
     let facts = said_behind profile.marks b.earlier past in
     let judged = contradiction_refused profile b.earlier past pair kept.facts kept.facts left behind t.noted (notes past t.noted) next in
-    let placed = placed_there past kept.stands kept.facts.position pair t.stands_there t.noted.position in
+    let placed = next_there profile b client server kept text left pair t in
     let before = bad_before profile b client server kept text left t pair.index next.index in
     let told : HasReason kept bad → WasRefused t.answers bad =
     λ h. all_at (λ (c : ToldContradiction). WasRefused t.answers c.bad) (record { bad = bad; reason = h.0 }) kept.contradictions t.refused (in_contains _ kept.contradictions h.1) in
@@ -304,11 +301,11 @@ told_contradiction profile b client server kept text left behind pair more contr
     (refused_explained profile b.earlier b.bad t.answers pair Contradiction more judged.1
     (told_as (bad_behind b.bad t.answers pair.index) (standing past) pair.index Contradiction pair.place.line pair.initial _
     (IsReason profile b.earlier (bad_behind b.bad t.answers pair.index) t.answers pair Contradiction) more
-    (λ reason is. subst (λ (q : ℕ × ℕ × Profile × Placed × List Placed × List Cited).
-    IsContradiction (are_looked_for q.0 (length q.4)) (WasRefused t.answers q.3) q.1 q.2 facts q.3 q.4 q.5 reason)
-    (λ i. (before i, t.session_is i, t.noted.profile_is i, placed i, t.placed_are i, t.cited_are i))
-    (told_before (are_looked_for kept.bad (length kept.placed)) (HasReason kept bad) (WasRefused t.answers bad) kept.session (profile_kept kept.facts) facts bad kept.placed
-    kept.cited reason told is))
+    (λ reason is. subst (λ (q : ℕ × ℕ × Profile × Placed × List Cited).
+    IsContradiction (are_looked_for q.0 (length q.4)) (WasRefused t.answers q.3) q.1 q.2 facts q.3 q.4 reason)
+    (λ i. (before i, t.session_is i, t.noted.profile_is i, placed i, t.accepted_are i))
+    (told_before (are_looked_for kept.bad (length kept.accepted)) (HasReason kept bad) (WasRefused t.answers bad) kept.session (profile_kept kept.facts) facts bad kept.accepted
+    reason told is))
     (told_behind profile b client server kept text left t pair.index next.index Contradiction pair.place.line pair.initial _ more is)))
     (told_long kept.bad kept.stands pair.index Contradiction pair.place.line pair.initial (TellsNext kept facts bad) more is)
     reasons (refused_after t.answers pair bad kept.contradictions contradictions (sym placed) t.refused adds)
@@ -317,14 +314,13 @@ told_contradiction profile b client server kept text left behind pair more contr
 contradiction_due : (profile : Profile) (b : Before) (client : ClientStream) (server : List ℕ) (kept : Kept) (text : List ℕ) (left behind : Unpaired) (pair : Paired)
     → profile_kept kept.facts ≡ profile → AreTold profile b client server kept text left → IsNext left pair behind
     → ((past : List Paired) → HasNotedBehind profile kept.facts b.earlier past → IsNotedBehind profile b.earlier past pair kept.facts kept.facts kinds.Contradiction)
-    → AllByRecursion (FitsThere (profile_kept kept.facts)) (placed_at kept.stands kept.facts.position pair ∷ kept.placed)
-    × (SomeHas (profile_kept kept.facts) (told_with (profile_kept kept.facts) (placed_at kept.stands kept.facts.position pair) kept.placed (below (length kept.placed))) → ⊥)
+    → Fits kept (placed_here kept pair) × Contradicts kept (placed_here kept pair)
 contradiction_due profile b client server kept text left behind pair profile-is t next notes =
     let past = accepted_of t.answers in
     let due = told_due profile b client server kept text left behind pair t next in
-    let placed = placed_there past kept.stands kept.facts.position pair t.stands_there t.noted.position in
+    let placed = next_there profile b client server kept text left pair t in
     subst (λ (q : Profile × Placed × List Placed). AllByRecursion (FitsThere q.0) (q.1 ∷ q.2) × (SomeHas q.0 (told_with q.0 q.1 q.2 (below (length q.2))) → ⊥))
-    (λ i. (sym profile-is i, sym placed i, sym t.placed_are i))
+    (λ i. (sym profile-is i, sym placed i, sym (all_there profile b client server kept text left t) i))
     (let conflicts = noted_conflicts_behind profile kept.facts b.earlier past pair t.noted due (notes past t.noted) in
     ((conflicts.0, accepted_fit_behind profile kept.facts b.earlier past t.noted), conflicts.1))
 
@@ -344,83 +340,73 @@ if_ok (Ok x) p q f = f x p q
 if_ok (Err e) p q f = tt
 
 pub noted_consistent : (profile : Profile) (b : Before) (client : ClientStream) (server : List ℕ) (kept new : Kept) (facts : FactsKept) (noted : Noted)
-    (position : Position) (closing : Option Cited) (text after : List ℕ) (left behind : Unpaired) (pair : Paired)
-    → noted ≡ kinds.Consistent → position ≡ kept.facts.position → closing ≡ closing_after kept.session kept.closing kept.stands pair
+    (text after : List ℕ) (left behind : Unpaired) (pair : Paired) → noted ≡ kinds.Consistent
     → ((past : List Paired) → HasNotedBehind profile kept.facts b.earlier past → IsNotedBehind profile b.earlier past pair kept.facts facts noted)
-    → new ≡ keeps position pair (record kept { facts = facts; closing = closing }) → after ≡ text
+    → new ≡ keeps pair (record kept { facts = facts }) → after ≡ text
     → AreTold profile b client server kept text left → IsNext left pair behind → AreTold profile b client server new after behind
-noted_consistent profile b client server kept new facts noted position closing text after left behind pair is position-is closing-is notes new-is after-is t next =
-    subst (λ (q : Kept × List ℕ). AreTold profile b client server q.0 q.1 behind)
-    (λ i. (sym (new-is ∙ ap (λ (q : Position × Option Cited). keeps q.0 pair (record kept { facts = facts; closing = q.1 })) (λ i. (position-is i, closing-is i))) i, sym after-is i))
+noted_consistent profile b client server kept new facts noted text after left behind pair is notes new-is after-is t next =
+    subst (λ (q : Kept × List ℕ). AreTold profile b client server q.0 q.1 behind) (λ i. (sym new-is i, sym after-is i))
     (told_good profile b client server kept facts text left behind pair t next (λ past h. subst (IsNotedBehind profile b.earlier past pair kept.facts facts) is (notes past h)))
 
 pub noted_out_of_place : (profile : Profile) (b : Before) (client : ClientStream) (server : List ℕ) (kept new : Kept) (facts : FactsKept) (noted : Noted)
-    (closing : Option Cited) (text after : List ℕ) (left behind : Unpaired) (pair : Paired)
-    → noted ≡ kinds.OutOfPlace → closing ≡ closing_after kept.session kept.closing kept.stands pair
+    (text after : List ℕ) (left behind : Unpaired) (pair : Paired) → noted ≡ kinds.OutOfPlace
     → ((past : List Paired) → HasNotedBehind profile kept.facts b.earlier past → IsNotedBehind profile b.earlier past pair kept.facts facts noted)
-    → new ≡ refuses (record kept { facts = facts; closing = closing })
+    → new ≡ refuses (record kept { facts = facts })
     → GoesOn (IsTold kept.bad kept.stands pair.index OutOfPlace pair.place.line pair.initial
-    (λ reason. reason ≡ unfitting_told (record kept { facts = facts; closing = closing }) pair)) (text ++ title_of kept) after
+    (λ reason. reason ≡ unfitting_told (record kept { facts = facts }) pair)) (text ++ title_of kept) after
     → AreTold profile b client server kept text left → IsNext left pair behind → AreTold profile b client server new after behind
-noted_out_of_place profile b client server kept new facts noted closing text after left behind pair is closing-is notes new-is (more, after-is, told) t next =
+noted_out_of_place profile b client server kept new facts noted text after left behind pair is notes new-is (more, after-is, told) t next =
     let at = λ (past : List Paired) (h : HasNotedBehind profile kept.facts b.earlier past). subst (IsNotedBehind profile b.earlier past pair kept.facts facts) is (notes past h) in
     let same : facts ≡ kept.facts = (at (accepted_of t.answers) t.noted).1 in
     subst (λ (q : Kept × List ℕ). AreTold profile b client server q.0 q.1 behind)
-    (λ i. (sym (new-is ∙ ap (λ (q : FactsKept × Option Cited). refuses (record kept { facts = q.0; closing = q.1 })) (λ i. (same i, closing-is i))) i, sym after-is i))
+    (λ i. (sym (new-is ∙ ap (λ facts. refuses (record kept { facts = facts })) same) i, sym after-is i))
     (told_unfitting profile b client server kept text left behind pair more t next
     (λ past h. subst (λ f. IsNotedBehind profile b.earlier past pair kept.facts f kinds.OutOfPlace) same (at past h))
     (subst (λ (f : FactsKept). IsTold kept.bad kept.stands pair.index OutOfPlace pair.place.line pair.initial
     (λ reason. reason ≡ unfitting_told (record kept { facts = f }) pair) more) same told))
 
 -- what all that was accepted says refuses it
-refused_here : (profile : Profile) (b : Before) (client : ClientStream) (server : List ℕ) (kept : Kept) (facts : FactsKept) (noted : Noted) (position : Position) (text : List ℕ)
-    (left behind : Unpaired) (pair : Paired) → noted ≡ kinds.Contradiction → position ≡ kept.facts.position
+refused_here : (profile : Profile) (b : Before) (client : ClientStream) (server : List ℕ) (kept : Kept) (facts : FactsKept) (noted : Noted) (text : List ℕ)
+    (left behind : Unpaired) (pair : Paired) → noted ≡ kinds.Contradiction
     → ((past : List Paired) → HasNotedBehind profile kept.facts b.earlier past → IsNotedBehind profile b.earlier past pair kept.facts facts noted)
     → (t : AreTold profile b client server kept text left) → IsNext left pair behind
-    → IsRefused (record kept { facts = facts }) (said_behind profile.marks b.earlier (accepted_of t.answers)) (placed_at kept.stands position pair)
-refused_here profile b client server kept facts noted position text left behind pair is position-is notes t next few =
+    → IsRefused (record kept { facts = facts }) (said_behind profile.marks b.earlier (accepted_of t.answers)) (placed_here kept pair)
+refused_here profile b client server kept facts noted text left behind pair is notes t next few =
     let past = accepted_of t.answers in
     let at = subst (IsNotedBehind profile b.earlier past pair kept.facts facts) is (notes past t.noted) in
     let same : facts ≡ kept.facts = at.2 in
     let due = told_due profile b client server kept text left behind pair t next in
-    let placed = ap (λ at. placed_at kept.stands at pair) position-is ∙ placed_there past kept.stands kept.facts.position pair t.stands_there t.noted.position in
+    let placed = next_there profile b client server kept text left pair t in
     subst (λ (q : FactsKept × Placed × Profile). AreHeld q.2 (said_behind profile.marks b.earlier past ++ told q.2 q.1) (held_by q.0 q.1))
     (λ i. (sym same i, sym placed i, sym (ap profile_kept same ∙ t.noted.profile_is) i))
     (held_refused profile kept.facts b.earlier past pair t.noted due (subst (λ f. IsNotedBehind profile b.earlier past pair kept.facts f kinds.Contradiction) same at) few)
 
 -- an exchange that contradicts those that were accepted, by what is noted of it
 pub noted_contradiction : (profile : Profile) (b : Before) (client : ClientStream) (server : List ℕ) (kept new : Kept) (facts : FactsKept) (noted : Noted)
-    (position : Position) (closing : Option Cited) (contradictions : List ToldContradiction) (text after : List ℕ) (left behind : Unpaired) (pair : Paired)
-    → noted ≡ kinds.Contradiction → position ≡ kept.facts.position → closing ≡ closing_after kept.session kept.closing kept.stands pair
+    (contradictions : List ToldContradiction) (text after : List ℕ) (left behind : Unpaired) (pair : Paired) → noted ≡ kinds.Contradiction
     → ((past : List Paired) → HasNotedBehind profile kept.facts b.earlier past → IsNotedBehind profile b.earlier past pair kept.facts facts noted)
-    → new ≡ record (refuses (record kept { facts = facts; closing = closing })) { contradictions = contradictions } → AreReasons (profile_kept facts) kept contradictions
-    → AddsReason (placed_at kept.stands position pair) kept.contradictions contradictions
-    → ((said : List Fact) → IsRefused (record kept { facts = facts }) said (placed_at kept.stands position pair)
+    → new ≡ record (refuses (record kept { facts = facts })) { contradictions = contradictions } → AreReasons (profile_kept facts) kept contradictions
+    → AddsReason (placed_here kept pair) kept.contradictions contradictions
+    → ((said : List Fact) → IsRefused (record kept { facts = facts }) said (placed_here kept pair)
     → GoesOn (IsTold kept.bad kept.stands pair.index Contradiction pair.place.line pair.initial
-    (TellsNext (record kept { facts = facts }) said (placed_at kept.stands position pair))) (text ++ title_of kept) after)
+    (TellsNext (record kept { facts = facts }) said (placed_here kept pair))) (text ++ title_of kept) after)
     → AreTold profile b client server kept text left → IsNext left pair behind → AreTold profile b client server new after behind
-noted_contradiction profile b client server kept new facts noted position closing contradictions text after left behind pair is position-is closing-is notes new-is reasons adds
-    tells t next =
+noted_contradiction profile b client server kept new facts noted contradictions text after left behind pair is notes new-is reasons adds tells t next =
     let at = λ (past : List Paired) (h : HasNotedBehind profile kept.facts b.earlier past). subst (IsNotedBehind profile b.earlier past pair kept.facts facts) is (notes past h) in
     let past = accepted_of t.answers in
     let same : facts ≡ kept.facts = (at past t.noted).2 in
     let said = said_behind profile.marks b.earlier past in
-    let refused = refused_here profile b client server kept facts noted position text left behind pair is position-is notes t next in
+    let refused = refused_here profile b client server kept facts noted text left behind pair is notes t next in
     let goes = tells said refused in
     let more = goes.0 in
     let told = goes.2 in
     subst (λ (q : Kept × List ℕ). AreTold profile b client server q.0 q.1 behind)
-    (λ i. (
-      sym (new-is ∙ ap (λ (q : FactsKept × Option Cited). record (refuses (record kept { facts = q.0; closing = q.1 })) { contradictions = contradictions })
-          (λ i. (same i, closing-is i))) i,
-      sym goes.1 i,
-    ))
+    (λ i. (sym (new-is ∙ ap (λ facts. record (refuses (record kept { facts = facts })) { contradictions = contradictions }) same) i, sym goes.1 i))
     (told_contradiction profile b client server kept text left behind pair more contradictions t next
     (λ past h. subst (λ f. IsNotedBehind profile b.earlier past pair kept.facts f kinds.Contradiction) same (at past h))
-    (subst (λ (q : FactsKept × Position). IsTold kept.bad kept.stands pair.index Contradiction pair.place.line pair.initial
-    (TellsNext (record kept { facts = q.0 }) said (placed_at kept.stands q.1 pair)) more) (λ i. (same i, position-is i)) told)
-    (subst (λ profile. AreReasons profile kept contradictions) (ap profile_kept same ∙ t.noted.profile_is) reasons)
-    (subst (λ at. AddsReason (placed_at kept.stands at pair) kept.contradictions contradictions) position-is adds))
+    (subst (λ (f : FactsKept). IsTold kept.bad kept.stands pair.index Contradiction pair.place.line pair.initial
+    (TellsNext (record kept { facts = f }) said (placed_here kept pair)) more) same told)
+    (subst (λ profile. AreReasons profile kept contradictions) (ap profile_kept same ∙ t.noted.profile_is) reasons) adds)
 
 -- and the reasons that are kept are those by what is noted
 pub noted_contradiction_reasons : (b : Before) (client : ClientStream) (server : List ℕ) (kept : Kept) (facts : FactsKept) (noted : Noted) (text : List ℕ) (left behind : Unpaired) (pair : Paired)
@@ -433,19 +419,15 @@ noted_contradiction_reasons b client server kept facts noted text left behind pa
     subst (λ f. AreReasons (profile_kept f) kept kept.contradictions) (sym same) t.reasons
 
 -- what the search for its reasons asks for
-pub noted_contradiction_due : (b : Before) (client : ClientStream) (server : List ℕ) (kept : Kept) (facts : FactsKept) (noted : Noted) (position : Position) (text : List ℕ) (left behind : Unpaired)
-    (pair : Paired)
-    → noted ≡ kinds.Contradiction → position ≡ kept.facts.position
+pub noted_contradiction_due : (b : Before) (client : ClientStream) (server : List ℕ) (kept : Kept) (facts : FactsKept) (noted : Noted) (text : List ℕ) (left behind : Unpaired) (pair : Paired)
+    → noted ≡ kinds.Contradiction
     → ((past : List Paired) → HasNotedBehind (profile_kept kept.facts) kept.facts b.earlier past → IsNotedBehind (profile_kept kept.facts) b.earlier past pair kept.facts facts noted)
     → AreTold (profile_kept kept.facts) b client server kept text left → IsNext left pair behind
-    → AllByRecursion (FitsThere (profile_kept facts)) (placed_at kept.stands position pair ∷ kept.placed)
-    × (SomeHas (profile_kept facts) (told_with (profile_kept facts) (placed_at kept.stands position pair) kept.placed (below (length kept.placed))) → ⊥)
-noted_contradiction_due b client server kept facts noted position text left behind pair is position-is notes t next =
+    → Fits (record kept { facts = facts }) (placed_here kept pair) × Contradicts (record kept { facts = facts }) (placed_here kept pair)
+noted_contradiction_due b client server kept facts noted text left behind pair is notes t next =
     let profile = profile_kept kept.facts in
     let at = λ (past : List Paired) (h : HasNotedBehind profile kept.facts b.earlier past). subst (IsNotedBehind profile b.earlier past pair kept.facts facts) is (notes past h) in
     let same : facts ≡ kept.facts = (at (accepted_of t.answers) t.noted).2 in
-    subst (λ (q : FactsKept × Position). AllByRecursion (FitsThere (profile_kept q.0)) (placed_at kept.stands q.1 pair ∷ kept.placed)
-    × (SomeHas (profile_kept q.0) (told_with (profile_kept q.0) (placed_at kept.stands q.1 pair) kept.placed (below (length kept.placed))) → ⊥))
-    (λ i. (sym same i, sym position-is i))
+    subst (λ f. Fits (record kept { facts = f }) (placed_here kept pair) × Contradicts (record kept { facts = f }) (placed_here kept pair)) (sym same)
     (contradiction_due profile b client server kept text left behind pair refl t next
     (λ past h. subst (λ f. IsNotedBehind profile b.earlier past pair kept.facts f kinds.Contradiction) same (at past h)))

@@ -7,3 +7,4 @@ pub mod ConflictLemmas
 pub mod ReasonsGoOn
 pub mod OneSession
 pub mod LowMarks
+pub mod ClosingAnswers

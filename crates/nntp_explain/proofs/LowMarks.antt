@@ -6,10 +6,10 @@ use Rattle.std.specs.Cmp.Lexicographic.{nat_list_cmp_total, texts_ties, bytes_de
 use Rattle.nntp_wire.specs.Answer.{Asked, Response, group_is, numbers_are, sends, active_are, plain, overviews_are}
 use Rattle.nntp_wire.specs.declared.water_marks.WaterMarks.{WaterMarks}
 use Rattle.nntp_article.specs.{Session.{Spool.{Name}, Machine.{Visible, visible_after, selects, are_zeros, is_same, start}}, Inner.Misfit.{IsAbove}}
-use Rattle.nntp_pair.specs.Pairing.{Paired, asked_of, responses_of}
-use Rattle.nntp_said.specs.{Asks.{position_after}, declared.position.Position.{Position, TheVariants.{Nowhere}}}
-use Rattle.nntp_theory.specs.{Classes.{visible_from}, Conflict.{placed_from, placed_of}}
-use Rattle.nntp_explain.specs.Reasons.{gives_low, low_giver}
+use Rattle.nntp_pair.specs.Pairing.{Paired, asked_at, asked_of, responses_of}
+use Rattle.nntp_theory.specs.Classes.{visible_from}
+use Rattle.nntp_facts.specs.{declared.standing.Standing.{Standing}, Standing.{nowhere, standing_after}}
+use Rattle.nntp_explain.specs.{Reasons.{gives_low, low_giver}, Standing.{cited, cited_from}}
 
 -- a place is found among so many
 abbrev pub IsFoundAmong : ℕ → Option ℕ → Type 0
@@ -63,34 +63,32 @@ given_by v asked (overviews_are lines) name low e = inl e
 given_by v asked (plain code) name low e = inl e
 
 -- so a low mark was there before the answers, or one of them gives it
-giver_from : (v : Visible) (at : Position) (ps : List Asked) (answers : List Response) (name : Name) (low : ℕ)
-    → get (visible_from v ps answers).lows name ≡ Some low
-    → (get v.lows name ≡ Some low) ⊎ IsFoundAmong (length (placed_from v at ps answers)) (low_giver name low (placed_from v at ps answers))
-giver_from v at [] [] name low e = inl e
-giver_from v at [] (response ∷ more) name low e = inl e
-giver_from v at (asked ∷ ps) [] name low e = inl e
-giver_from v at (asked ∷ ps) (response ∷ more) name low e =
-    let behind = placed_from (visible_after v asked response) (position_after at asked response) ps more in
-    elim (giver_from (visible_after v asked response) (position_after at asked response) ps more name low e) [
-      | inl here ↦ elim (given_by v asked response name low here) [
+giver_from : (session : ℕ) (s : Standing) (v : Visible) (pairs : List Paired) (name : Name) (low : ℕ)
+    → get (visible_from v (asked_of pairs) (responses_of pairs)).lows name ≡ Some low
+    → (get v.lows name ≡ Some low) ⊎ IsFoundAmong (length (cited_from session s pairs)) (low_giver name low (cited_from session s pairs))
+giver_from session s v [] name low e = inl e
+giver_from session s v (pair ∷ pairs) name low e =
+    let behind = cited_from session (standing_after s pair) pairs in
+    elim (giver_from session (standing_after s pair) (visible_after v (asked_at pair.place) pair.response) pairs name low e) [
+      | inl here ↦ elim (given_by v (asked_at pair.place) pair.response name low here) [
         | inl before ↦ inl before
-        | inr gives ↦ inr (found_here (gives_low name low response) (low_giver name low behind) (length behind) gives)
+        | inr gives ↦ inr (found_here (gives_low name low pair.response) (low_giver name low behind) (length behind) gives)
       ]
-      | inr found ↦ inr (found_behind (gives_low name low response) (low_giver name low behind) (length behind) found)
+      | inr found ↦ inr (found_behind (gives_low name low pair.response) (low_giver name low behind) (length behind) found)
     ]
 
 -- at the start there is none
-pub low_giver_found : (past : List Paired) (low : ℕ) (marked : Name × WaterMarks)
+pub low_giver_found : (session : ℕ) (past : List Paired) (low : ℕ) (marked : Name × WaterMarks)
     → IsAbove (visible_from start.visible (asked_of past) (responses_of past)) low marked
-    → IsFoundAmong (length (placed_of past)) (low_giver marked.0 low (placed_of past))
-low_giver_found past low marked above = elim (giver_from start.visible Nowhere (asked_of past) (responses_of past) marked.0 low above.0) [
+    → IsFoundAmong (length (cited session past)) (low_giver marked.0 low (cited session past))
+low_giver_found session past low marked above = elim (giver_from session nowhere start.visible past marked.0 low above.0) [
   | inl none ↦ absurd (let no : None ≡ Some low = sym (get-empty (slice_cmp nat_cmp) marked.0) ∙ none in cc)
   | inr found ↦ found
 ]
 
 -- so the marks of an answer that are below an earlier low mark have a giver
-pub giver_of_marks : (past : List Paired) (low : ℕ) (marked : Option (Name × WaterMarks))
+pub giver_of_marks : (session : ℕ) (past : List Paired) (low : ℕ) (marked : Option (Name × WaterMarks))
     → MatchOption marked ⊥ (IsAbove (visible_from start.visible (asked_of past) (responses_of past)) low)
-    → MatchOption marked ⊥ (λ m. IsFoundAmong (length (placed_of past)) (low_giver m.0 low (placed_of past)))
-giver_of_marks past low None above = above
-giver_of_marks past low (Some m) above = low_giver_found past low m above
+    → MatchOption marked ⊥ (λ m. IsFoundAmong (length (cited session past)) (low_giver m.0 low (cited session past)))
+giver_of_marks session past low None above = above
+giver_of_marks session past low (Some m) above = low_giver_found session past low m above

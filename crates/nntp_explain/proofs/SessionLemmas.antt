@@ -1,18 +1,16 @@
--- One session behind others: its answers as they are judged, placed and cited, its title, and what is counted of it.
-use Rattle.std.proofs.Common.{◌≡◌, ◌∙◌, sym, subst, refl, ap, ℕ, zero, suc, ◌+◌, false, List, [], ◌∷◌, ◌++◌, Option, None, Some, length, drop, add-one, arith}
-use Rattle.std.{proofs.{Common.{append_assoc, append-nil, length-append}, lemmas.{Grind.{flat_map-append}, List.{drop_at}}}, specs.List.{flat_map}}
-use Rattle.std.specs.Option.{option_map_or}
+-- One session behind others: its answers as they are judged and cited, its title, and what is counted of it.
+use Rattle.std.proofs.Common.{◌≡◌, ◌∙◌, sym, subst, refl, ap, ℕ, zero, suc, ◌+◌, false, List, [], ◌∷◌, ◌++◌, Option, None, Some, length, map, add-one, arith}
+use Rattle.std.{proofs.{Common.{append_assoc, append-nil, ap₂, length-append}, lemmas.List.{map-append}}, specs.{List.{flat_map}, Option.{option_map_or}}}
 use Rattle.nntp_article.specs.{declared.session.profile.Profile.{Profile}, Session.Machine.{Visible, start, visible_after}}
 use Rattle.nntp_pair.specs.Pairing.{Paired, Unpaired, IsNext, Ending, end, bad as ends_at, asked_at, asked_of, responses_of, streams}
-use Rattle.nntp_said.specs.{Asks.{position_after}, declared.position.Position.{Position, TheVariants.{Nowhere}}}
-use Rattle.nntp_theory.specs.{Conflict.{placed_from, placed_of}, Reading.{Judged, accepted_of, IsJudged, AreJudged}}
+use Rattle.nntp_theory.specs.{Conflict.{Placed, placed_from, placed_of}, Reading.{Judged, accepted_of, IsJudged, AreJudged}}
 use Rattle.nntp_theory.proofs.Reading.JudgedAnswers.{accepted_behind as all_behind, judged_push, judged_count, accepted_few, visible_behind, accepted_open}
-use Rattle.nntp_facts.specs.Inner.Noted.{FactsKept, HasNotedBehind, IsDue}
+use Rattle.nntp_facts.specs.{Inner.Noted.{FactsKept, HasNotedBehind, IsDue}, declared.standing.Standing.{Standing}, Standing.{nowhere, standing}}
+use Rattle.nntp_facts.{specs.Standing.{standing_after, stands_of}, proofs.Reading.Standings.{name_after, position_next}}
 use Rattle.nntp_several.specs.{Conflict.{placed_of_all}, Reading.{ReadSession}}
 use Rattle.nntp_printing.specs.Title.{title_line}
-use Rattle.nntp_explain.specs.{Explaining.{counts_behind}, Inner.ExplainingView.{untold, title_told, accepted_behind}, Standing.{Standing, standing}}
-use Rattle.nntp_explain.specs.Standing.{standing_after, cited, cited_at, cited_from, cited_each, number_behind, cited_of_all}
-use Rattle.nntp_explain.proofs.AnswerLemmas.{cited_push, few_accepted}
+use Rattle.nntp_explain.specs.{Explaining.{counts_behind}, Inner.ExplainingView.{untold, title_told, accepted_behind}, Standing.{cited, cited_at, cited_from}}
+use Rattle.nntp_explain.{specs.Standing.{cited_each, number_behind, cited_of_all}, proofs.AnswerLemmas.{cited_push, few_accepted}}
 use Rattle.nntp_wire.specs.Session.{ClientStream}
 
 -- ---- its answers, whatever decides which exchanges stand
@@ -44,50 +42,45 @@ due_behind Stand profile earlier client server answers left after pair facts jud
           (accepted_open Stand [] (streams client server) left answers (λ e. refl) judged next.is_open);
     }
 
--- ---- as they are placed and cited
+-- ---- as they are cited
 
-cited_count : (session : ℕ) (s : Option Standing) (pairs : List Paired) → length (cited_from session s pairs) ≡ length pairs
+pub cited_count : (session : ℕ) (s : Standing) (pairs : List Paired) → length (cited_from session s pairs) ≡ length pairs
 cited_count session s [] = refl
 cited_count session s (pair ∷ pairs) = let rest = cited_count session (standing_after s pair) pairs in omega (arith, rest)
 
-placed_count : (v : Visible) (at : Position) (pairs : List Paired) → length (placed_from v at (asked_of pairs) (responses_of pairs)) ≡ length pairs
-placed_count v at [] = refl
-placed_count v at (pair ∷ pairs) =
-    let rest = placed_count (visible_after v (asked_at pair.place) pair.response) (position_after at (asked_at pair.place) pair.response) pairs in
-    omega (arith, rest)
+-- each stands where it does by the answers of its session
+pub cited_stand : (session : ℕ) (s : Standing) (v : Visible) (pairs : List Paired) → s.selected ≡ v.selected
+    → map stands_of (cited_from session s pairs) ≡ placed_from v s.position (asked_of pairs) (responses_of pairs)
+cited_stand session s v [] name = refl
+cited_stand session s v (pair ∷ pairs) name =
+    let next = visible_after v (asked_at pair.place) pair.response in
+    let rest = cited_stand session (standing_after s pair) next pairs (name_after pair s v name)
+    ∙ ap (λ at. placed_from next at (asked_of pairs) (responses_of pairs)) (position_next pair s) in
+    λ i. record { selected = name i; position = s.position; asked = asked_at pair.place; response = pair.response } ∷ rest i
 
--- as many are cited as are placed
-pub as_many_cited : (session : ℕ) (earlier : List (List Paired)) → length (cited_each session earlier) ≡ length (flat_map placed_of earlier)
-as_many_cited session [] = refl
-as_many_cited session (pairs ∷ earlier) =
-    let these = length-append (cited session pairs) (cited_each (session + 1) earlier) in
-    let those = length-append (placed_of pairs) (flat_map placed_of earlier) in
-    let one = cited_count session None pairs in
-    let other = placed_count start.visible Nowhere pairs in
-    let rest = as_many_cited (session + 1) earlier in
-    omega (arith, these, those, one, other, rest)
+each_stand : (session : ℕ) (earlier : List (List Paired)) → map stands_of (cited_each session earlier) ≡ flat_map placed_of earlier
+each_stand session [] = refl
+each_stand session (pairs ∷ earlier) =
+    map-append stands_of (cited session pairs) (cited_each (session + 1) earlier)
+    ∙ ap₂ (λ (own rest : List Placed). own ++ rest) (cited_stand session nowhere start.visible pairs refl) (each_stand (session + 1) earlier)
 
-pub as_many_of_all : (earlier : List (List Paired)) (past : List Paired) → length (placed_of_all earlier past) ≡ length (cited_of_all earlier past)
-as_many_of_all earlier past =
-    let these = length-append (cited_each 1 earlier) (cited (number_behind earlier) past) in
-    let those = length-append (flat_map placed_of earlier) (placed_of past) in
-    let others = as_many_cited 1 earlier in
-    let one = cited_count (number_behind earlier) None past in
-    let other = placed_count start.visible Nowhere past in
-    omega (arith, these, those, others, one, other)
+pub all_stand : (earlier : List (List Paired)) (past : List Paired) → map stands_of (cited_of_all earlier past) ≡ placed_of_all earlier past
+all_stand earlier past =
+    map-append stands_of (cited_each 1 earlier) (cited (number_behind earlier) past)
+    ∙ ap₂ (λ (others own : List Placed). others ++ own) (each_stand 1 earlier) (cited_stand (number_behind earlier) nowhere start.visible past refl)
 
 -- as many as there are
 pub cited_in_all : (earlier : List (List Paired)) (past : List Paired) → length (cited_of_all earlier past) ≡ length (cited_each 1 earlier) + length past
 cited_in_all earlier past =
     let both = length-append (cited_each 1 earlier) (cited (number_behind earlier) past) in
-    let own = cited_count (number_behind earlier) None past in
+    let own = cited_count (number_behind earlier) nowhere past in
     omega (arith, both, own)
 
 -- one answer more is cited
 pub cited_next : (earlier : List (List Paired)) (past : List Paired) (pair : Paired)
     → cited_of_all earlier (past ++ pair ∷ []) ≡ cited_of_all earlier past ++ cited_at (number_behind earlier) (standing past) pair ∷ []
 cited_next earlier past pair =
-    ap (λ own. cited_each 1 earlier ++ own) (cited_push (number_behind earlier) None past pair)
+    ap (λ own. cited_each 1 earlier ++ own) (cited_push (number_behind earlier) nowhere past pair)
     ∙ sym (append_assoc (cited_each 1 earlier) (cited (number_behind earlier) past) (cited_at (number_behind earlier) (standing past) pair ∷ []))
 
 -- and one session more
@@ -104,18 +97,11 @@ cited_with earlier past =
     let same : 1 + length earlier ≡ number_behind earlier = omega arith in
     sym (each_push 1 earlier past ∙ ap (λ n. cited_each 1 earlier ++ cited n past) same)
 
-pub placed_with : (earlier : List (List Paired)) (past : List Paired) → flat_map placed_of earlier ++ placed_of past ≡ flat_map placed_of (earlier ++ past ∷ [])
-placed_with earlier past = ap (λ own. flat_map placed_of earlier ++ own) (sym (append-nil (placed_of past))) ∙ sym (flat_map-append placed_of earlier (past ∷ []))
-
 -- those of one more that was read
 pub behind_push : (earlier : List (List Paired)) (readings : List ReadSession) (read : ReadSession)
     → accepted_behind earlier (readings ++ read ∷ []) ≡ accepted_behind earlier readings ++ accepted_of read.answers ∷ []
 behind_push earlier [] read = refl
 behind_push earlier (first ∷ readings) read = behind_push (earlier ++ accepted_of first.answers ∷ []) readings read
-
--- behind those of others stand its own
-pub own_part : {T : Type 0} (others : ℕ) (all front own : List T) → others ≡ length front → all ≡ front ++ own → drop others all ≡ own
-own_part others all front own count whole = ap (drop others) whole ∙ drop_at front own others (sym count)
 
 -- ---- its title
 

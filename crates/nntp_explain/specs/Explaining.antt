@@ -4,16 +4,17 @@ use Rattle.std.specs.{Prelude.{count_by, is_some, map, Option, Some, MatchOption
 use Rattle.nntp_wire.specs.{Lines.{lines_of_stream}, declared.{limit.Limit.{Limit}, marks.Marks.{Marks}}, Misspelling.{misspelling}, Session.{ClientStream}}
 use Rattle.nntp_article.specs.{Session.{Machine.{Visible, start}, Limit.{profile_of}, Misfit.{misfit}}, declared.session.profile.Profile.{Profile}}
 use Rattle.nntp_said.specs.Facts.{Fact}
-use Rattle.nntp_theory.specs.{Answered.{facts_in, facts_of_all}, Permitted.{exchanged}, Classes.{visible_from}, Conflict.{Placed, placed_of, placed_behind}}
-use Rattle.nntp_theory.specs.{Conflict.{Core, IsFound, places_of, told, told_with, Point, IsFirstPoint, SomeHas}, Reading.{Judged, Accepted, Refused}}
-use Rattle.nntp_theory.specs.Reading.{Unspelled, accepted_of, class_behind, IsReading}
+use Rattle.nntp_theory.specs.{Answered.{facts_in, facts_of_all}, Permitted.{exchanged}, Classes.{visible_from}, Conflict.{Placed, placed_behind, Core, IsFound}}
+use Rattle.nntp_theory.specs.{Conflict.{places_of, told, told_with, Point, IsFirstPoint, SomeHas}, Reading.{Judged, Accepted, Refused, Unspelled, accepted_of}}
+use Rattle.nntp_theory.specs.Reading.{class_behind, IsReading}
 use Rattle.nntp_pair.specs.{Classes.{class_of}, declared.class.{Class.{Class, TheVariants.{Malformed, OutOfPlace, Contradiction}}, PairClass.{PairClass}}}
 use Rattle.nntp_pair.specs.{declared.class.PairClass.TheVariants.{Surplus as PairSurplus, Cut as PairCut, Malformed as PairMalformed}, Pairing.{Paired}}
 use Rattle.nntp_pair.specs.Pairing.{Unpaired, Ending, end, bad as ends_at, line_ahead, asked_at, asked_of, responses_of, has_line}
 use Rattle.nntp_printing.specs.{BadAnswer.{IsFirstLine, bad_lines, shown}, Title.{title_line}}
-use Rattle.nntp_several.specs.{Conflict.{placed_of_all}, Reading.{ReadSession, AreReadings, IsReadingOfAll}, Sessions.{Named, unnamed}}
-use Rattle.nntp_explain.specs.{Reasons.{standing_line, unfitting_lines, misspelling_line, cut_line, surplus_lines}, Says.{conflict_lines}, Standing.{Standing}}
-use Rattle.nntp_explain.specs.Standing.{Cited, standing, cited, number_behind, cited_of_all, closing}
+use Rattle.nntp_several.specs.{Reading.{ReadSession, AreReadings, IsReadingOfAll}, Sessions.{Named, unnamed}}
+use Rattle.nntp_explain.specs.{Reasons.{standing_line, unfitting_lines, misspelling_line, cut_line, surplus_lines}, Says.{conflict_lines}, Standing.{cited}}
+use Rattle.nntp_explain.specs.Standing.{number_behind, cited_of_all}
+use Rattle.nntp_facts.specs.{declared.{standing.Standing.{Standing}, placed.Placed.{Placed as Cited}}, Standing.{standing, stands_of}}
 
 -- the visible state that accepted answers leave
 abbrev pub visible_left : List Paired → Visible
@@ -26,41 +27,41 @@ abbrev pub front_lines : ℕ → Class → Option (List ℕ) → List ℕ → Li
 front_lines index class line initial = bad_lines index class (option_map shown line) (shown initial)
 
 -- where the session stands, if fewer than a hundred answers are bad before this one
-abbrev pub place_lines : ℕ → Option Standing → List ℕ
+abbrev pub place_lines : ℕ → Standing → List ℕ
 place_lines before stands = if nat_lt before 100 then standing_line stands else []
 
 -- the text is what is printed of a bad answer: its lines; and if fewer than a hundred are bad before it, where the session stands, and a reason
-abbrev pub IsTold : ℕ → Option Standing → ℕ → Class → Option (List ℕ) → List ℕ → (List ℕ → Type 0) → List ℕ → Type 0
+abbrev pub IsTold : ℕ → Standing → ℕ → Class → Option (List ℕ) → List ℕ → (List ℕ → Type 0) → List ℕ → Type 0
 IsTold before stands index class line initial Reason text =
     (reason : List ℕ) × (text ≡ front_lines index class line initial ++ place_lines before stands ++ reason) × cond (nat_lt before 100) (Reason reason) (reason ≡ [])
 
 -- ---- why it is bad, in the session of the number `here`
 
 -- the text tells of a core what all its answers and the bad one conflict about: the first point of that
-abbrev pub TellsCore : ℕ → Profile → Placed → List Placed → List Cited → Core → List ℕ → Type 0
-TellsCore here profile bad answers told core text =
-    (point : Point) × IsFirstPoint (told_with profile bad answers (places_of core)) point × (text ≡ conflict_lines here profile.marks point bad answers told core)
+abbrev pub TellsCore : ℕ → Profile → Placed → List Cited → Core → List ℕ → Type 0
+TellsCore here profile bad answers core text =
+    (point : Point) × IsFirstPoint (told_with profile bad (map stands_of answers) (places_of core)) point × (text ≡ conflict_lines here profile.marks point bad answers core)
 
 -- the text tells with which of these answers the bad one conflicts, and about what: at most four, and where there are more, the last of them
-abbrev pub IsConflictOf : ℕ → Profile → Placed → List Placed → List Cited → List ℕ → Type 0
-IsConflictOf here profile bad answers told text =
-    (core : Core) × IsFound profile bad answers core × MatchOption core.rest (length core.places ≤ 4) (λ bound. length core.places ≡ 4) × TellsCore here profile bad answers told core text
+abbrev pub IsConflictOf : ℕ → Profile → Placed → List Cited → List ℕ → Type 0
+IsConflictOf here profile bad answers text =
+    (core : Core) × IsFound profile bad (map stands_of answers) core × MatchOption core.rest (length core.places ≤ 4) (λ bound. length core.places ≡ 4) × TellsCore here profile bad answers core text
 
 -- whether the accepted answers that it conflicts with are looked for: behind so many bad answers and so many accepted ones that it takes little
 abbrev pub are_looked_for : ℕ → ℕ → Bool
 are_looked_for bad accepted = nat_lt bad 3 || nat_lt (bad * accepted) 20000
 
 -- the text tells, where none is looked for, that the bad answer conflicts with some of these answers, and not with itself; and about what: the first point of what it and all of them say
-abbrev pub IsConflictWithSome : ℕ → Profile → List Fact → Placed → List Placed → List Cited → List ℕ → Type 0
-IsConflictWithSome here profile facts bad answers cited text =
+abbrev pub IsConflictWithSome : ℕ → Profile → List Fact → Placed → List Cited → List ℕ → Type 0
+IsConflictWithSome here profile facts bad answers text =
     (point : Point) × SomeHas profile (told profile bad) × IsFirstPoint (facts ++ told profile bad) point
-    × (text ≡ conflict_lines here profile.marks point bad answers cited (record { places = []; rest = Some (length answers) }))
+    × (text ≡ conflict_lines here profile.marks point bad answers (record { places = []; rest = Some (length answers) }))
 
 -- the text is the reason of a contradiction to these answers, which say these facts: where none is looked for the conflict is told all the same of one that was told before, and of one with itself
-abbrev pub IsContradiction : Bool → Type 0 → ℕ → Profile → List Fact → Placed → List Placed → List Cited → List ℕ → Type 0
-IsContradiction looked_for WasTold here profile facts bad answers cited text = cond looked_for
-    (IsConflictOf here profile bad answers cited text)
-    ((IsConflictOf here profile bad answers cited text × (WasTold ⊎ (SomeHas profile (told profile bad) → ⊥))) ⊎ IsConflictWithSome here profile facts bad answers cited text)
+abbrev pub IsContradiction : Bool → Type 0 → ℕ → Profile → List Fact → Placed → List Cited → List ℕ → Type 0
+IsContradiction looked_for WasTold here profile facts bad answers text = cond looked_for
+    (IsConflictOf here profile bad answers text)
+    ((IsConflictOf here profile bad answers text × (WasTold ⊎ (SomeHas profile (told profile bad) → ⊥))) ⊎ IsConflictWithSome here profile facts bad answers text)
 
 -- what the accepted answers of earlier sessions and of this one say of the spool
 abbrev pub accepted_facts : Marks → List (List Paired) → List Paired → List Fact
@@ -76,12 +77,12 @@ abbrev pub IsReason : Profile → List (List Paired) → ℕ → List Judged →
 IsReason profile earlier before past pair OutOfPlace text =
     let here = number_behind earlier in
     let accepted = accepted_of past in
-    text ≡ option_map_or (unfitting_lines here (placed_of accepted) (cited here accepted) pair.response) (misfit profile (visible_left accepted) (asked_at pair.place) pair.response) []
+    text ≡ option_map_or (unfitting_lines here (cited here accepted) pair.response) (misfit profile (visible_left accepted) (asked_at pair.place) pair.response) []
 IsReason profile earlier before past pair Contradiction text =
     let bad = placed_behind (accepted_of past) pair in
-    let answers = placed_of_all earlier (accepted_of past) in
+    let answers = cited_of_all earlier (accepted_of past) in
     let facts = accepted_facts profile.marks earlier (accepted_of past) in
-    IsContradiction (are_looked_for before (length answers)) (WasRefused past bad) (number_behind earlier) profile facts bad answers (cited_of_all earlier (accepted_of past)) text
+    IsContradiction (are_looked_for before (length answers)) (WasRefused past bad) (number_behind earlier) profile facts bad answers text
 IsReason profile earlier before past pair class text = text ≡ []
 
 -- ---- the answers of a reading, behind these accepted answers of earlier sessions, of which so many answers are bad
@@ -112,11 +113,11 @@ AreExplained profile earlier before past (answer ∷ answers) text =
 abbrev pub count_bad : List Judged → ℕ
 count_bad answers = length answers - length (accepted_of answers)
 
--- the text is why octets that are left answer nothing, by their class and the answer that closed the connection; a frame that spells nothing is passed over instead
-abbrev pub IsEndReason : ℕ → PairClass → Option Cited → List ℕ → List ℕ → Type 0
-IsEndReason here PairSurplus closing octets text = text ≡ surplus_lines here closing
-IsEndReason here PairCut closing octets text = text ≡ cut_line (lines_of_stream octets)
-IsEndReason here PairMalformed closing octets text = ⊥
+-- the text is why octets that are left answer nothing, by their class and the accepted answers of the session; a frame that spells nothing is passed over instead
+abbrev pub IsEndReason : ℕ → PairClass → List Cited → List ℕ → List ℕ → Type 0
+IsEndReason here PairSurplus answers octets text = text ≡ surplus_lines here answers
+IsEndReason here PairCut answers octets text = text ≡ cut_line (lines_of_stream octets)
+IsEndReason here PairMalformed answers octets text = ⊥
 
 -- the text is what is printed of what is left behind the answers: octets that answer nothing are one more bad answer
 abbrev pub IsEnded : ℕ → ℕ → List Judged → Unpaired → Ending → List ℕ → Type 0
@@ -124,7 +125,7 @@ IsEnded here before answers left (end unanswered) text = text ≡ []
 IsEnded here before answers left (ends_at class) text =
     (line : List ℕ) × IsFirstLine left.server line
     × IsTold (before + count_bad answers) (standing (accepted_of answers)) (length answers) (class_of class) (line_ahead left.places) line
-    (IsEndReason here class (closing here answers) left.server) text
+    (IsEndReason here class (cited here (accepted_of answers)) left.server) text
 
 -- ---- a session
 

@@ -1,16 +1,17 @@
 -- What `explain` prints of why an answer is bad. `here` is the number of its session.
-use Rattle.std.specs.Prelude.{ℕ, suc, ◌-◌, ◌==◌, ◌&&◌, Bool, false, if◌then◌else◌, List, [], ◌∷◌, ◌++◌, Option, None, Some, slice_get, codes, decimal}
+use Rattle.std.specs.Prelude.{ℕ, suc, ◌-◌, ◌==◌, ◌&&◌, Bool, false, if◌then◌else◌, List, [], ◌∷◌, ◌++◌, length, Option, None, Some, slice_get, codes, decimal}
 use Rattle.std.specs.{List.{flat_map}, Option.{option_map, option_map_or}}
 use Rattle.nntp_wire.specs.{Answer.{Response, group_is, numbers_are}, declared.misspelling.Misspelling.{Misspelling, TheVariants.{WrongOctet, TooLong, NoCode}}}
 use Rattle.nntp_wire.specs.declared.misspelling.{Misspelling.TheVariants.{WrongArgument, WrongLine, WrongBlock}, Due.{Due, TheVariants.{Number, GroupName}}}
 use Rattle.nntp_wire.specs.declared.misspelling.{Due.TheVariants.{MessageId}, LineFault.{LineFault, TheVariants.{BadOctet, SingleDot, NoNumber, NoGroup}}}
-use Rattle.nntp_wire.specs.declared.misspelling.LineFault.TheVariants.{NoArticleNumber, NoMessageId, NoVersions}
+use Rattle.nntp_wire.specs.{declared.misspelling.LineFault.TheVariants.{NoArticleNumber, NoMessageId, NoVersions}, Session.{closes}}
 use Rattle.nntp_article.specs.Session.Misfit.{Misfit, wrong_code, wrong_name, wrong_number, wrong_id, below_low, wrong_marks, beyond_limit, not_above}
 use Rattle.nntp_article.specs.Session.{Misfit.{beyond_range, unmatched, listed_twice, no_head, other_id}, Machine.{is_same}, Spool.{Name}}
 use Rattle.nntp_said.specs.declared.position.Position.{Position, TheVariants.{Nowhere, First, Known}}
 use Rattle.nntp_printing.specs.{BadAnswer.{shown, command_line}, Printing.{escaped}}
-use Rattle.nntp_theory.specs.Conflict.{Placed, Point, Step, Group, Number as NumberOf, Count, First as FirstNumber, IdOf, PlaceOf, Article, HeadOf, BodyOf}
-use Rattle.nntp_explain.specs.Standing.{Standing, Cited}
+use Rattle.nntp_theory.specs.Conflict.{Point, Step, Group, Number as NumberOf, Count, First as FirstNumber, IdOf, PlaceOf, Article, HeadOf, BodyOf}
+use Rattle.nntp_pair.specs.Pairing.{asked_at}
+use Rattle.nntp_facts.specs.declared.{standing.Standing.{Standing}, placed.Placed.{Placed as Cited}}
 
 -- ---- where the session stands
 
@@ -20,10 +21,13 @@ current_text Nowhere by = codes "first"
 current_text First by = codes "first"
 current_text (Known n) by = decimal n ++ codes " since " ++ decimal by
 
--- the line that tells where the session stands
-abbrev pub standing_line : Option Standing → List ℕ
-standing_line None = codes "in no group\n"
-standing_line (Some s) = codes "in " ++ escaped s.name ++ codes " since " ++ decimal s.selected_by ++ codes " at " ++ current_text s.position s.moved_by ++ codes "\n"
+-- the line that tells where the session stands, where this group is selected
+abbrev pub stands_in : Option Name → Standing → List ℕ
+stands_in None s = codes "in no group\n"
+stands_in (Some name) s = codes "in " ++ escaped name ++ codes " since " ++ decimal s.selected_by ++ codes " at " ++ current_text s.position s.moved_by ++ codes "\n"
+
+abbrev pub standing_line : Standing → List ℕ
+standing_line s = stands_in s.selected s
 
 -- ---- why it doesn't fit
 
@@ -98,20 +102,24 @@ session_text here session = if session == here then [] else codes " of session "
 
 -- which answer it is
 abbrev pub answer_text : ℕ → Cited → List ℕ
-answer_text here c = decimal c.index ++ session_text here c.session
+answer_text here c = decimal c.exchange.index ++ session_text here c.session
 
 -- its lines, and where its session stands there
 abbrev pub because_lines : ℕ → Cited → List ℕ
 because_lines here c =
-    codes "because answer " ++ answer_text here c ++ codes "\n" ++ command_line (option_map shown c.line)
-    ++ codes "answer " ++ escaped (shown c.initial) ++ codes "\n" ++ standing_line c.stands
+    codes "because answer " ++ answer_text here c ++ codes "\n" ++ command_line (option_map shown c.exchange.place.line)
+    ++ codes "answer " ++ escaped (shown c.exchange.initial) ++ codes "\n" ++ standing_line c.standing
 
 -- ---- why it is surplus
 
--- this answer closed the connection, or none did, and no line is left to be answered
-abbrev pub surplus_lines : ℕ → Option Cited → List ℕ
-surplus_lines here None = codes "why no command\n"
-surplus_lines here (Some c) = codes "why closed\n" ++ because_lines here c
+-- the last accepted answer closed the connection, or it didn't, and no line is left to be answered
+abbrev pub closing_lines : ℕ → Cited → List ℕ
+closing_lines here c =
+    if closes (asked_at c.exchange.place) c.exchange.response then codes "why closed\n" ++ because_lines here c else codes "why no command\n"
+
+-- the same behind these accepted answers of the session; none that closes the connection is refused
+abbrev pub surplus_lines : ℕ → List Cited → List ℕ
+surplus_lines here answers = option_map_or (closing_lines here) (slice_get answers (length answers - 1)) (codes "why no command\n")
 
 -- ---- with which answers it conflicts
 
@@ -137,20 +145,20 @@ gives_low name low (numbers_are m g lines) = is_same g name && m.low == low
 gives_low name low response = false
 
 -- the place of the first answer that gives it
-abbrev pub low_giver : Name → ℕ → List Placed → Option ℕ
+abbrev pub low_giver : Name → ℕ → List Cited → Option ℕ
 low_giver name low [] = None
-low_giver name low (a ∷ answers) = if gives_low name low a.response then Some 0 else option_map suc (low_giver name low answers)
+low_giver name low (a ∷ answers) = if gives_low name low a.exchange.response then Some 0 else option_map suc (low_giver name low answers)
 
 -- the answer that gave the group of a 211 a low mark, as it is cited
-abbrev pub giver_lines : ℕ → List Placed → List Cited → Response → ℕ → List ℕ
-giver_lines here answers told (group_is m name) low = option_map_or (because_at here told) (low_giver name low answers) []
-giver_lines here answers told (numbers_are m name lines) low = option_map_or (because_at here told) (low_giver name low answers) []
-giver_lines here answers told response low = []
+abbrev pub giver_lines : ℕ → List Cited → Response → ℕ → List ℕ
+giver_lines here answers (group_is m name) low = option_map_or (because_at here answers) (low_giver name low answers) []
+giver_lines here answers (numbers_are m name lines) low = option_map_or (because_at here answers) (low_giver name low answers) []
+giver_lines here answers response low = []
 
 -- why a response doesn't fit behind these answers of its session; where its low mark is below an earlier one, the answer that gave that one too
-abbrev pub unfitting_lines : ℕ → List Placed → List Cited → Response → Misfit → List ℕ
-unfitting_lines here answers told response (below_low low) = misfit_line (below_low low) ++ giver_lines here answers told response low
-unfitting_lines here answers told response why = misfit_line why
+abbrev pub unfitting_lines : ℕ → List Cited → Response → Misfit → List ℕ
+unfitting_lines here answers response (below_low low) = misfit_line (below_low low) ++ giver_lines here answers response low
+unfitting_lines here answers response why = misfit_line why
 
 -- ---- what it conflicts about
 

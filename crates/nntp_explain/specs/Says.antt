@@ -9,8 +9,10 @@ use Rattle.nntp_said.specs.{Facts.{ThereIs, ThereIsNo, IdAt, TextIs, NoArticle, 
 use Rattle.nntp_theory.specs.Conflict.{Placed, Core, Point, Step, Group, Number, Count, First as FirstNumber, IdOf, PlaceOf, Article, HeadOf, BodyOf, said}
 use Rattle.nntp_theory.specs.{Given.{shows, denies, is_end, asks_in, shows_group, id_in, head_in, body_in}, Together.{denies_group, number_in, shows_article}}
 use Rattle.nntp_theory.specs.Together.{denies_article}
+use Rattle.nntp_pair.specs.Pairing.{asked_at}
+use Rattle.nntp_facts.specs.{declared.placed.Placed.{Placed as Cited}, Standing.{stands_of}}
 use Rattle.nntp_printing.specs.{BadAnswer.{shown}, Printing.{escaped}}
-use Rattle.nntp_explain.specs.{Reasons.{octets_line, because_at, about_line, rest_line}, Standing.{Cited}}
+use Rattle.nntp_explain.specs.Reasons.{octets_line, because_at, about_line, rest_line}
 
 -- what the line of a group or an id begins with
 abbrev pub subject : List ℕ → List ℕ → List ℕ
@@ -162,11 +164,11 @@ part_sent (BodyOf id) (to (retrieve what which)) (sends sent) = body_in id (Text
 part_sent point asked response = None
 
 -- that of the answer at a place
-abbrev pub part_at : Point → List Placed → ℕ → Option (List Line)
-part_at point answers k = option_and_then (λ a. part_sent point a.asked a.response) (slice_get answers k)
+abbrev pub part_at : Point → List Cited → ℕ → Option (List Line)
+part_at point answers k = option_and_then (λ a. part_sent point (asked_at a.exchange.place) a.exchange.response) (slice_get answers k)
 
 -- the first that the answers at the places send
-abbrev pub first_part : Point → List Placed → List ℕ → Option (List Line)
+abbrev pub first_part : Point → List Cited → List ℕ → Option (List Line)
 first_part point answers [] = None
 first_part point answers (k ∷ places) = option_or (part_at point answers k) (first_part point answers places)
 
@@ -176,15 +178,15 @@ difference (Some these) (Some those) = first_difference these those
 difference these those = None
 
 -- the place of the line that is told, where the bad answer conflicts with those at the places
-abbrev pub told_line : Point → Placed → List Placed → List ℕ → Option ℕ
+abbrev pub told_line : Point → Placed → List Cited → List ℕ → Option ℕ
 told_line point bad answers places = difference (part_sent point bad.asked bad.response) (first_part point answers places)
 
 -- the answer at a place as a reason, and what it says about the point
-abbrev pub reason_lines : ℕ → Marks → Option ℕ → Point → List Placed → List Cited → ℕ → List ℕ
-reason_lines here how line point answers told k = because_at here told k ++ option_map_or (said_lines how line point) (slice_get answers k) []
+abbrev pub reason_lines : ℕ → Marks → Option ℕ → Point → List Cited → ℕ → List ℕ
+reason_lines here how line point answers k = because_at here answers k ++ option_map_or (λ a. said_lines how line point (stands_of a)) (slice_get answers k) []
 
 -- what the bad answer and those of a core conflict about, and what each of them says about it; where it is the end of one, that others are below
-abbrev pub conflict_lines : ℕ → Marks → Point → Placed → List Placed → List Cited → Core → List ℕ
-conflict_lines here how point bad answers told core =
+abbrev pub conflict_lines : ℕ → Marks → Point → Placed → List Cited → Core → List ℕ
+conflict_lines here how point bad answers core =
     let line = told_line point bad answers core.places in
-    about_line point ++ said_lines how line point bad ++ rest_line here told core.rest ++ flat_map (reason_lines here how line point answers told) core.places
+    about_line point ++ said_lines how line point bad ++ rest_line here answers core.rest ++ flat_map (reason_lines here how line point answers) core.places

@@ -1,5 +1,6 @@
 //! Contradictions that were told.
 ghost use Rattle.std.specs.Prelude.{◌≡◌, ⊤, Contains, MatchOption};
+ghost use Rattle.nntp_facts.specs.Standing.{stands_of};
 
 use nntp_facts::Placed;
 use std::alloc::Allocator;
@@ -16,16 +17,17 @@ pub(crate) struct ToldContradiction<'a, A: Allocator> {
 
 impl<'a, A: Allocator> Model for ToldContradiction<'a, A> {
     ghost use Rattle.nntp_explain.specs.Inner.Explaining.{ToldContradiction as ToldValue};
+    ghost use Rattle.nntp_facts.specs.Standing.{stands_of};
 
     ghost Value = { ToldValue };
 
-    ghost view = { λ c. record { bad = c.bad; reason = c.reason.items } };
+    ghost view = { λ c. record { bad = stands_of c.bad; reason = c.reason.items } };
 }
 
 impl<'a, A: Allocator> ToldContradiction<'a, A> {
     /// Puts a bad answer and its reason together.
     pub(crate) fn new(bad: Placed<'a>, reason: Vec<u8, A>) -> ToldContradiction<'a, A>
-        ensures { result ≡ record { bad = bad.entry; reason = reason.items } }
+        ensures { result ≡ record { bad = stands_of bad.entry; reason = reason.items } }
     {
         ToldContradiction { bad, reason }
     }
@@ -36,7 +38,7 @@ pub(crate) fn reason_of<'c, A: Allocator>(
     contradictions: &'c [ToldContradiction<'_, A>],
     bad: &Placed<'_>,
 ) -> Option<&'c [u8]>
-    ensures { MatchOption result ⊤ (λ reason. Contains contradictions.now (record { bad = bad.now; reason = reason.now })) }
+    ensures { MatchOption result ⊤ (λ reason. Contains contradictions.now (record { bad = stands_of bad.now; reason = reason.now })) }
 {
     for told in contradictions {
         if told.bad.is_same(bad) {

@@ -1,31 +1,29 @@
 //! What stands behind the bad answers of a session: why octets that are left answer nothing, and what the last line
 //! counts.
 ghost use Rattle.std.specs.Prelude.{◌≡◌, ◌≢◌, ◌++◌, OnOk};
-ghost use Rattle.std.specs.Option.{option_map};
 ghost use Rattle.nntp_pair.specs.declared.class.PairClass.TheVariants.{Malformed};
 ghost use Rattle.nntp_explain.specs.Explaining.{counts_text, IsEndReason};
-ghost use Rattle.nntp_explain.specs.Inner.ExplainingView.{cited_of, GoesOn};
+ghost use Rattle.nntp_explain.specs.Inner.ExplainingView.{GoesOn};
 
 use crate::reasons::{put_cut, put_surplus};
-use crate::standing::Cited;
+use nntp_facts::Placed;
 use nntp_pair::PairClass;
 use nntp_printing::{put_number, put_sum};
 use std::alloc::{AllocError, Allocator};
 
-/// Adds why octets of the session `here` that are left answer nothing, where this answer closed the connection, if one
-/// did.
+/// Adds why octets of the session `here` that are left answer nothing, behind these accepted answers of it.
 pub(crate) fn put_end_reason<A: Allocator + Copy>(
     text: &mut Vec<u8, A>,
     here: u64,
     class: PairClass,
-    closing: &Option<Cited<'_>>,
+    answers: &[Placed<'_>],
     octets: &[u8],
 ) -> Result<(), AllocError>
     requires { class ≢ Malformed }
-    ensures { OnOk result (GoesOn (IsEndReason here class (option_map cited_of closing.now) octets.now) text.old.items text.new.items) }
+    ensures { OnOk result (GoesOn (IsEndReason here class answers.now octets.now) text.old.items text.new.items) }
 {
     match class {
-        PairClass::Surplus => put_surplus(text, here, closing),
+        PairClass::Surplus => put_surplus(text, here, answers),
         PairClass::Cut => put_cut(text, octets),
         PairClass::Malformed => unreachable!(),
     }

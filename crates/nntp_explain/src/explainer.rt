@@ -1,12 +1,12 @@
 //! What is kept of sessions that are read on behind bad answers, and what is told of a bad answer.
-ghost use Rattle.std.specs.Prelude.{◌≡◌, ◌≢◌, ◌⊎◌, true, false, ℕ, ◌+◌, ◌<◌, ◌≤◌, ◌^◌, ◌++◌, List, ◌∷◌, None, length, map, nat_lt, OnOk, IfOk};
-ghost use Rattle.std.specs.Option.{option_copied, option_map};
+ghost use Rattle.std.specs.Prelude.{◌≡◌, ◌≢◌, ◌⊎◌, true, false, ℕ, ◌+◌, ◌<◌, ◌≤◌, ◌^◌, ◌++◌, List, None, drop, length, map, nat_lt, OnOk, IfOk};
+ghost use Rattle.std.specs.Option.{option_copied};
 ghost use Rattle.nntp_wire.specs.Inner.View.{asked};
 ghost use Rattle.nntp_article.specs.declared.session.profile.Profile.{Profile};
 ghost use Rattle.nntp_pair.specs.Pairing.{Unpaired, IsNext};
 ghost use Rattle.nntp_pair.specs.declared.class.PairClass.TheVariants.{Malformed};
 ghost use Rattle.nntp_said.specs.Facts.{Fact};
-ghost use Rattle.nntp_theory.specs.Conflict.{Placed as PlacedValue, told_with, places_of};
+ghost use Rattle.nntp_theory.specs.Conflict.{told_with, places_of};
 ghost use Rattle.nntp_facts.specs.Inner.Points.{AreHeld};
 ghost use Rattle.nntp_facts.specs.Inner.StatementView.{held_of};
 ghost use Rattle.nntp_pair.specs.declared.class.Class.TheVariants.{Malformed as MalformedClass, OutOfPlace, Contradiction};
@@ -14,23 +14,22 @@ ghost use Rattle.nntp_pair.specs.Classes.{class_of};
 ghost use Rattle.nntp_facts.specs.Inner.Noted.{profile_kept};
 ghost use Rattle.nntp_printing.specs.BadAnswer.{IsFirstLine};
 ghost use Rattle.nntp_explain.specs.Explaining.{are_looked_for, front_lines, place_lines, IsEndReason, TellsCore};
-ghost use Rattle.nntp_explain.specs.Inner.ExplainingView.{Before, begins, cited_of, kept_of, keeps, placed_here, refuses, standing_of, title_of};
+ghost use Rattle.nntp_explain.specs.Inner.ExplainingView.{Before, begins, kept_of, keeps, placed_here, refuses, title_of};
 ghost use Rattle.nntp_explain.specs.Inner.ExplainingView.{unfitting_told, unspelled_lines, AreReasons, Contradicts, Fits, GoesOn, HasReadNone, HasTold};
 ghost use Rattle.nntp_explain.specs.Inner.ExplainingView.{AddsReason, IsRefused, StandsAlone, TellsBad, TellsConflict};
 ghost use Rattle.nntp_explain.specs.Inner.ExplainingView.{TellsContradiction, TellsNext, TellsSome};
-ghost use Rattle.nntp_explain.specs.Standing.{Cited as CitedValue};
+ghost use Rattle.nntp_facts.specs.Standing.{stands_of};
 ghost use Rattle.nntp_wire.specs.Session.{ClientStream};
 
 use crate::conflict::put_conflict;
 use crate::contradiction::{ToldContradiction, reason_of};
 use crate::ending::put_end_reason;
 use crate::reasons::{put_misspelling, put_standing};
-use crate::standing::{Cited, Standing, note_closing, standing_after};
 use crate::unfitting::put_unfitting;
-use nntp_facts::{Conflict, Core, Facts, Noted, Placed, Position};
+use nntp_facts::{Conflict, Core, Facts, Noted, Placed, Standing};
 use nntp_pair::{Ahead, Class, Exchange, MalformedFrame, PairClass};
 use nntp_printing::{first_line, put_bad_answer, put_title, shown, shown_line};
-use nntp_wire::{GroupName, Limit, Marks, Misspelling};
+use nntp_wire::{Limit, Marks, Misspelling};
 use std::alloc::{AllocError, Allocator};
 use std::mem;
 
@@ -54,19 +53,15 @@ pub(crate) struct Explainer<'a, A: Allocator> {
     /// What the accepted answers say.
     pub(crate) facts: Facts<A>,
     /// The accepted answers of all sessions, each where it stands.
-    placed: Vec<Placed<'a>, A>,
-    /// The same, as reasons cite them.
-    pub(crate) cited: Vec<Cited<'a>, A>,
+    pub(crate) accepted: Vec<Placed<'a>, A>,
     /// The number of the session that is read, which counts from 1.
     session: u64,
     /// How many of the accepted answers are of earlier sessions.
     others: usize,
     /// The name of the session, until an answer of it is told as bad; none where it has no title.
     title: Option<&'a [u8]>,
-    /// Where its accepted answers leave the session; none before a group is selected.
-    standing: Option<Standing<'a>>,
-    /// The answer of the session that closed the connection, accepted or refused; none where it is open.
-    closing: Option<Cited<'a>>,
+    /// Where its accepted answers leave the session.
+    standing: Standing<'a>,
     /// The contradictions of the session that were told.
     contradictions: Vec<ToldContradiction<'a, A>, A>,
     /// How many answers of all sessions are bad so far.
@@ -85,20 +80,18 @@ impl<'a, A: Allocator + Copy> Explainer<'a, A> {
         Explainer {
             alloc,
             facts: Facts::new(alloc, limit, marks),
-            placed: Vec::new(alloc),
-            cited: Vec::new(alloc),
+            accepted: Vec::new(alloc),
             session: 0,
             others: 0,
             title: None,
-            standing: None,
-            closing: None,
+            standing: Standing::nowhere(),
             contradictions: Vec::new(alloc),
             bad: 0,
             text: Vec::new(alloc),
         }
     }
 
-    /// Begins a further session, which has this title: no group is selected, and no answer closed the connection.
+    /// Begins a further session, which has this title.
     pub(crate) fn begin(&mut self, title: Option<&'a [u8]>)
         requires { self.old.session + 1 < 2 ^ 64 }
         ensures kept { kept_of self.new ≡ begins (option_copied title.entry) (kept_of self.old) }
@@ -106,10 +99,9 @@ impl<'a, A: Allocator + Copy> Explainer<'a, A> {
     {
         self.facts.begin_session();
         self.session += 1;
-        self.others = self.placed.len();
+        self.others = self.accepted.len();
         self.title = title;
-        self.standing = None;
-        self.closing = None;
+        self.standing = Standing::nowhere();
         self.contradictions.clear();
     }
 
@@ -121,47 +113,35 @@ impl<'a, A: Allocator + Copy> Explainer<'a, A> {
         ensures { OnOk result ((profile : Profile) (b : Before) (client : ClientStream) (server : List ℕ) (left behind : Unpaired)
             → HasTold profile b client server self.old left → IsNext left exchange.entry behind → HasTold profile b client server self.new behind) }
     {
-        let position = self.facts.position();
         let Ok(noted) = self.facts.note(&exchange) else {
             return Err(AllocError);
         };
-        note_closing(&mut self.closing, self.session, &self.standing, &exchange);
         match noted {
-            Noted::Consistent => self.accept(position, exchange),
+            Noted::Consistent => self.accept(exchange),
             Noted::OutOfPlace => self.refuse_unfitting(&exchange),
-            Noted::Contradiction => self.refuse_contradiction(position, exchange),
+            Noted::Contradiction => self.refuse_contradiction(exchange),
         }
     }
 
-    /// Adds an accepted exchange, before which the session stood at this position.
-    fn accept(&mut self, position: Position, exchange: Exchange<'a>) -> Result<(), AllocError>
-        ensures kept { OnOk result (kept_of self.new ≡ keeps position exchange.entry (kept_of self.old)) }
+    /// Adds an accepted exchange.
+    fn accept(&mut self, exchange: Exchange<'a>) -> Result<(), AllocError>
+        ensures kept { OnOk result (kept_of self.new ≡ keeps exchange.entry (kept_of self.old)) }
         ensures text { OnOk result (self.new.text.items ≡ self.old.text.items) }
     {
-        let selected = self.selected();
-        let after = standing_after(&self.standing, &exchange);
-        let before = mem::replace(&mut self.standing, after);
-        self.cited
-            .push(Cited::new(self.session, before, &exchange))?;
-        self.placed.push(Placed::new(selected, position, exchange))?;
+        let after = self.standing.after(&exchange);
+        let standing = mem::replace(&mut self.standing, after);
+        self.accepted.push(Placed {
+            session: self.session,
+            standing,
+            exchange,
+        })?;
         Ok(())
-    }
-
-    /// The name of the selected group.
-    fn selected(&self) -> Option<GroupName<'a>>
-        ensures { result ≡ option_map (λ s. s.name) (option_map standing_of self.now.standing) }
-    {
-        match &self.standing {
-            Some(standing) => Some(standing.name.copy()),
-            None => None,
-        }
     }
 
     /// Tells that the answer of an exchange doesn't fit.
     fn refuse_unfitting(&mut self, exchange: &Exchange<'a>) -> Result<(), AllocError>
         requires few { self.old.bad ≤ length self.old.text.items }
-        requires placed { self.old.others ≤ length self.old.placed.items }
-        requires cited { self.old.others ≤ length self.old.cited.items }
+        requires others { self.old.others ≤ length self.old.accepted.items }
         ensures kept { OnOk result (kept_of self.new ≡ refuses (kept_of self.old)) }
         ensures text { OnOk result (TellsBad (kept_of self.old) exchange.now.index OutOfPlace exchange.now.place.line exchange.now.initial
             (λ reason. reason ≡ unfitting_told (kept_of self.old) exchange.now) self.old.text.items self.new.text.items) }
@@ -177,8 +157,7 @@ impl<'a, A: Allocator + Copy> Explainer<'a, A> {
             put_unfitting(
                 &mut self.text,
                 self.session,
-                self.placed.split_at(self.others).1,
-                self.cited.split_at(self.others).1,
+                self.accepted.split_at(self.others).1,
                 exchange.answer(),
                 reason,
             )?;
@@ -186,27 +165,22 @@ impl<'a, A: Allocator + Copy> Explainer<'a, A> {
         Ok(())
     }
 
-    /// Tells that the answer of an exchange, before which the session stands at this position, contradicts those that
-    /// were accepted.
-    fn refuse_contradiction(
-        &mut self,
-        position: Position,
-        exchange: Exchange<'a>,
-    ) -> Result<(), AllocError>
+    /// Tells that the answer of an exchange contradicts those that were accepted.
+    fn refuse_contradiction(&mut self, exchange: Exchange<'a>) -> Result<(), AllocError>
         requires few { self.old.bad ≤ length self.old.text.items }
-        requires fit { Fits (kept_of self.old) (placed_here (kept_of self.old) position exchange) }
-        requires conflict { Contradicts (kept_of self.old) (placed_here (kept_of self.old) position exchange) }
+        requires fit { Fits (kept_of self.old) (placed_here (kept_of self.old) exchange) }
+        requires conflict { Contradicts (kept_of self.old) (placed_here (kept_of self.old) exchange) }
         requires reasons { AreReasons (profile_kept self.old.facts) (kept_of self.old) self.old.contradictions.items }
         ensures kept { OnOk result (kept_of self.new ≡ record (refuses (kept_of self.old)) { contradictions = self.new.contradictions.items }) }
         ensures reasons { OnOk result (AreReasons (profile_kept self.old.facts) (kept_of self.old) self.new.contradictions.items) }
-        ensures adds { OnOk result (AddsReason (placed_here (kept_of self.old) position exchange.entry)
+        ensures adds { OnOk result (AddsReason (placed_here (kept_of self.old) exchange.entry)
             self.old.contradictions.items self.new.contradictions.items) }
-        ensures text { OnOk result ((facts : List Fact) → IsRefused (kept_of self.old) facts (placed_here (kept_of self.old) position exchange.entry)
+        ensures text { OnOk result ((facts : List Fact) → IsRefused (kept_of self.old) facts (placed_here (kept_of self.old) exchange.entry)
             → TellsBad (kept_of self.old) exchange.entry.index Contradiction exchange.entry.place.line exchange.entry.initial
-            (TellsNext (kept_of self.old) facts (placed_here (kept_of self.old) position exchange.entry)) self.old.text.items self.new.text.items) }
+            (TellsNext (kept_of self.old) facts (placed_here (kept_of self.old) exchange.entry)) self.old.text.items self.new.text.items) }
     {
         let line = exchange.line();
-        let looked_for = are_looked_for(self.bad, self.placed.len());
+        let looked_for = are_looked_for(self.bad, self.accepted.len());
         if !self.put_bad(
             exchange.index(),
             Class::Contradiction,
@@ -215,21 +189,25 @@ impl<'a, A: Allocator + Copy> Explainer<'a, A> {
         )? {
             return Ok(());
         }
-        let bad = Placed::new(self.selected(), position, exchange);
+        let bad = Placed {
+            session: self.session,
+            standing: self.standing.copy(),
+            exchange,
+        };
         self.tell_conflict(bad, looked_for)
     }
 
     /// Tells with which of the accepted answers the bad one conflicts, and about what. It is what was told of the same
     /// answer from the same place, if the session had one.
     fn tell_conflict(&mut self, bad: Placed<'a>, looked_for: bool) -> Result<(), AllocError>
-        requires fit { Fits (kept_of self.old) bad }
-        requires conflict { Contradicts (kept_of self.old) bad }
+        requires fit { Fits (kept_of self.old) (stands_of bad) }
+        requires conflict { Contradicts (kept_of self.old) (stands_of bad) }
         requires reasons { AreReasons (profile_kept self.old.facts) (kept_of self.old) self.old.contradictions.items }
         ensures kept { OnOk result (kept_of self.new ≡ record (kept_of self.old) { contradictions = self.new.contradictions.items }) }
         ensures reasons { OnOk result (AreReasons (profile_kept self.old.facts) (kept_of self.old) self.new.contradictions.items) }
-        ensures adds { OnOk result (AddsReason bad.entry self.old.contradictions.items self.new.contradictions.items) }
-        ensures text { OnOk result ((facts : List Fact) → IsRefused (kept_of self.old) facts bad.entry
-            → GoesOn (TellsContradiction looked_for (kept_of self.old) facts bad.entry) self.old.text.items self.new.text.items) }
+        ensures adds { OnOk result (AddsReason (stands_of bad.entry) self.old.contradictions.items self.new.contradictions.items) }
+        ensures text { OnOk result ((facts : List Fact) → IsRefused (kept_of self.old) facts (stands_of bad.entry)
+            → GoesOn (TellsContradiction looked_for (kept_of self.old) facts (stands_of bad.entry)) self.old.text.items self.new.text.items) }
     {
         if let Some(reason) = reason_of(&self.contradictions, &bad) {
             return self.text.extend_from_slice(reason);
@@ -249,26 +227,26 @@ impl<'a, A: Allocator + Copy> Explainer<'a, A> {
     /// Tells whether the accepted answers with which the bad one conflicts aren't looked for, and there are some: it
     /// doesn't conflict with itself.
     fn is_cut_short(&self, bad: &Placed<'a>, looked_for: bool) -> Result<bool, AllocError>
-        requires fit { Fits (kept_of self.now) bad.now }
-        requires conflict { Contradicts (kept_of self.now) bad.now }
-        ensures short { IfOk result (λ short. short ≡ true → (looked_for ≡ false) × StandsAlone (kept_of self.now) bad.now) }
-        ensures whole { IfOk result (λ short. short ≡ false → (looked_for ≡ true) ⊎ (StandsAlone (kept_of self.now) bad.now → ⊥)) }
+        requires fit { Fits (kept_of self.now) (stands_of bad.now) }
+        requires conflict { Contradicts (kept_of self.now) (stands_of bad.now) }
+        ensures short { IfOk result (λ short. short ≡ true → (looked_for ≡ false) × StandsAlone (kept_of self.now) (stands_of bad.now)) }
+        ensures whole { IfOk result (λ short. short ≡ false → (looked_for ≡ true) ⊎ (StandsAlone (kept_of self.now) (stands_of bad.now) → ⊥)) }
     {
         if looked_for {
             return Ok(false);
         }
         let limit = self.facts.limit();
         let marks = self.facts.marks();
-        let core = Core::find(self.alloc, limit, marks, &self.placed, bad, 0)?;
+        let core = Core::find(self.alloc, limit, marks, &self.accepted, bad, 0)?;
         Ok(core.rest().is_some())
     }
 
     /// Adds that the bad answer conflicts with some of the accepted ones, and about what: none of them is looked for.
     fn put_some(&self, text: &mut Vec<u8, A>, bad: &Placed<'a>) -> Result<(), AllocError>
-        ensures { OnOk result ((facts : List Fact) → IsRefused (kept_of self.now) facts bad.now → StandsAlone (kept_of self.now) bad.now
-            → GoesOn (TellsSome (kept_of self.now) facts bad.now) text.old.items text.new.items) }
+        ensures { OnOk result ((facts : List Fact) → IsRefused (kept_of self.now) facts (stands_of bad.now) → StandsAlone (kept_of self.now) (stands_of bad.now)
+            → GoesOn (TellsSome (kept_of self.now) facts (stands_of bad.now)) text.old.items text.new.items) }
     {
-        let core = Core::below(self.alloc, self.placed.len());
+        let core = Core::below(self.alloc, self.accepted.len());
         let refusal = self.facts.refusal(bad)?;
         match refusal.point()? {
             Some(point) => put_conflict(
@@ -277,8 +255,7 @@ impl<'a, A: Allocator + Copy> Explainer<'a, A> {
                 self.facts.marks(),
                 point,
                 bad,
-                &self.placed,
-                &self.cited,
+                &self.accepted,
                 &core,
             ),
             None => Ok(()),
@@ -287,22 +264,21 @@ impl<'a, A: Allocator + Copy> Explainer<'a, A> {
 
     /// Finds with which of the accepted answers the bad one conflicts, and adds these, and about what.
     fn put_found(&self, text: &mut Vec<u8, A>, bad: &Placed<'a>) -> Result<(), AllocError>
-        requires fit { Fits (kept_of self.now) bad.now }
-        requires conflict { Contradicts (kept_of self.now) bad.now }
-        ensures { OnOk result (GoesOn (TellsConflict (kept_of self.now) bad.now) text.old.items text.new.items) }
+        requires fit { Fits (kept_of self.now) (stands_of bad.now) }
+        requires conflict { Contradicts (kept_of self.now) (stands_of bad.now) }
+        ensures { OnOk result (GoesOn (TellsConflict (kept_of self.now) (stands_of bad.now)) text.old.items text.new.items) }
     {
         let limit = self.facts.limit();
         let marks = self.facts.marks();
-        let core = Core::find(self.alloc, limit, marks, &self.placed, bad, CITED)?;
-        let conflict = Conflict::of(self.alloc, limit, marks, &self.placed, bad, &core)?;
+        let core = Core::find(self.alloc, limit, marks, &self.accepted, bad, CITED)?;
+        let conflict = Conflict::of(self.alloc, limit, marks, &self.accepted, bad, &core)?;
         put_point_of(
             text,
             self.session,
             marks,
             &conflict,
             bad,
-            &self.placed,
-            &self.cited,
+            &self.accepted,
             &core,
         )
     }
@@ -334,11 +310,12 @@ impl<'a, A: Allocator + Copy> Explainer<'a, A> {
         ahead: Ahead<'_>,
     ) -> Result<(), AllocError>
         requires few { self.old.bad ≤ length self.old.text.items }
+        requires others { self.old.others ≤ length self.old.accepted.items }
         requires passed { class ≢ Malformed }
         ensures kept { OnOk result (kept_of self.new ≡ refuses (kept_of self.old)) }
         ensures text { OnOk result ((line : List ℕ) × IsFirstLine ahead.entry.rest.now line
             × TellsBad (kept_of self.old) index (class_of class) (option_copied ahead.entry.line) line
-            (IsEndReason self.old.session class (option_map cited_of self.old.closing) ahead.entry.rest.now) self.old.text.items self.new.text.items) }
+            (IsEndReason self.old.session class (drop self.old.others self.old.accepted.items) ahead.entry.rest.now) self.old.text.items self.new.text.items) }
     {
         let initial = first_line(ahead.rest);
         if self.put_bad(index, Class::from(class), ahead.line, initial)? {
@@ -346,7 +323,7 @@ impl<'a, A: Allocator + Copy> Explainer<'a, A> {
                 &mut self.text,
                 self.session,
                 class,
-                &self.closing,
+                self.accepted.split_at(self.others).1,
                 ahead.rest,
             )?;
         }
@@ -365,7 +342,7 @@ impl<'a, A: Allocator + Copy> Explainer<'a, A> {
         requires { self.old.bad ≤ length self.old.text.items }
         ensures told { IfOk result (λ is_told. is_told ≡ nat_lt self.old.bad 100) }
         ensures text { OnOk result (self.new.text.items ≡ (self.old.text.items ++ title_of (kept_of self.old))
-            ++ front_lines index class (option_copied line.entry) initial.now ++ place_lines self.old.bad (option_map standing_of self.old.standing)) }
+            ++ front_lines index class (option_copied line.entry) initial.now ++ place_lines self.old.bad self.old.standing) }
         ensures kept { OnOk result (kept_of self.new ≡ refuses (kept_of self.old)) }
     {
         self.put_title()?;
@@ -411,17 +388,15 @@ fn put_point_of<A: Allocator + Copy>(
     marks: Marks,
     conflict: &Conflict<'_, A>,
     bad: &Placed<'_>,
-    placed: &[Placed<'_>],
-    cited: &[Cited<'_>],
+    answers: &[Placed<'_>],
     core: &Core<A>,
 ) -> Result<(), AllocError>
-    ensures { OnOk result ((profile : Profile) (answers : List PlacedValue) (told : List CitedValue) → marks ≡ profile.marks → placed.now ≡ answers
-        → map cited_of cited.now ≡ told
-        → AreHeld profile (told_with profile bad.now answers (places_of core.now)) (held_of conflict.now)
-        → GoesOn (TellsCore here profile bad.now answers told core.now) text.old.items text.new.items) }
+    ensures { OnOk result ((profile : Profile) → marks ≡ profile.marks
+        → AreHeld profile (told_with profile (stands_of bad.now) (map stands_of answers.now) (places_of core.now)) (held_of conflict.now)
+        → GoesOn (TellsCore here profile (stands_of bad.now) answers.now core.now) text.old.items text.new.items) }
 {
     match conflict.point()? {
-        Some(point) => put_conflict(text, here, marks, point, bad, placed, cited, core),
+        Some(point) => put_conflict(text, here, marks, point, bad, answers, core),
         None => Ok(()),
     }
 }

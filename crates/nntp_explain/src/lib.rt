@@ -15,7 +15,6 @@ mod said_numbers;
 mod said_parts;
 mod says;
 mod sessions;
-mod standing;
 mod unfitting;
 
 pub use sessions::{Explanation, explain, explain_sessions};

@@ -1,20 +1,17 @@
 //! Why an answer is bad, as `explain` prints it. `here` is the number of its session.
-ghost use Rattle.std.specs.Prelude.{◌≡◌, ◌++◌, OnOk, codes, decimal, map};
+ghost use Rattle.std.specs.Prelude.{◌≡◌, ◌++◌, OnOk, codes, decimal};
 ghost use Rattle.std.specs.List.{flat_map};
-ghost use Rattle.std.specs.Option.{option_map};
 ghost use Rattle.nntp_wire.specs.Lines.{lines_of_stream};
 ghost use Rattle.nntp_article.specs.Session.Misfit as misfits;
 ghost use Rattle.nntp_article.specs.Inner.MisfitView.{why};
 ghost use Rattle.nntp_facts.specs.Inner.PointView.{point_of};
 ghost use Rattle.nntp_printing.specs.Printing.{escaped};
 ghost use Rattle.nntp_explain.specs.Reasons.{about_line, octets_line, current_text, standing_line, allowed_text, misfit_line, misspelling_line, cut_line};
-ghost use Rattle.nntp_explain.specs.Reasons.{surplus_lines};
+ghost use Rattle.nntp_explain.specs.Reasons.{closing_lines, surplus_lines};
 ghost use Rattle.nntp_explain.specs.Reasons.{due_word, fault_word, number_line, rest_line, answer_at, answer_text, because_at, because_lines};
-ghost use Rattle.nntp_explain.specs.Inner.ExplainingView.{standing_of, cited_of};
 
-use crate::standing::{Cited, Standing};
 use nntp_article::Misfit;
-use nntp_facts::{Point, Position};
+use nntp_facts::{Placed, Point, Position, Standing};
 use nntp_printing::{put_command, put_escaped, put_escaped_line, put_number, shown, shown_line};
 use nntp_wire::{Due, LineFault, Misspelling, split_first_line};
 use std::alloc::{AllocError, Allocator};
@@ -22,15 +19,15 @@ use std::alloc::{AllocError, Allocator};
 /// Adds the line that tells where the session stands.
 pub(crate) fn put_standing<A: Allocator + Copy>(
     text: &mut Vec<u8, A>,
-    standing: &Option<Standing<'_>>,
+    standing: &Standing<'_>,
 ) -> Result<(), AllocError>
-    ensures { OnOk result (text.new.items ≡ text.old.items ++ standing_line (option_map standing_of standing.now)) }
+    ensures { OnOk result (text.new.items ≡ text.old.items ++ standing_line standing.now) }
 {
-    let Some(standing) = standing else {
+    let Some(name) = &standing.selected else {
         return text.extend_from_slice(b"in no group\n");
     };
     text.extend_from_slice(b"in ")?;
-    put_escaped(text, standing.name.as_slice())?;
+    put_escaped(text, name.as_slice())?;
     put_number(text, b" since ", standing.selected_by)?;
     put_current(text, standing.position, standing.moved_by)?;
     text.push(b'\n')?;
@@ -145,20 +142,34 @@ pub(crate) fn put_cut<A: Allocator + Copy>(
     }
 }
 
-/// Adds the lines that tell which answer closed the connection, if one did, or else that no line is left to be answered.
+/// Adds the lines that tell which answer of the session closed the connection, if one did, or else that no line is left to
+/// be answered.
 pub(crate) fn put_surplus<A: Allocator + Copy>(
     text: &mut Vec<u8, A>,
     here: u64,
-    closing: &Option<Cited<'_>>,
+    answers: &[Placed<'_>],
 ) -> Result<(), AllocError>
-    ensures { OnOk result (text.new.items ≡ text.old.items ++ surplus_lines here (option_map cited_of closing.now)) }
+    ensures { OnOk result (text.new.items ≡ text.old.items ++ surplus_lines here answers.now) }
 {
-    match closing {
-        Some(answer) => {
-            text.extend_from_slice(b"why closed\n")?;
-            put_because(text, here, answer)
-        }
+    match answers.last() {
+        Some(answer) => put_closing(text, here, answer),
         None => text.extend_from_slice(b"why no command\n"),
+    }
+}
+
+/// Adds that the answer closed the connection, if it did, or else that no line is left to be answered.
+fn put_closing<A: Allocator + Copy>(
+    text: &mut Vec<u8, A>,
+    here: u64,
+    answer: &Placed<'_>,
+) -> Result<(), AllocError>
+    ensures { OnOk result (text.new.items ≡ text.old.items ++ closing_lines here answer.now) }
+{
+    if answer.exchange.closes() {
+        text.extend_from_slice(b"why closed\n")?;
+        put_because(text, here, answer)
+    } else {
+        text.extend_from_slice(b"why no command\n")
     }
 }
 
@@ -305,10 +316,10 @@ fn put_named<A: Allocator + Copy>(
 pub(crate) fn put_rest<A: Allocator + Copy>(
     text: &mut Vec<u8, A>,
     here: u64,
-    answers: &[Cited<'_>],
+    answers: &[Placed<'_>],
     rest: Option<usize>,
 ) -> Result<(), AllocError>
-    ensures { OnOk result (text.new.items ≡ text.old.items ++ rest_line here (map cited_of answers.now) rest) }
+    ensures { OnOk result (text.new.items ≡ text.old.items ++ rest_line here answers.now rest) }
 {
     let Some(bound) = rest else {
         return Ok(());
@@ -324,10 +335,10 @@ fn put_answer_at<A: Allocator + Copy>(
     text: &mut Vec<u8, A>,
     label: &[u8],
     here: u64,
-    answers: &[Cited<'_>],
+    answers: &[Placed<'_>],
     place: usize,
 ) -> Result<(), AllocError>
-    ensures { OnOk result (text.new.items ≡ text.old.items ++ label.now ++ answer_at here (map cited_of answers.now) place) }
+    ensures { OnOk result (text.new.items ≡ text.old.items ++ label.now ++ answer_at here answers.now place) }
 {
     match answers.get(place) {
         Some(answer) => put_answer(text, label, here, answer),
@@ -340,11 +351,11 @@ fn put_answer<A: Allocator + Copy>(
     text: &mut Vec<u8, A>,
     label: &[u8],
     here: u64,
-    answer: &Cited<'_>,
+    answer: &Placed<'_>,
 ) -> Result<(), AllocError>
-    ensures { OnOk result (text.new.items ≡ text.old.items ++ label.now ++ answer_text here (cited_of answer.now)) }
+    ensures { OnOk result (text.new.items ≡ text.old.items ++ label.now ++ answer_text here answer.now) }
 {
-    put_number(text, label, answer.index)?;
+    put_number(text, label, answer.exchange.index())?;
     if answer.session == here {
         return Ok(());
     }
@@ -355,10 +366,10 @@ fn put_answer<A: Allocator + Copy>(
 pub(crate) fn put_because_at<A: Allocator + Copy>(
     text: &mut Vec<u8, A>,
     here: u64,
-    answers: &[Cited<'_>],
+    answers: &[Placed<'_>],
     place: usize,
 ) -> Result<(), AllocError>
-    ensures { OnOk result (text.new.items ≡ text.old.items ++ because_at here (map cited_of answers.now) place) }
+    ensures { OnOk result (text.new.items ≡ text.old.items ++ because_at here answers.now place) }
 {
     match answers.get(place) {
         Some(answer) => put_because(text, here, answer),
@@ -370,14 +381,14 @@ pub(crate) fn put_because_at<A: Allocator + Copy>(
 fn put_because<A: Allocator + Copy>(
     text: &mut Vec<u8, A>,
     here: u64,
-    answer: &Cited<'_>,
+    answer: &Placed<'_>,
 ) -> Result<(), AllocError>
-    ensures { OnOk result (text.new.items ≡ text.old.items ++ because_lines here (cited_of answer.now)) }
+    ensures { OnOk result (text.new.items ≡ text.old.items ++ because_lines here answer.now) }
 {
     put_answer(text, b"because answer ", here, answer)?;
     text.push(b'\n')?;
-    put_command(text, shown_line(answer.line))?;
-    put_escaped_line(text, b"answer ", shown(answer.initial))?;
+    put_command(text, shown_line(answer.exchange.line()))?;
+    put_escaped_line(text, b"answer ", shown(answer.exchange.initial()))?;
     put_standing(text, &answer.standing)?;
     Ok(())
 }

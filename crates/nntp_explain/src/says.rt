@@ -6,6 +6,7 @@ ghost use Rattle.nntp_article.specs.Session.Machine.{is_same};
 ghost use Rattle.nntp_said.specs.Facts.{ThereIs, ThereIsNo, Asks, IdAt, TextIs, NoArticle, GroupsAre};
 ghost use Rattle.nntp_said.specs.Inner.FactView.{ask_of, fact_of};
 ghost use Rattle.nntp_facts.specs.Inner.PointView.{point_of};
+ghost use Rattle.nntp_facts.specs.Standing.{stands_of};
 ghost use Rattle.nntp_theory.specs.Conflict as points;
 ghost use Rattle.nntp_explain.specs.Says.{groups_line, said_lines, says};
 
@@ -34,7 +35,7 @@ pub(crate) fn put_said<A: Allocator + Copy>(
     answer: &Placed<'_>,
 ) -> Result<(), AllocError>
     requires { IfSome about.now.line (λ place. place < 2 ^ 64 - 1) }
-    ensures { OnOk result (text.new.items ≡ text.old.items ++ said_lines how about.now.line (point_of about.now.point) answer.now) }
+    ensures { OnOk result (text.new.items ≡ text.old.items ++ said_lines how about.now.line (point_of about.now.point) (stands_of answer.now)) }
 {
     for fact in answer.facts(how) {
         put_fact(text, about, &fact)?;

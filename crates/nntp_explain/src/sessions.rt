@@ -151,11 +151,11 @@ impl<'a, A: Allocator + Copy> Explainer<'a, A> {
     /// Ends the report with what the last line counts, and tells whether no answer is bad.
     fn finish(&mut self, unanswered: u128) -> Result<bool, AllocError>
         ensures text { IfOk result (λ good. self.new.text.items ≡ self.old.text.items
-            ++ counts_text (record { answers = length self.old.cited.items + self.old.bad; bad = self.old.bad; unanswered = unanswered })) }
+            ++ counts_text (record { answers = length self.old.accepted.items + self.old.bad; bad = self.old.bad; unanswered = unanswered })) }
         ensures is_without_fault { IfOk result (λ good. good ≡ (self.old.bad == 0)) }
     {
         let bad = self.bad;
-        let answers = self.cited.len() as u128 + u128::from(bad);
+        let answers = self.accepted.len() as u128 + u128::from(bad);
         put_counts(&mut self.text, answers, bad, unanswered)?;
         Ok(bad == 0)
     }

@@ -1,35 +1,31 @@
 //! Why an answer doesn't fit, as `explain` prints it, with the answer that made the state.
-ghost use Rattle.std.specs.Prelude.{◌≡◌, ◌++◌, [], OnOk, map};
+ghost use Rattle.std.specs.Prelude.{◌≡◌, ◌++◌, [], OnOk};
 ghost use Rattle.std.specs.Option.{option_map_or};
 ghost use Rattle.nntp_wire.specs.Inner.AnswerView.{response};
 ghost use Rattle.nntp_article.specs.Inner.MisfitView.{why_if};
-ghost use Rattle.nntp_explain.specs.Inner.ExplainingView.{cited_of};
 ghost use Rattle.nntp_explain.specs.Reasons.{gives_low, giver_lines, low_giver, unfitting_lines};
 
 use crate::reasons::{put_because_at, put_misfit};
-use crate::standing::Cited;
 use nntp_article::Misfit;
 use nntp_facts::Placed;
 use nntp_wire::Answer;
 use std::alloc::{AllocError, Allocator};
 
-/// Adds why an answer of the session `here` doesn't fit behind these of that session, which are placed and cited, if it
-/// doesn't.
+/// Adds why an answer of the session `here` doesn't fit behind these of that session, if it doesn't.
 pub(crate) fn put_unfitting<A: Allocator + Copy>(
     text: &mut Vec<u8, A>,
     here: u64,
-    placed: &[Placed<'_>],
-    cited: &[Cited<'_>],
+    answers: &[Placed<'_>],
     answer: &Answer<'_>,
     reason: Option<Misfit<'_>>,
 ) -> Result<(), AllocError>
     ensures { OnOk result (text.new.items ≡ text.old.items
-        ++ option_map_or (unfitting_lines here placed.now (map cited_of cited.now) (response answer.now)) (why_if reason.entry) []) }
+        ++ option_map_or (unfitting_lines here answers.now (response answer.now)) (why_if reason.entry) []) }
 {
     match reason {
         Some(Misfit::BelowLow(low)) => {
             put_misfit(text, Misfit::BelowLow(low))?;
-            put_giver(text, here, placed, cited, answer, low)
+            put_giver(text, here, answers, answer, low)
         }
         Some(misfit) => put_misfit(text, misfit),
         None => Ok(()),
@@ -40,21 +36,20 @@ pub(crate) fn put_unfitting<A: Allocator + Copy>(
 fn put_giver<A: Allocator + Copy>(
     text: &mut Vec<u8, A>,
     here: u64,
-    placed: &[Placed<'_>],
-    cited: &[Cited<'_>],
+    answers: &[Placed<'_>],
     answer: &Answer<'_>,
     low: u64,
 ) -> Result<(), AllocError>
-    ensures { OnOk result (text.new.items ≡ text.old.items ++ giver_lines here placed.now (map cited_of cited.now) (response answer.now) low) }
+    ensures { OnOk result (text.new.items ≡ text.old.items ++ giver_lines here answers.now (response answer.now) low) }
 {
     let giver = match answer {
         Answer::Group { name, .. } | Answer::Numbers { name, .. } => {
-            low_giver(placed, name.as_slice(), low)
+            low_giver(answers, name.as_slice(), low)
         }
         _ => None,
     };
     match giver {
-        Some(place) => put_because_at(text, here, cited, place),
+        Some(place) => put_because_at(text, here, answers, place),
         None => Ok(()),
     }
 }

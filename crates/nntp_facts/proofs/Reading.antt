@@ -1,3 +1,4 @@
 pub mod DueExchanges
 pub mod NotedAsJudged
 pub mod NotedContradictions
+pub mod Standings

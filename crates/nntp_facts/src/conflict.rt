@@ -1,11 +1,12 @@
 //! The accepted answers with which a bad one conflicts.
-ghost use Rattle.std.specs.Prelude.{◌≡◌, ◌<◌, ◌≤◌, ◌^◌, ◌∷◌, [], List, ℕ, Some, length, IfOk, MatchOption};
+ghost use Rattle.std.specs.Prelude.{◌≡◌, ◌<◌, ◌≤◌, ◌^◌, ◌∷◌, [], List, ℕ, Some, length, map, IfOk, MatchOption};
 ghost use Rattle.std.specs.List.{AllByRecursion};
 ghost use Rattle.nntp_article.specs.Session.Limit.{profile_of};
 ghost use Rattle.nntp_theory.specs.Conflict.{Placed as PlacedValue, SomeHas, told_with, below, places_of, IsFound};
 ghost use Rattle.nntp_theory.specs.Inner.Conflict.{FitsThere, IsPartOfCore};
 ghost use Rattle.nntp_facts.specs.Inner.Kept.{IsKept};
 ghost use Rattle.nntp_facts.specs.Inner.Told.{AreToldWith, PlacesTold};
+ghost use Rattle.nntp_facts.specs.Standing.{stands_of};
 
 use crate::kept::Kept;
 use crate::placed::Placed;
@@ -89,9 +90,10 @@ impl<A: Allocator + Copy> Core<A> {
         bad: &Placed<'_>,
         most: usize,
     ) -> Result<Core<A>, AllocError>
-        requires fit { AllByRecursion (FitsThere (profile_of limit marks)) (bad.now ∷ answers.now) }
-        requires conflict { SomeHas (profile_of limit marks) (told_with (profile_of limit marks) bad.now answers.now (below (length answers.now))) → ⊥ }
-        ensures found { IfOk result (IsFound (profile_of limit marks) bad.now answers.now) }
+        requires fit { AllByRecursion (FitsThere (profile_of limit marks)) (stands_of bad.now ∷ map stands_of answers.now) }
+        requires conflict { SomeHas (profile_of limit marks) (told_with (profile_of limit marks) (stands_of bad.now) (map stands_of answers.now)
+            (below (length (map stands_of answers.now)))) → ⊥ }
+        ensures found { IfOk result (IsFound (profile_of limit marks) (stands_of bad.now) (map stands_of answers.now)) }
         ensures most { IfOk result (λ core. MatchOption core.rest (length core.places ≤ most) (λ _. length core.places ≡ most)) }
     {
         let mut places = Vec::new(alloc);
@@ -119,9 +121,10 @@ fn keep<A: Allocator + Copy>(
     bad: &Placed<'_>,
     places: &[usize],
 ) -> Result<Option<Kept<A>>, AllocError>
-    ensures { IfOk result (λ kept. AllByRecursion (FitsThere (profile_of limit marks)) (bad.now ∷ answers.now)
-        → MatchOption kept (SomeHas (profile_of limit marks) (told_with (profile_of limit marks) bad.now answers.now places.now) → ⊥)
-        (AreToldWith (profile_of limit marks) bad.now answers.now places.now)) }
+    ensures { IfOk result (λ kept. AllByRecursion (FitsThere (profile_of limit marks)) (stands_of bad.now ∷ map stands_of answers.now)
+        → MatchOption kept
+        (SomeHas (profile_of limit marks) (told_with (profile_of limit marks) (stands_of bad.now) (map stands_of answers.now) places.now) → ⊥)
+        (AreToldWith (profile_of limit marks) (stands_of bad.now) (map stands_of answers.now) places.now)) }
 {
     let mut kept = Kept::new(alloc);
     let stands = tell_all(&mut kept, limit, marks, answers, bad, places)?;
@@ -138,8 +141,8 @@ pub(crate) fn tell_all<A: Allocator + Copy>(
     bad: &Placed<'_>,
     places: &[usize],
 ) -> Result<bool, AllocError>
-    ensures { IfOk result (λ does. IsKept [] kept.old → AllByRecursion (FitsThere (profile_of limit marks)) (bad.now ∷ answers.now)
-        → PlacesTold (profile_of limit marks) bad.now answers.now places.now kept.new does) }
+    ensures { IfOk result (λ does. IsKept [] kept.old → AllByRecursion (FitsThere (profile_of limit marks)) (stands_of bad.now ∷ map stands_of answers.now)
+        → PlacesTold (profile_of limit marks) (stands_of bad.now) (map stands_of answers.now) places.now kept.new does) }
 {
     if !kept.tell(limit, marks, bad)? {
         return Ok(false);
@@ -163,10 +166,12 @@ fn first_refused<A: Allocator + Copy>(
 ) -> Result<usize, AllocError>
     requires { 0 < bound }
     ensures below { IfOk result (λ place. place < bound) }
-    ensures found { IfOk result (λ place. (bad : PlacedValue) (places : List ℕ) → AllByRecursion (FitsThere (profile_of limit marks)) (bad ∷ answers.now)
-        → AreToldWith (profile_of limit marks) bad answers.now places kept → bound ≤ length answers.now → length answers.now < 2 ^ 64
-        → IsPartOfCore (profile_of limit marks) bad answers.now bound places
-        → IsPartOfCore (profile_of limit marks) bad answers.now place (place ∷ places)) }
+    ensures found { IfOk result (λ place. (bad : PlacedValue) (places : List ℕ)
+        → AllByRecursion (FitsThere (profile_of limit marks)) (bad ∷ map stands_of answers.now)
+        → AreToldWith (profile_of limit marks) bad (map stands_of answers.now) places kept → bound ≤ length (map stands_of answers.now)
+        → length (map stands_of answers.now) < 2 ^ 64
+        → IsPartOfCore (profile_of limit marks) bad (map stands_of answers.now) bound places
+        → IsPartOfCore (profile_of limit marks) bad (map stands_of answers.now) place (place ∷ places)) }
 {
     // The search has several ends, and would drop what is kept at each.
     search_refused(&mut kept, limit, marks, answers, bound)
@@ -183,10 +188,12 @@ fn search_refused<A: Allocator + Copy>(
 ) -> Result<usize, AllocError>
     requires { 0 < bound }
     ensures below { IfOk result (λ place. place < bound) }
-    ensures found { IfOk result (λ place. (bad : PlacedValue) (places : List ℕ) → AllByRecursion (FitsThere (profile_of limit marks)) (bad ∷ answers.now)
-        → AreToldWith (profile_of limit marks) bad answers.now places kept.old → bound ≤ length answers.now → length answers.now < 2 ^ 64
-        → IsPartOfCore (profile_of limit marks) bad answers.now bound places
-        → IsPartOfCore (profile_of limit marks) bad answers.now place (place ∷ places)) }
+    ensures found { IfOk result (λ place. (bad : PlacedValue) (places : List ℕ)
+        → AllByRecursion (FitsThere (profile_of limit marks)) (bad ∷ map stands_of answers.now)
+        → AreToldWith (profile_of limit marks) bad (map stands_of answers.now) places kept.old → bound ≤ length (map stands_of answers.now)
+        → length (map stands_of answers.now) < 2 ^ 64
+        → IsPartOfCore (profile_of limit marks) bad (map stands_of answers.now) bound places
+        → IsPartOfCore (profile_of limit marks) bad (map stands_of answers.now) place (place ∷ places)) }
 {
     let last = bound - 1;
     for place in 0..last {

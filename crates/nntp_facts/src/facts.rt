@@ -11,6 +11,7 @@ ghost use Rattle.nntp_pair.specs.Inner.Pairing.{lines_in};
 ghost use Rattle.nntp_facts.specs.Inner.Kept.{AreKeptArticles};
 ghost use Rattle.nntp_facts.specs.Inner.Points.{held_by};
 ghost use Rattle.nntp_facts.specs.Inner.StatementView.{held_of_refusal};
+ghost use Rattle.nntp_facts.specs.Standing.{stands_of};
 ghost use Rattle.nntp_facts.specs.Inner.Noted.{HasNoted, HasNotedBehind, IsDue, IsNotedBehind, NotesBehind, begun, profile_kept};
 ghost use Rattle.nntp_theory.specs.Inner.Exchanged.{said_behind};
 ghost use Rattle.nntp_facts.specs.Inner.Readers.{ShownGroup as GroupValue, ShownArticle as ArticleValue, AreShownGroups, AreShownArticles};
@@ -204,8 +205,8 @@ impl<A: Allocator + Copy> Facts<A> {
     ///
     /// If memory is refused.
     pub fn refusal<'f>(&'f self, bad: &'f Placed<'f>) -> Result<Refusal<'f, A>, AllocError>
-        ensures held { IfOk result (λ refusal. held_of_refusal refusal ≡ held_by self.now bad.now) }
-        ensures few { IfOk result (λ refusal. lines_in bad.now.response < 2 ^ 64) }
+        ensures held { IfOk result (λ refusal. held_of_refusal refusal ≡ held_by self.now (stands_of bad.now)) }
+        ensures few { IfOk result (λ refusal. lines_in (stands_of bad.now).response < 2 ^ 64) }
     {
         Refusal::of(self.alloc, self.limit, self.marks, &self.kept, bad)
     }

@@ -1,5 +1,5 @@
 //! A point, of the first kind that there is, about which a bad answer and accepted ones conflict.
-ghost use Rattle.std.specs.Prelude.{◌≡◌, ◌<◌, ◌^◌, ◌∷◌, List, get_or, IfOk, MatchOption};
+ghost use Rattle.std.specs.Prelude.{◌≡◌, ◌<◌, ◌^◌, ◌∷◌, List, get_or, map, IfOk, MatchOption};
 ghost use Rattle.std.specs.List.{AllByRecursion};
 ghost use Rattle.nntp_article.specs.Session.Limit.{profile_of};
 ghost use Rattle.nntp_article.specs.declared.session.profile.Profile.{Profile};
@@ -10,6 +10,7 @@ ghost use Rattle.nntp_facts.specs.Inner.Points.{AreHeld, with_numbers};
 ghost use Rattle.nntp_facts.specs.Inner.PointView.{point_of};
 ghost use Rattle.nntp_pair.specs.Inner.Pairing.{lines_in};
 ghost use Rattle.nntp_facts.specs.Inner.StatementView.{held_of, held_of_refusal, listing_of};
+ghost use Rattle.nntp_facts.specs.Standing.{stands_of};
 
 mod statement;
 
@@ -90,10 +91,11 @@ impl<'a, A: Allocator + Copy> Conflict<'a, A> {
         bad: &'a Placed<'a>,
         core: &Core<A>,
     ) -> Result<Conflict<'a, A>, AllocError>
-        ensures { IfOk result (λ conflict. AllByRecursion (FitsThere (profile_of limit marks)) (bad.now ∷ answers.now)
-            → IsFound (profile_of limit marks) bad.now answers.now core.now
+        ensures { IfOk result (λ conflict. AllByRecursion (FitsThere (profile_of limit marks)) (stands_of bad.now ∷ map stands_of answers.now)
+            → IsFound (profile_of limit marks) (stands_of bad.now) (map stands_of answers.now) core.now
             → HasLast core.now
-            → AreHeld (profile_of limit marks) (told_with (profile_of limit marks) bad.now answers.now (places_of core.now)) (held_of conflict)) }
+            → AreHeld (profile_of limit marks)
+            (told_with (profile_of limit marks) (stands_of bad.now) (map stands_of answers.now) (places_of core.now)) (held_of conflict)) }
     {
         let places = core.all_places(alloc)?;
         let mut kept = Kept::new(alloc);
@@ -114,8 +116,9 @@ impl<'a, A: Allocator + Copy> Conflict<'a, A> {
         kept: Kept<A>,
         last: &'a Placed<'a>,
     ) -> Result<Conflict<'a, A>, AllocError>
-        ensures held { IfOk result (λ conflict. held_of conflict ≡ record { profile = profile_of limit marks; kept = kept; last = with_numbers last.now }) }
-        ensures few { IfOk result (λ conflict. lines_in last.now.response < 2 ^ 64) }
+        ensures held { IfOk result (λ conflict. held_of conflict
+            ≡ record { profile = profile_of limit marks; kept = kept; last = with_numbers (stands_of last.now) }) }
+        ensures few { IfOk result (λ conflict. lines_in (stands_of last.now).response < 2 ^ 64) }
     {
         let last = Listing::of(alloc, last)?;
         Ok(Conflict {
@@ -161,8 +164,8 @@ impl<'a, A: Allocator + Copy> Refusal<'a, A> {
         bad: &'a Placed<'a>,
     ) -> Result<Refusal<'a, A>, AllocError>
         ensures held { IfOk result (λ refusal. held_of_refusal refusal
-            ≡ record { profile = profile_of limit marks; kept = kept.now; last = with_numbers bad.now }) }
-        ensures few { IfOk result (λ refusal. lines_in bad.now.response < 2 ^ 64) }
+            ≡ record { profile = profile_of limit marks; kept = kept.now; last = with_numbers (stands_of bad.now) }) }
+        ensures few { IfOk result (λ refusal. lines_in (stands_of bad.now).response < 2 ^ 64) }
     {
         let last = Listing::of(alloc, bad)?;
         Ok(Refusal {
@@ -217,8 +220,8 @@ fn answer_or<'a>(answers: &'a [Placed<'a>], place: usize, other: &'a Placed<'a>)
 impl<'a, A: Allocator + Copy> Listing<'a, A> {
     /// Puts the numbers that an answer lists beside it.
     fn of(alloc: A, answer: &'a Placed<'a>) -> Result<Listing<'a, A>, AllocError>
-        ensures numbers { IfOk result (λ listing. listing_of listing ≡ with_numbers answer.now) }
-        ensures few { IfOk result (λ listing. lines_in answer.now.response < 2 ^ 64) }
+        ensures numbers { IfOk result (λ listing. listing_of listing ≡ with_numbers (stands_of answer.now)) }
+        ensures few { IfOk result (λ listing. lines_in (stands_of answer.now).response < 2 ^ 64) }
     {
         Ok(Listing {
             answer,

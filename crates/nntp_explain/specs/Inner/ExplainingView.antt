@@ -1,40 +1,30 @@
--- What the values of src/standing.rt and src/explainer.rt mean.
+-- What the values of src/explainer.rt mean.
 use Rattle.std.specs.Prelude.{◌≡◌, ℕ, zero, suc, ◌+◌, ◌≤◌, ◌<◌, ◌^◌, ◌⊎◌, Bool, List, [], ◌∷◌, ◌++◌, length, map, drop, Option, None, Contains}
-use Rattle.std.specs.{List.{AllByRecursion, flat_map}, Option.{option_copied, option_map, option_map_or}}
+use Rattle.std.specs.{List.{AllByRecursion}, Option.{option_copied, option_map_or}}
 use Rattle.nntp_wire.specs.{Answer.{Asked}, Misspelling.{misspelling}, Session.{ClientStream}}
 use Rattle.nntp_article.specs.{Session.Misfit.{misfit}, declared.session.profile.Profile.{Profile}}
 use Rattle.nntp_pair.specs.{Pairing.{Paired, Unpaired, asked_at, streams}, declared.class.Class.{Class}, Inner.Pairing.{lines_in}}
-use Rattle.nntp_theory.specs.{Conflict.{Placed, placed_of, SomeHas, told, told_with, below}, Inner.Conflict.{FitsThere}, Permitted.{ArePermittedBehind}}
-use Rattle.nntp_theory.specs.Reading.{Judged, accepted_of, AreJudged, IsReadingBy}
-use Rattle.nntp_facts.specs.Inner.{Noted.{FactsKept, HasNotedBehind, begun, profile_kept}, Points.{AreHeld, held_by}}
-use Rattle.nntp_several.specs.{Conflict.{placed_of_all}, Reading.{ReadSession, IsReadingOfAll}, Sessions.{Named, Recorded, unnamed}}
+use Rattle.nntp_theory.specs.{Conflict.{Placed, SomeHas, told, told_with, below}, Inner.Conflict.{FitsThere}, Permitted.{ArePermittedBehind}, Reading.{Judged}}
+use Rattle.nntp_theory.specs.Reading.{accepted_of, AreJudged, IsReadingBy}
+use Rattle.nntp_facts.specs.{Inner.{Noted.{FactsKept, HasNotedBehind, begun, profile_kept}, Points.{AreHeld, held_by}}, declared.standing.Standing.{Standing}}
+use Rattle.nntp_facts.specs.{declared.placed.Placed.{Placed as Cited}, Standing.{nowhere, standing, standing_after, stands_of}}
+use Rattle.nntp_several.specs.{Reading.{ReadSession, IsReadingOfAll}, Sessions.{Named, Recorded, unnamed}}
 use Rattle.nntp_printing.specs.Title.{title_line}
-use Rattle.nntp_explain.specs.declared.{standing.{Standing.{Standing as StandingCode}, Cited.{Cited as CitedCode}}, explainer.Explainer.{Explainer}}
-use Rattle.nntp_explain.specs.Standing.{Standing, Cited, standing, standing_after, cited_at, cited_each, number_behind, cited_of_all, closing}
+use Rattle.nntp_explain.specs.{declared.explainer.Explainer.{Explainer}, Standing.{cited_at, cited_each, number_behind, cited_of_all}}
 use Rattle.nntp_explain.specs.{Inner.Explaining.{ToldContradiction}, Explaining.{IsTold, IsConflictOf, AreExplained, count_bad, IsSessionExplained, Counts}}
 use Rattle.nntp_explain.specs.Explaining.{IsConflictWithSome, IsContradiction, WasRefused, are_looked_for, counts_of, titled, none_counted}
 use Rattle.nntp_explain.specs.{Explaining.{AreSessionsExplained}, Reasons.{unfitting_lines, misspelling_line}}
-use Rattle.nntp_said.specs.{Facts.{Fact}, declared.position.Position.{Position}}
+use Rattle.nntp_said.specs.Facts.{Fact}
 
--- where a session stands, without where the name lies in memory
-abbrev pub standing_of : StandingCode → Standing
-standing_of s = record { name = s.name; selected_by = s.selected_by; position = s.position; moved_by = s.moved_by }
-
--- an answer as it is cited, without where its octets lie in memory
-abbrev pub cited_of : CitedCode → Cited
-cited_of c = record { session = c.session; index = c.index; line = option_copied c.line; initial = c.initial.now; stands = option_map standing_of c.standing }
-
--- what is kept of answers that were judged: what the accepted ones say, each of them as it is placed and cited; the number of the session, how many of them are of earlier ones, and its name until it
--- is told; where it stands, which answer closed the connection, and which contradictions of it were told; and how many are bad
+-- what is kept of answers that were judged: what the accepted ones say, and each of them where it stands; the number of the session, how many of them are of earlier ones, and its name until it is
+-- told; where it stands, and which contradictions of it were told; and how many are bad
 pub record Kept : Type 0 where
   pub facts : FactsKept
-  pub placed : List Placed
-  pub cited : List Cited
+  pub accepted : List Cited
   pub session : ℕ
   pub others : ℕ
   pub title : Option (List ℕ)
-  pub stands : Option Standing
-  pub closing : Option Cited
+  pub stands : Standing
   pub contradictions : List ToldContradiction
   pub bad : ℕ
 
@@ -42,28 +32,22 @@ pub record Kept : Type 0 where
 abbrev pub begins : Option (List ℕ) → Kept → Kept
 begins title k = record {
   facts = begun k.facts;
-  placed = k.placed;
-  cited = k.cited;
+  accepted = k.accepted;
   session = k.session + 1;
-  others = length k.placed;
+  others = length k.accepted;
   title = title;
-  stands = None;
-  closing = None;
+  stands = nowhere;
   contradictions = [];
   bad = k.bad;
 }
 
--- an answer in the selected group, at a position
-abbrev pub placed_at : Option Standing → Position → Paired → Placed
-placed_at stands position pair = record { selected = option_map (λ s. s.name) stands; position = position; asked = asked_at pair.place; response = pair.response }
+-- an answer of the session where that stands
+abbrev pub cited_here : Kept → Paired → Cited
+cited_here k pair = cited_at k.session k.stands pair
 
--- the same with one more accepted answer, before which the session stood at this position
-abbrev pub keeps : Position → Paired → Kept → Kept
-keeps position pair k = record k {
-  placed = k.placed ++ placed_at k.stands position pair ∷ [];
-  cited = k.cited ++ cited_at k.session k.stands pair ∷ [];
-  stands = standing_after k.stands pair;
-}
+-- the same with one more accepted answer
+abbrev pub keeps : Paired → Kept → Kept
+keeps pair k = record k { accepted = k.accepted ++ cited_here k pair ∷ []; stands = standing_after k.stands pair }
 
 -- the same with one more bad answer, which is told behind the name
 abbrev pub refuses : Kept → Kept
@@ -76,7 +60,7 @@ title_of k = option_map_or (title_line k.session) k.title []
 -- why an answer doesn't fit what is kept of its session
 abbrev pub unfitting_told : Kept → Paired → List ℕ
 unfitting_told k pair =
-    option_map_or (unfitting_lines k.session (drop k.others k.placed) (drop k.others k.cited) pair.response)
+    option_map_or (unfitting_lines k.session (drop k.others k.accepted) pair.response)
     (misfit (profile_kept k.facts) k.facts.visible (asked_at pair.place) pair.response) []
 
 -- ---- sessions that were read whole
@@ -84,8 +68,7 @@ unfitting_told k pair =
 -- this is kept of these accepted answers of sessions that were read whole
 pub record AreKept (profile : Profile) (earlier : List (List Paired)) (kept : Kept) : Type 0 where
   pub noted : HasNotedBehind profile (begun kept.facts) earlier []
-  pub placed_are : kept.placed ≡ flat_map placed_of earlier
-  pub cited_are : kept.cited ≡ cited_each 1 earlier
+  pub accepted_are : kept.accepted ≡ cited_each 1 earlier
   pub session_is : kept.session ≡ length earlier
 
 -- what a session is read behind: the accepted answers of earlier ones, how many answers are bad, and what is told; and its name, if it is told
@@ -99,7 +82,7 @@ pub record Before : Type 0 where
 
 -- of each of these contradictions the reason is that of the bad answer behind all accepted ones that are kept
 abbrev pub AreReasons : Profile → Kept → List ToldContradiction → Type 0
-AreReasons profile k contradictions = AllByRecursion (λ c. IsConflictOf k.session profile c.bad k.placed k.cited c.reason) contradictions
+AreReasons profile k contradictions = AllByRecursion (λ c. IsConflictOf k.session profile c.bad k.accepted c.reason) contradictions
 
 -- the name that is still to be told where so many answers of the session are bad
 abbrev pub untold : Option (List ℕ) → ℕ → Option (List ℕ)
@@ -115,13 +98,11 @@ pub record AreTold (profile : Profile) (b : Before) (client : ClientStream) (ser
   pub answers : List Judged
   pub judged : AreJudged (ArePermittedBehind profile b.earlier) [] (streams client server) answers left
   pub noted : HasNotedBehind profile kept.facts b.earlier (accepted_of answers)
-  pub placed_are : kept.placed ≡ placed_of_all b.earlier (accepted_of answers)
-  pub cited_are : kept.cited ≡ cited_of_all b.earlier (accepted_of answers)
+  pub accepted_are : kept.accepted ≡ cited_of_all b.earlier (accepted_of answers)
   pub session_is : kept.session ≡ number_behind b.earlier
-  pub others_are : kept.others ≡ length (flat_map placed_of b.earlier)
+  pub others_are : kept.others ≡ length (cited_each 1 b.earlier)
   pub title_is : kept.title ≡ untold b.title (count_bad answers)
   pub stands_there : kept.stands ≡ standing (accepted_of answers)
-  pub closing_is : kept.closing ≡ closing (number_behind b.earlier) answers
   pub reasons : AreReasons profile kept kept.contradictions
   pub refused : AllByRecursion (λ c. WasRefused answers c.bad) kept.contradictions
   pub bad_are : kept.bad ≡ b.bad + count_bad answers
@@ -136,8 +117,7 @@ pub record IsRead (profile : Profile) (b : Before) (client : ClientStream) (serv
   pub read : ReadSession
   pub reading : IsReadingBy (ArePermittedBehind profile b.earlier) client server read.answers read.ending
   pub noted : HasNotedBehind profile kept.facts b.earlier (accepted_of read.answers)
-  pub placed_are : kept.placed ≡ placed_of_all b.earlier (accepted_of read.answers)
-  pub cited_are : kept.cited ≡ cited_of_all b.earlier (accepted_of read.answers)
+  pub accepted_are : kept.accepted ≡ cited_of_all b.earlier (accepted_of read.answers)
   pub session_is : kept.session ≡ number_behind b.earlier
   pub few : kept.bad ≤ length text
   pub bad_are : kept.bad ≡ b.bad + (counts_of read reading.left).bad
@@ -161,7 +141,7 @@ pub record HaveRead (profile : Profile) (sessions : List Named) (kept : Kept) (t
   pub as_many : length (accepted_behind [] readings) ≡ length sessions
   pub few : kept.bad ≤ length text
   pub counts : Counts
-  pub answers_are : length kept.cited + kept.bad ≡ counts.answers
+  pub answers_are : length kept.accepted + kept.bad ≡ counts.answers
   pub bad_are : kept.bad ≡ counts.bad
   pub unanswered_are : unanswered ≡ counts.unanswered
   pub explained : AreSessionsExplained profile [] none_counted sessions readings are_readings text counts
@@ -172,13 +152,11 @@ pub record HaveRead (profile : Profile) (sessions : List Named) (kept : Kept) (t
 abbrev pub kept_of : {A : Type 0} → Explainer A → Kept
 kept_of e = record {
   facts = e.facts;
-  placed = e.placed.items;
-  cited = map cited_of e.cited.items;
+  accepted = e.accepted.items;
   session = e.session;
   others = e.others;
   title = option_copied e.title;
-  stands = option_map standing_of e.standing;
-  closing = option_map cited_of e.closing;
+  stands = e.standing;
   contradictions = e.contradictions.items;
   bad = e.bad;
 }
@@ -205,17 +183,17 @@ GoesOn P old new = (more : List ℕ) × (new ≡ old ++ more) × P more
 abbrev pub unspelled_lines : Asked → List ℕ → Option (List ℕ) → List ℕ
 unspelled_lines asked initial block = option_map_or misspelling_line (misspelling asked initial block) []
 
--- the answer of an exchange as it is placed, if it stands at this position
-abbrev pub placed_here : Kept → Position → Paired → Placed
-placed_here k position pair = placed_at k.stands position pair
+-- the answer of an exchange where it stands
+abbrev pub placed_here : Kept → Paired → Placed
+placed_here k pair = stands_of (cited_here k pair)
 
 -- it fits where it stands, as each accepted answer does
 abbrev pub Fits : Kept → Placed → Type 0
-Fits k bad = AllByRecursion (FitsThere (profile_kept k.facts)) (bad ∷ k.placed)
+Fits k bad = AllByRecursion (FitsThere (profile_kept k.facts)) (bad ∷ map stands_of k.accepted)
 
 -- no spool has what it says and what all accepted answers say
 abbrev pub Contradicts : Kept → Placed → Type 0
-Contradicts k bad = SomeHas (profile_kept k.facts) (told_with (profile_kept k.facts) bad k.placed (below (length k.placed))) → ⊥
+Contradicts k bad = SomeHas (profile_kept k.facts) (told_with (profile_kept k.facts) bad (map stands_of k.accepted) (below (length (map stands_of k.accepted)))) → ⊥
 
 -- some spool has what it says
 abbrev pub StandsAlone : Kept → Placed → Type 0
@@ -223,7 +201,7 @@ StandsAlone k bad = SomeHas (profile_kept k.facts) (told (profile_kept k.facts) 
 
 -- the text tells with which accepted answers it conflicts, and about what
 abbrev pub TellsConflict : Kept → Placed → List ℕ → Type 0
-TellsConflict k bad text = IsConflictOf k.session (profile_kept k.facts) bad k.placed k.cited text
+TellsConflict k bad text = IsConflictOf k.session (profile_kept k.facts) bad k.accepted text
 
 -- a reason was told of the same answer
 abbrev pub HasReason : Kept → Placed → Type 0
@@ -235,15 +213,15 @@ IsRefused k facts bad = lines_in bad.response < 2 ^ 64 → AreHeld (profile_kept
 
 -- the text is its reason, whether or not the answers that it conflicts with are looked for
 abbrev pub TellsContradiction : Bool → Kept → List Fact → Placed → List ℕ → Type 0
-TellsContradiction looked_for k facts bad text = IsContradiction looked_for (HasReason k bad) k.session (profile_kept k.facts) facts bad k.placed k.cited text
+TellsContradiction looked_for k facts bad text = IsContradiction looked_for (HasReason k bad) k.session (profile_kept k.facts) facts bad k.accepted text
 
 -- the same of one that comes next, by how many are bad before it
 abbrev pub TellsNext : Kept → List Fact → Placed → List ℕ → Type 0
-TellsNext k facts bad text = TellsContradiction (are_looked_for k.bad (length k.placed)) k facts bad text
+TellsNext k facts bad text = TellsContradiction (are_looked_for k.bad (length k.accepted)) k facts bad text
 
 -- the text tells that it conflicts with some of the accepted answers
 abbrev pub TellsSome : Kept → List Fact → Placed → List ℕ → Type 0
-TellsSome k facts bad text = IsConflictWithSome k.session (profile_kept k.facts) facts bad k.placed k.cited text
+TellsSome k facts bad text = IsConflictWithSome k.session (profile_kept k.facts) facts bad k.accepted text
 
 -- the reason of this answer is kept too, or no further one
 abbrev pub AddsReason : Placed → List ToldContradiction → List ToldContradiction → Type 0

@@ -233,9 +233,3 @@ pub fits_at : (profile : Profile) (answers : List Placed) (place : ℕ) (a : Pla
 fits_at profile [] place a h e = cc
 fits_at profile (b ∷ answers) zero a h e = subst (FitsThere profile) (let same : b ≡ a = cc in same) h.0
 fits_at profile (b ∷ answers) (suc place) a h e = fits_at profile answers place a h.1 e
-
--- behind the last there is none
-pub no_answer : (answers : List Placed) (place : ℕ) → (place < length answers → ⊥) → slice_get answers place ≡ None
-no_answer [] place h = cc
-no_answer (a ∷ answers) zero h = absurd (h (omega arith))
-no_answer (a ∷ answers) (suc place) h = no_answer answers place (λ l. h (omega arith))

@@ -1,5 +1,5 @@
 //! What answers say by themselves.
-ghost use Rattle.std.specs.Prelude.{◌≡◌, ℕ, List, [], ◌∷◌, ◌++◌, Option, IfOk, option_map};
+ghost use Rattle.std.specs.Prelude.{◌≡◌, ℕ, List, [], ◌∷◌, ◌++◌, Option, IfOk, map, option_map};
 ghost use Rattle.std.specs.List.{AllByRecursion};
 ghost use Rattle.nntp_wire.specs.Limit.{greatest};
 ghost use Rattle.nntp_article.specs.declared.session.profile.Profile.{Profile};
@@ -12,6 +12,7 @@ ghost use Rattle.nntp_facts.specs.Inner.Kept.{IsKept, AreAdded};
 ghost use Rattle.nntp_facts.specs.Inner.Saying.{TellsThere};
 ghost use Rattle.nntp_facts.specs.Inner.SayingView.{saying_of};
 ghost use Rattle.nntp_facts.specs.Inner.Told.{AreTold, AreToldWith, PlacesTold};
+ghost use Rattle.nntp_facts.specs.Standing.{stands_of};
 
 use crate::kept::Kept;
 use crate::placed::Placed;
@@ -30,8 +31,8 @@ impl<A: Allocator + Copy> Kept<A> {
         marks: Marks,
         answer: &Placed<'_>,
     ) -> Result<bool, AllocError>
-        ensures { IfOk result (λ does. (facts : List Fact) → IsKept facts self.old → Together facts → FitsThere (profile_of limit marks) answer.now
-            → AreTold (profile_of limit marks) facts (told (profile_of limit marks) answer.now) self.new does) }
+        ensures { IfOk result (λ does. (facts : List Fact) → IsKept facts self.old → Together facts → FitsThere (profile_of limit marks) (stands_of answer.now)
+            → AreTold (profile_of limit marks) facts (told (profile_of limit marks) (stands_of answer.now)) self.new does) }
     {
         let response = answer.answer();
         let numbers = numbers_listed(self.alloc, response)?;
@@ -87,9 +88,9 @@ impl<A: Allocator + Copy> Kept<A> {
         answers: &[Placed<'_>],
         place: usize,
     ) -> Result<bool, AllocError>
-        ensures { IfOk result (λ does. (bad : PlacedValue) (places : List ℕ) → AllByRecursion (FitsThere (profile_of limit marks)) answers.now
-            → AreToldWith (profile_of limit marks) bad answers.now places self.old
-            → PlacesTold (profile_of limit marks) bad answers.now (places ++ place ∷ []) self.new does) }
+        ensures { IfOk result (λ does. (bad : PlacedValue) (places : List ℕ) → AllByRecursion (FitsThere (profile_of limit marks)) (map stands_of answers.now)
+            → AreToldWith (profile_of limit marks) bad (map stands_of answers.now) places self.old
+            → PlacesTold (profile_of limit marks) bad (map stands_of answers.now) (places ++ place ∷ []) self.new does) }
     {
         match answers.get(place) {
             Some(answer) => self.tell(limit, marks, answer),

@@ -6,6 +6,7 @@ ghost use Rattle.nntp_theory.specs.Inner.Conflict.{FitsThere};
 ghost use Rattle.nntp_theory.specs.Conflict.{told};
 ghost use Rattle.nntp_facts.specs.Inner.Points.{TellsAlone};
 ghost use Rattle.nntp_facts.specs.Inner.StatementView.{statement_of};
+ghost use Rattle.nntp_facts.specs.Standing.{stands_of};
 
 use crate::placed::Placed;
 use crate::saying::Saying;
@@ -23,8 +24,8 @@ pub(crate) struct Statement<'s> {
 impl<'s> Statement<'s> {
     /// Returns what an answer says where marks are read so; `numbers` are those that it lists.
     pub(crate) fn of(marks: Marks, answer: &'s Placed<'s>, numbers: &'s [u64]) -> Statement<'s>
-        ensures { (profile : Profile) → profile.marks ≡ marks → FitsThere profile answer.now → numbers.now ≡ numbers_of answer.now.response
-            → TellsAlone profile (statement_of result) (told profile answer.now) }
+        ensures { (profile : Profile) → profile.marks ≡ marks → FitsThere profile (stands_of answer.now)
+            → numbers.now ≡ numbers_of (stands_of answer.now).response → TellsAlone profile (statement_of result) (told profile (stands_of answer.now)) }
     {
         let saying = Saying::of(
             marks,

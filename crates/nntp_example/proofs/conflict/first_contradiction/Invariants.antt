@@ -5,7 +5,7 @@ use Rattle.nntp_wire.specs.{Session.{taken}, declared.overviews.Overviews.TheVar
 use Rattle.nntp_example.proofs.conflict.first_contradiction.Given as goal
 
 abbrev pub invariant-loop-exchange : goal.invariant-loop-exchange
-invariant-loop-exchange l = AreAccepted (profile_of l.fn.limit l.fn.marks) (taken Opaque l.client) l.server l.facts l.answers.items l.selected l.pairs
+invariant-loop-exchange l = AreAccepted (profile_of l.fn.limit l.fn.marks) (taken Opaque l.client) l.server l.facts l.answers.items l.standing l.pairs
 
 abbrev pub decreases-loop-exchange : goal.decreases-loop-exchange
 decreases-loop-exchange l = length l.pairs.server

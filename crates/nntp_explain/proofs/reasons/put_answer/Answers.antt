@@ -15,7 +15,7 @@ pub returns : goal.returns
 returns g c =
     let answer = c.args.answer.now in
     on_ok c.put_number-2.result
-    (λ put. joined c.args.text.now.items c.args.label.now (decimal answer.index) (codes " of session ") (decimal answer.session) c.put_number.new.text.items c.put_number-2.new.text.items
-    c.in_ok-put_number.ensures put
-    ∙ ap (λ t. c.args.text.now.items ++ c.args.label.now ++ (decimal answer.index ++ t)) (another c.args.here answer.session c.if-answer-here.false))
+    (λ put. joined c.args.text.now.items c.args.label.now (decimal answer.exchange.index) (codes " of session ") (decimal answer.session) c.put_number.new.text.items c.put_number-2.new.text.items
+    (c.in_ok-put_number.ensures ∙ ap (λ n. c.args.text.now.items ++ c.args.label.now ++ decimal n) c.index.ensures.value) put
+    ∙ ap (λ t. c.args.text.now.items ++ c.args.label.now ++ (decimal answer.exchange.index ++ t)) (another c.args.here answer.session c.if-answer-here.false))
     c.put_number-2.ensures

@@ -1,6 +1,6 @@
-use Rattle.std.{proofs.Common.{◌≡◌, ◌∙◌, ◌++◌, ap, append_assoc, ℕ, List}, specs.{Option.{option_map, option_copied}, Prelude.{codes}}}
+use Rattle.std.{proofs.Common.{◌≡◌, ◌∙◌, ◌++◌, ap, append_assoc, ℕ, List}, specs.{Option.{option_map}, Prelude.{codes}}}
 use Rattle.nntp_printing.specs.{BadAnswer.{command_line, shown}, Printing.{escaped}}
-use Rattle.nntp_explain.specs.{Inner.ExplainingView.{cited_of, standing_of}, Reasons.{answer_text, standing_line}}
+use Rattle.nntp_explain.specs.Reasons.{answer_text, standing_line}
 use Rattle.nntp_explain.proofs.reasons.put_because.Goals as goal
 
 -- five texts, one behind the other
@@ -12,8 +12,9 @@ pub returns : goal.returns
 returns g c =
     let answer = c.args.answer.now in
     joined c.args.text.now.items c.put_answer.new.text.items c.push.new.self.items c.put_command.new.text.items c.put_escaped_line.new.text.items c.put_standing.new.text.items
-    (codes "because answer ") (answer_text c.args.here (cited_of answer)) (codes "\n") (command_line (option_map shown (option_copied answer.line))) (codes "answer ")
-    (escaped (shown answer.initial.now))
-    (codes "\n") (standing_line (option_map standing_of answer.standing)) c.in_ok-put_answer.ensures c.in_ok-push.ensures.items
-    (c.in_ok-put_command.ensures ∙ ap (λ line. c.push.new.self.items ++ command_line line) c.shown_line.ensures)
-    (c.in_ok-put_escaped_line.ensures ∙ ap (λ octets. c.put_command.new.text.items ++ codes "answer " ++ escaped octets ++ codes "\n") c.shown.ensures) c.in_ok-put_standing.ensures
+    (codes "because answer ") (answer_text c.args.here answer) (codes "\n") (command_line (option_map shown answer.exchange.place.line)) (codes "answer ")
+    (escaped (shown answer.exchange.initial))
+    (codes "\n") (standing_line answer.standing) c.in_ok-put_answer.ensures c.in_ok-push.ensures.items
+    (c.in_ok-put_command.ensures ∙ ap (λ line. c.push.new.self.items ++ command_line line) (c.shown_line.ensures ∙ ap (option_map shown) c.line.ensures))
+    (c.in_ok-put_escaped_line.ensures ∙ ap (λ octets. c.put_command.new.text.items ++ codes "answer " ++ escaped octets ++ codes "\n")
+    (c.shown.ensures ∙ ap shown c.initial.ensures)) c.in_ok-put_standing.ensures

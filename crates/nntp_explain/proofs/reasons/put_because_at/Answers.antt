@@ -1,6 +1,7 @@
 use Rattle.std.proofs.Common.{◌≡◌, ◌<◌, ◌≤◌, ◌∙◌, ◌++◌, ap, sym, append-nil, rules, [], length, Option, None, Some, slice_get}
-use Rattle.std.{proofs.lemmas.Option.{slice_get-get_or, slice_get-map, slice_get_past}, specs.Option.{option_map, option_map_or}}
-use Rattle.nntp_explain.{specs.{Inner.ExplainingView.{cited_of}, Reasons.{because_lines}, Standing.{Cited}}, proofs.SaysLemmas.{on_ok}}
+use Rattle.std.{proofs.lemmas.Option.{slice_get-get_or, slice_get_past}, specs.Option.{option_map_or}}
+use Rattle.nntp_facts.specs.declared.placed.Placed.{Placed as Cited}
+use Rattle.nntp_explain.{specs.Reasons.{because_lines}, proofs.SaysLemmas.{on_ok}}
 use Rattle.nntp_explain.proofs.reasons.put_because_at.Goals as goal
 
 pub returns-in-Some : goal.returns-in-Some
@@ -9,8 +10,7 @@ returns-in-Some g c =
     let within : c.args.place < length answers = search rules in
     let there : slice_get answers c.args.place ≡ Some c.in-Some.answer.now = slice_get-get_or answers c.args.place _ within ∙ ap (λ a. Some a) (sym c.in-Some.ensures.lookup.1) in
     on_ok c.put_because.result
-    (λ put. put ∙ ap (λ (o : Option Cited). c.args.text.now.items
-    ++ option_map_or (because_lines c.args.here) o []) (sym (slice_get-map cited_of answers c.args.place ∙ ap (option_map cited_of) there)))
+    (λ put. put ∙ ap (λ (o : Option Cited). c.args.text.now.items ++ option_map_or (because_lines c.args.here) o []) (sym there))
     c.put_because.ensures
 
 pub returns-in-None : goal.returns-in-None
@@ -19,4 +19,4 @@ returns-in-None g c =
     let past : length answers ≤ c.args.place = search rules in
     let none : slice_get answers c.args.place ≡ None = slice_get_past answers c.args.place past in
     sym (append-nil c.args.text.now.items)
-    ∙ ap (λ (o : Option Cited). c.args.text.now.items ++ option_map_or (because_lines c.args.here) o []) (sym (slice_get-map cited_of answers c.args.place ∙ ap (option_map cited_of) none))
+    ∙ ap (λ (o : Option Cited). c.args.text.now.items ++ option_map_or (because_lines c.args.here) o []) (sym none)

@@ -3,8 +3,8 @@ use Rattle.nntp_article.specs.declared.session.profile.Profile.{Profile}
 use Rattle.nntp_wire.specs.Inner.View.{asked}
 use Rattle.nntp_pair.specs.Pairing.{Unpaired, line_ahead, streams, has_line}
 use Rattle.nntp_several.specs.Sessions.{Recorded}
-use Rattle.nntp_explain.{specs.Inner.ExplainingView.{kept_of, AreTold, HasTold}, proofs.{ExplainLemmas.{told_unspelled}, EndLemmas.{read_at_end}}}
-use Rattle.nntp_explain.proofs.EndLemmas.{read_at_octets}
+use Rattle.nntp_explain.{specs.Inner.ExplainingView.{kept_of, AreTold, HasTold}, proofs.ExplainLemmas.{others_accepted, told_unspelled}}
+use Rattle.nntp_explain.proofs.EndLemmas.{read_at_end, read_at_octets}
 use Rattle.nntp_explain.proofs.explainer.Explainer.read.Goals as goal
 
 pub loop-exchange-init : goal.loop-exchange-init
@@ -51,7 +51,13 @@ loop-exchange-preserved g c = λ profile b h.
     told c.index-index.ensures.value c.pass_over-malformed.ensures.passed
 
 pub refuse_octets-requires : goal.refuse_octets-requires
-refuse_octets-requires g c = record { few = (c.loop-exchange.invariant c.requires.0 c.requires.1 c.requires.2).few; passed = c.in_default.not-Malformed }
+refuse_octets-requires g c =
+    let told = c.loop-exchange.invariant c.requires.0 c.requires.1 c.requires.2 in
+    record {
+      few = told.few;
+      others = others_accepted c.requires.0 c.requires.1 c.args.session.now.client c.args.session.now.server (kept_of c.loop-exchange.self) c.loop-exchange.self.text.items c.loop-exchange.pairs told;
+      passed = c.in_default.not-Malformed;
+    }
 
 pub returns-in_default : goal.returns-in_default
 returns-in_default g c = λ profile b h.

@@ -1,26 +1,26 @@
 use Rattle.std.proofs.Common.{rules, ◌≡◌, ◌∙◌, ◌++◌, sym, ap, subst, refl, inl, append-nil, Bool, true, false, ℕ, length, List, [], Option}
-use Rattle.std.specs.Option.{option_map}
-use Rattle.nntp_article.specs.Session.Spool.{Name}
 use Rattle.nntp_said.specs.Facts.{Fact}
 use Rattle.nntp_theory.specs.Conflict.{Placed}
-use Rattle.nntp_facts.specs.Inner.Noted.{profile_kept}
-use Rattle.nntp_pair.specs.{declared.class.Class.TheVariants.{Contradiction}, Pairing.{asked_at}}
+use Rattle.nntp_facts.specs.{Inner.Noted.{profile_kept}, Standing.{stands_of}}
+use Rattle.nntp_pair.specs.declared.class.Class.TheVariants.{Contradiction}
 use Rattle.nntp_explain.specs.{Explaining.{are_looked_for, front_lines, place_lines}, Inner.{Explaining.{ToldContradiction}, ExplainingView.{AddsReason, Kept}}}
-use Rattle.nntp_explain.specs.Inner.ExplainingView.{AreReasons, Contradicts, Fits, IsRefused, TellsNext, TellsContradiction, refuses, kept_of, standing_of}
-use Rattle.nntp_explain.{specs.Inner.ExplainingView.{placed_here, title_of}, proofs.{AnswerLemmas.{told_reason}, ExplainLemmas.{on_ok}}}
-use Rattle.nntp_explain.proofs.explainer.Explainer.refuse_contradiction.Goals.{After-new-bad}
+use Rattle.nntp_explain.specs.Inner.ExplainingView.{AreReasons, Contradicts, Fits, IsRefused, TellsNext, TellsContradiction, refuses, kept_of, placed_here}
+use Rattle.nntp_explain.{specs.Inner.ExplainingView.{title_of}, proofs.{AnswerLemmas.{told_reason}, ExplainLemmas.{on_ok}}}
+use Rattle.nntp_explain.proofs.explainer.Explainer.refuse_contradiction.Goals.{After-copy}
 use Rattle.nntp_explain.proofs.explainer.Explainer.refuse_contradiction.Given as given
 use Rattle.nntp_explain.proofs.explainer.Explainer.refuse_contradiction.Goals as goal
 
+-- where the answer stands
+abbrev bad : (g : given.Over) → After-copy g → Placed
+bad g c = stands_of (record { session = c.put_bad.new.self.session; standing = c.copy.result; exchange = c.args.exchange })
+
 -- what is kept is as before the answer was told, and so is where the answer stands
-before : (g : given.Over) (c : After-new-bad g) → ◌≡◌ {A = Kept × Placed} (kept_of c.put_bad.new.self, c.new-bad.result)
-    (refuses (kept_of c.args.self.now), placed_here (kept_of c.args.self.now) c.args.position c.args.exchange)
+before : (g : given.Over) (c : After-copy g)
+    → ◌≡◌ {A = Kept × Placed} (kept_of c.put_bad.new.self, bad g c) (refuses (kept_of c.args.self.now), placed_here (kept_of c.args.self.now) c.args.exchange)
 before g c =
     let kept = c.in_ok-put_bad.ensures.kept in
-    let selected = c.selected.ensures ∙ ap (λ (k : Kept). option_map (λ s. s.name) k.stands) kept in
-    let placed = c.new-bad.ensures
-    ∙ ap (λ (name : Option Name). record { selected = name; position = c.args.position; asked = asked_at c.args.exchange.place; response = c.args.exchange.response }) selected in
-    λ i. (kept i, placed i)
+    let standing = c.copy.ensures ∙ ap (λ (k : Kept). k.stands) kept in
+    λ i. (kept i, stands_of (record { session = c.put_bad.new.self.session; standing = standing i; exchange = c.args.exchange }))
 
 -- so are the contradictions
 same_told : (old new : Kept) → new ≡ refuses old → new.contradictions ≡ old.contradictions
@@ -40,7 +40,7 @@ returns-then-not-branch-clause-reasons g c =
 pub returns-then-not-branch-clause-text : goal.returns-then-not-branch-clause-text
 returns-then-not-branch-clause-text g c facts refused =
     let pair = c.args.exchange in
-    let stands = option_map standing_of c.args.self.now.standing in
+    let stands = c.args.self.now.standing in
     let old = c.args.self.now.text.items ++ title_of (kept_of c.args.self.now) in
     let lines = ap (λ (q : ℕ × Option (List ℕ) × List ℕ). old ++ front_lines q.0 Contradiction q.1 q.2 ++ place_lines c.args.self.now.bad stands)
     (λ i. (c.index.ensures.value i, c.line-line.ensures i, c.initial.ensures i)) in
@@ -55,11 +55,11 @@ returns-then-not-branch-clause-adds g c = inl (same_told (kept_of c.args.self.no
 
 pub tell_conflict-requires-clause-fit : goal.tell_conflict-requires-clause-fit
 tell_conflict-requires-clause-fit g c =
-    subst (λ (q : Kept × Placed). Fits q.0 q.1) (sym (before g (goal.at.tell_conflict-requires-clause-fit g c).After-new-bad)) c.requires.fit
+    subst (λ (q : Kept × Placed). Fits q.0 q.1) (sym (before g (goal.at.tell_conflict-requires-clause-fit g c).After-copy)) c.requires.fit
 
 pub tell_conflict-requires-clause-conflict : goal.tell_conflict-requires-clause-conflict
 tell_conflict-requires-clause-conflict g c =
-    subst (λ (q : Kept × Placed). Contradicts q.0 q.1) (sym (before g (goal.at.tell_conflict-requires-clause-conflict g c).After-new-bad)) c.requires.conflict
+    subst (λ (q : Kept × Placed). Contradicts q.0 q.1) (sym (before g (goal.at.tell_conflict-requires-clause-conflict g c).After-copy)) c.requires.conflict
 
 pub tell_conflict-requires-clause-reasons : goal.tell_conflict-requires-clause-reasons
 tell_conflict-requires-clause-reasons g c =
@@ -81,27 +81,28 @@ returns-clause-adds g c =
     let told = same_told old (kept_of c.put_bad.new.self) c.in_ok-put_bad.ensures.kept in
     on_ok c.tell_conflict.result c.tell_conflict.ensures.adds c.tell_conflict.ensures.adds
     (λ adds _. subst (λ (q : Placed × List ToldContradiction). AddsReason q.0 q.1 c.tell_conflict.new.self.contradictions.items)
-    (λ i. ((before g (goal.at.returns-clause-adds g c).After-new-bad i).1, told i)) adds)
+    (λ i. ((before g (goal.at.returns-clause-adds g c).After-copy i).1, told i)) adds)
 
 pub returns-clause-text : goal.returns-clause-text
 returns-clause-text g c =
     let pair = c.args.exchange in
     let self = c.args.self.now in
-    let stands = option_map standing_of self.standing in
+    let stands = self.standing in
     let old = self.text.items ++ title_of (kept_of self) in
-    let bad = placed_here (kept_of self) c.args.position pair in
+    let there = placed_here (kept_of self) pair in
     let lines = ap (λ (q : ℕ × Option (List ℕ) × List ℕ). old ++ front_lines q.0 Contradiction q.1 q.2 ++ place_lines self.bad stands)
     (λ i. (c.index.ensures.value i, c.line-line.ensures i, c.initial.ensures i)) in
-    let count : c.len.result ≡ length self.placed.items = search rules in
-    let looked_for : c.are_looked_for-looked_for.result ≡ are_looked_for self.bad (length self.placed.items) = c.are_looked_for-looked_for.ensures ∙ ap (are_looked_for self.bad) count in
-    let conflict = λ (more : List ℕ) (facts : List Fact) (is : TellsContradiction c.are_looked_for-looked_for.result (kept_of c.put_bad.new.self) facts c.new-bad.result more).
+    let count : c.len.result ≡ length self.accepted.items = search rules in
+    let looked_for : c.are_looked_for-looked_for.result ≡ are_looked_for self.bad (length self.accepted.items) = c.are_looked_for-looked_for.ensures ∙ ap (are_looked_for self.bad) count in
+    let conflict = λ (more : List ℕ) (facts : List Fact)
+    (is : TellsContradiction c.are_looked_for-looked_for.result (kept_of c.put_bad.new.self) facts (bad g (goal.at.returns-clause-text g c).After-copy) more).
     subst (λ (q : Bool × Kept × Placed). TellsContradiction q.0 q.1 facts q.2 more)
-    (λ i. (looked_for i, (before g (goal.at.returns-clause-text g c).After-new-bad i).0, (before g (goal.at.returns-clause-text g c).After-new-bad i).1)) is in
+    (λ i. (looked_for i, (before g (goal.at.returns-clause-text g c).After-copy i).0, (before g (goal.at.returns-clause-text g c).After-copy i).1)) is in
     on_ok c.tell_conflict.result c.tell_conflict.ensures.text c.tell_conflict.ensures.text
     (λ tells _ facts refused.
-    let goes = tells facts (subst (λ (q : Kept × Placed). IsRefused q.0 facts q.1) (sym (before g (goal.at.returns-clause-text g c).After-new-bad)) refused) in
+    let goes = tells facts (subst (λ (q : Kept × Placed). IsRefused q.0 facts q.1) (sym (before g (goal.at.returns-clause-text g c).After-copy)) refused) in
     told_reason self.bad stands pair.index Contradiction pair.place.line pair.initial
-    (TellsNext (kept_of self) facts bad)
+    (TellsNext (kept_of self) facts there)
     old c.tell_conflict.new.self.text.items goes.0 true
     (sym c.if-not-branch.false ∙ c.in_ok-put_bad.ensures.told)
     (goes.1 ∙ ap (λ t. t ++ goes.0) (c.in_ok-put_bad.ensures.text ∙ lines))

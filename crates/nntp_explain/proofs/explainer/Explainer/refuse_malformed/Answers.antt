@@ -1,14 +1,14 @@
-use Rattle.std.{proofs.Common.{◌≡◌, ◌∙◌, ◌++◌, sym, ap, ap₂, refl, true, false, [], append-nil}, specs.Option.{option_map, option_copied}}
+use Rattle.std.proofs.Common.{◌≡◌, ◌∙◌, ◌++◌, sym, ap, ap₂, refl, true, false, [], append-nil}
 use Rattle.nntp_wire.specs.Inner.View.{asked}
 use Rattle.nntp_pair.specs.declared.class.Class.TheVariants.{Malformed}
-use Rattle.nntp_explain.specs.{Explaining.{front_lines, place_lines}, Inner.ExplainingView.{kept_of, standing_of, title_of, unspelled_lines}}
+use Rattle.nntp_explain.specs.{Explaining.{front_lines, place_lines}, Inner.ExplainingView.{kept_of, title_of, unspelled_lines}}
 use Rattle.nntp_explain.proofs.AnswerLemmas.{told_reason}
 use Rattle.nntp_explain.proofs.explainer.Explainer.refuse_malformed.Goals as goal
 
 pub returns-in_ok-put_unspelled-clause-text : goal.returns-in_ok-put_unspelled-clause-text
 returns-in_ok-put_unspelled-clause-text g c =
     let m = c.args.malformed.now in
-    let stands = option_map standing_of c.args.self.now.standing in
+    let stands = c.args.self.now.standing in
     let old = c.args.self.now.text.items ++ title_of (kept_of c.args.self.now) in
     let reason = unspelled_lines (asked m.prompt) m.frame.initial m.frame.block in
     let lines = ap₂ (λ line initial. old ++ front_lines c.args.index Malformed line initial ++ place_lines c.args.self.now.bad stands) c.line.ensures c.initial-initial.ensures.value in
@@ -21,7 +21,7 @@ returns-in_ok-put_unspelled-clause-text g c =
 pub returns-else-branch-clause-text : goal.returns-else-branch-clause-text
 returns-else-branch-clause-text g c =
     let m = c.args.malformed.now in
-    let stands = option_map standing_of c.args.self.now.standing in
+    let stands = c.args.self.now.standing in
     let old = c.args.self.now.text.items ++ title_of (kept_of c.args.self.now) in
     let reason = unspelled_lines (asked m.prompt) m.frame.initial m.frame.block in
     let lines = ap₂ (λ line initial. old ++ front_lines c.args.index Malformed line initial ++ place_lines c.args.self.now.bad stands) c.line.ensures c.initial-initial.ensures.value in

@@ -1,7 +1,7 @@
-use Rattle.std.{proofs.Common.{◌∙◌, ◌++◌, ◌∷◌, [], refl, ap, subst, sym, inl, map, List}, specs.Prelude.{⊤, Contains, MatchOption}}
-use Rattle.nntp_facts.specs.Inner.Noted.{profile_kept}
+use Rattle.std.{proofs.Common.{◌∙◌, ◌++◌, ◌∷◌, [], refl, ap, subst, sym, inl, List}, specs.Prelude.{⊤, Contains, MatchOption}}
+use Rattle.nntp_facts.specs.{Inner.Noted.{profile_kept}, Standing.{stands_of}}
 use Rattle.nntp_theory.proofs.Members.{all_at, all_both, in_contains}
-use Rattle.nntp_explain.specs.Inner.{Explaining.{ToldContradiction}, ExplainingView.{AreReasons, HasReason, TellsConflict, cited_of, kept_of}}
+use Rattle.nntp_explain.specs.Inner.{Explaining.{ToldContradiction}, ExplainingView.{AreReasons, HasReason, TellsConflict, kept_of}}
 use Rattle.nntp_explain.proofs.{ReasonsGoOn.{in_any_case, extended}, ConflictLemmas.{told_again, told_short, told_whole}, SaysLemmas.{on_ok}}
 use Rattle.nntp_explain.proofs.explainer.Explainer.tell_conflict.Goals as goal
 
@@ -17,14 +17,14 @@ returns-in-Some-clause-adds g c = in_any_case c.extend_from_slice.result (inl re
 pub returns-in-Some-clause-text : goal.returns-in-Some-clause-text
 returns-in-Some-clause-text g c =
     let self = c.args.self.now in
-    let here : ToldContradiction = record { bad = c.args.bad; reason = c.in-Some.reason.now } in
-    let told = subst (λ o. MatchOption o ⊤ (λ reason. Contains c.deref.result.now (record { bad = c.args.bad; reason = reason.now }))) c.in-Some.is c.reason_of.ensures in
+    let here : ToldContradiction = record { bad = stands_of c.args.bad; reason = c.in-Some.reason.now } in
+    let told = subst (λ o. MatchOption o ⊤ (λ reason. Contains c.deref.result.now (record { bad = stands_of c.args.bad; reason = reason.now }))) c.in-Some.is c.reason_of.ensures in
     let there = subst (λ (cs : List ToldContradiction). Contains cs here) c.deref.ensures.value told in
     on_ok c.extend_from_slice.result
     (λ put facts refused. (
       c.in-Some.reason.now,
       put,
-      told_again (HasReason (kept_of self) c.args.bad) self.session (profile_kept self.facts) facts c.args.bad self.placed.items (map cited_of self.cited.items) c.in-Some.reason.now c.args.looked_for
+      told_again (HasReason (kept_of self) (stands_of c.args.bad)) self.session (profile_kept self.facts) facts (stands_of c.args.bad) self.accepted.items c.in-Some.reason.now c.args.looked_for
           (all_at (λ (t : ToldContradiction). TellsConflict (kept_of self) t.bad t.reason) here self.contradictions.items c.requires.reasons
           (in_contains here self.contradictions.items there)) (c.in-Some.reason.now, there),
     ))
@@ -36,7 +36,7 @@ returns-clause-reasons g c =
     let goes = c.in_ok-put_found.ensures in
     let told = λ (t : ToldContradiction). TellsConflict (kept_of self) t.bad t.reason in
     let whole = goes.1 ∙ ap (λ t. t ++ goes.0) c.new-reason.ensures.items in
-    let here = subst (TellsConflict (kept_of self) c.args.bad) (sym whole) goes.2 in
+    let here = subst (TellsConflict (kept_of self) (stands_of c.args.bad)) (sym whole) goes.2 in
     subst (AreReasons (profile_kept self.facts) (kept_of self)) (sym c.in_ok-push.ensures.items)
     (all_both told self.contradictions.items (c.new.result ∷ []) c.requires.reasons (subst told (sym c.new.ensures) here, tt))
 
@@ -50,7 +50,7 @@ returns-then-branch-clause-text g c =
     let whole = c.deref-then-branch.ensures.value ∙ goes.1 ∙ ap (λ t. t ++ goes.0) c.new-reason.ensures.items in (
       goes.0,
       put ∙ ap (λ t. self.text.items ++ t) whole,
-      told_short (HasReason (kept_of self) c.args.bad) self.session (profile_kept self.facts) facts c.args.bad self.placed.items (map cited_of self.cited.items) goes.0 c.args.looked_for
+      told_short (HasReason (kept_of self) (stands_of c.args.bad)) self.session (profile_kept self.facts) facts (stands_of c.args.bad) self.accepted.items goes.0 c.args.looked_for
           short.0 goes.2,
     ))
     (extended c.extend_from_slice-then-branch.result c.extend_from_slice-then-branch.new.self.items self.text.items c.deref-then-branch.result.now
@@ -63,6 +63,6 @@ returns-clause-text g c facts refused =
     let whole = c.deref-2.ensures.value ∙ goes.1 ∙ ap (λ t. t ++ goes.0) c.new-reason.ensures.items in (
       goes.0,
       c.in_ok-extend_from_slice.ensures.items ∙ ap (λ t. self.text.items ++ t) whole,
-      told_whole (HasReason (kept_of self) c.args.bad) self.session (profile_kept self.facts) facts c.args.bad self.placed.items (map cited_of self.cited.items) goes.0 c.args.looked_for
+      told_whole (HasReason (kept_of self) (stands_of c.args.bad)) self.session (profile_kept self.facts) facts (stands_of c.args.bad) self.accepted.items goes.0 c.args.looked_for
           (c.in_ok-is_cut_short.ensures.whole c.if-branch.false) goes.2,
     )

@@ -1,6 +1,6 @@
-use Rattle.std.proofs.{Common.{refl, sym, length, arith}, lemmas.List.{length-map}}
+use Rattle.std.proofs.Common.{refl, length, arith}
 use Rattle.nntp_facts.specs.Inner.Noted.{profile_kept}
-use Rattle.nntp_explain.{specs.Inner.ExplainingView.{kept_of, cited_of}, proofs.{ExplainLemmas.{if_ok}, EndLemmas.{alone, told_alone, explained_alone}}}
+use Rattle.nntp_explain.{specs.Inner.ExplainingView.{kept_of}, proofs.{ExplainLemmas.{if_ok}, EndLemmas.{alone, told_alone, explained_alone}}}
 use Rattle.nntp_wire.specs.{Session.{taken}, declared.overviews.Overviews.TheVariants.{Opaque}}
 use Rattle.nntp_explain.proofs.explainer.Explainer.tell_one.Goals as goal
 
@@ -25,5 +25,5 @@ returns g c =
     if_ok c.finish.result c.finish.ensures.text c.finish.ensures.is_without_fault
     (λ found text good. explained_alone facts.limit facts.marks (taken Opaque c.args.client.now) c.args.server.now (kept_of c.read.new.self) c.read.new.self.text.items
     c.extend_from_slice.new.self.items
-    c.finish.new.self.text.items (length c.read.new.self.cited.items) c.read.new.self.bad c.in_ok-unanswered.unanswered c.from.result found (c.in_ok-unanswered.ensures profile alone told)
-    (sym (length-map c.read.new.self.cited.items cited_of)) refl c.from.ensures c.in_ok-extend_from_slice.ensures.items text good)
+    c.finish.new.self.text.items (length c.read.new.self.accepted.items) c.read.new.self.bad c.in_ok-unanswered.unanswered c.from.result found (c.in_ok-unanswered.ensures profile alone told)
+    refl refl c.from.ensures c.in_ok-extend_from_slice.ensures.items text good)

@@ -1,54 +1,60 @@
-use Rattle.std.proofs.Common.{◌^◌, ◌<◌, ◌≤◌, length, arith, rules, subst, sym, ap}
+use Rattle.std.proofs.{Common.{◌^◌, ◌<◌, ◌≤◌, ℕ, List, length, map, arith, rules, subst, sym, ap}, lemmas.List.{length-map}}
 use Rattle.nntp_article.specs.Session.Limit.{profile_of}
 use Rattle.nntp_theory.{specs.Inner.Conflict.{IsPartOfCore}, proofs.Conflicts.{core_start}}
-use Rattle.nntp_facts.proofs.Keeping.CoresFound.{alone, some_left, whole_found, end_found, kept_told, none_kept}
+use Rattle.nntp_facts.{specs.{declared.placed.Placed.{Placed}, Standing.{stands_of}}, proofs.Keeping.CoresFound.{alone, some_left, whole_found, end_found}}
+use Rattle.nntp_facts.proofs.Keeping.CoresFound.{kept_told, none_kept}
 use Rattle.nntp_facts.proofs.conflict.Core.find.Goals as goal
+
+-- as many stand there as there are
+few : (answers : List Placed) → length answers < 2 ^ 64 → length (map stands_of answers) < 2 ^ 64
+few answers short = let same = length-map answers stands_of in omega (arith, same, short)
 
 pub loop-places-init : goal.loop-places-init
 loop-places-init g c =
     let profile = profile_of c.args.limit c.args.marks in
-    let bad = c.args.bad.now in
-    let answers = c.args.answers.now in (
-      subst (λ places. IsPartOfCore profile bad answers (length answers) places) (sym c.new-places.ensures.items) (core_start profile bad answers c.requires.conflict),
-      omega arith,
+    let bad = stands_of c.args.bad.now in
+    let answers = map stands_of c.args.answers.now in (
+      subst (λ (q : ℕ × List ℕ). IsPartOfCore profile bad answers q.0 q.1) (λ i. (length-map c.args.answers.now stands_of i, sym c.new-places.ensures.items i))
+          (core_start profile bad answers c.requires.conflict),
+      (let same = length-map c.args.answers.now stands_of in omega (arith, same)),
       subst (λ places. length places ≤ c.args.most) (sym c.new-places.ensures.items) (omega arith),
     )
 
 pub returns-then-len-most-clause-found : goal.returns-then-len-most-clause-found
 returns-then-len-most-clause-found g c =
     let profile = profile_of c.args.limit c.args.marks in
-    let bad = c.args.bad.now in
-    let answers = c.args.answers.now in
+    let bad = stands_of c.args.bad.now in
+    let answers = map stands_of c.args.answers.now in
     let fit = c.requires.fit in
     let now = c.loop-places.invariant in
     let bound = c.loop-places.bound in
     let places = c.loop-places.places.items in
-    let short : length answers < 2 ^ 64 = search rules in
+    let short = few c.args.answers.now (search rules) in
     let told = kept_told profile bad answers c.in_ok-kept.field-0 c.in-Some.kept c.deref.result.now places c.in-Some.is c.deref.ensures.value (c.in_ok-kept.ensures fit) in
     end_found profile bad answers fit.0 fit.1 bound places now.1 short now.0 (alone profile bad answers fit.0 fit.1 bound places now.1 short now.0 c.in-Some.kept told)
 
 pub first_refused-requires : goal.first_refused-requires
 first_refused-requires g c =
     let profile = profile_of c.args.limit c.args.marks in
-    let bad = c.args.bad.now in
-    let answers = c.args.answers.now in
+    let bad = stands_of c.args.bad.now in
+    let answers = map stands_of c.args.answers.now in
     let fit = c.requires.fit in
     let now = c.loop-places.invariant in
     let bound = c.loop-places.bound in
     let places = c.loop-places.places.items in
-    let short : length answers < 2 ^ 64 = search rules in
+    let short = few c.args.answers.now (search rules) in
     let told = kept_told profile bad answers c.in_ok-kept.field-0 c.in-Some.kept c.deref.result.now places c.in-Some.is c.deref.ensures.value (c.in_ok-kept.ensures fit) in
     some_left profile bad answers fit.0 fit.1 bound places now.1 short now.0 c.in-Some.kept told
 
 pub returns-clause-found : goal.returns-clause-found
 returns-clause-found g c =
     let profile = profile_of c.args.limit c.args.marks in
-    let bad = c.args.bad.now in
-    let answers = c.args.answers.now in
+    let bad = stands_of c.args.bad.now in
+    let answers = map stands_of c.args.answers.now in
     let fit = c.requires.fit in
     let now = c.loop-places.invariant in
     let places = c.loop-places.places.items in
-    let short : length answers < 2 ^ 64 = search rules in
+    let short = few c.args.answers.now (search rules) in
     whole_found profile bad answers fit.0 fit.1 c.loop-places.bound places now.1 short now.0
     (none_kept profile bad answers c.in_ok-kept.field-0 c.deref.result.now places c.in_default.not-Some c.deref.ensures.value (c.in_ok-kept.ensures fit))
 
@@ -61,12 +67,12 @@ returns-clause-most g c = c.loop-places.invariant.2
 pub loop-places-preserved : goal.loop-places-preserved
 loop-places-preserved g c =
     let profile = profile_of c.args.limit c.args.marks in
-    let bad = c.args.bad.now in
-    let answers = c.args.answers.now in
+    let bad = stands_of c.args.bad.now in
+    let answers = map stands_of c.args.answers.now in
     let fit = c.requires.fit in
     let now = c.loop-places.invariant in
     let places = c.loop-places.places.items in
-    let short : length answers < 2 ^ 64 = search rules in
+    let short = few c.args.answers.now (search rules) in
     let told = kept_told profile bad answers c.in_ok-kept.field-0 c.in-Some.kept c.deref.result.now places c.in-Some.is c.deref.ensures.value (c.in_ok-kept.ensures fit) in
     let part = c.in_ok-bound.ensures.found bad places fit told now.1 short now.0 in
     let lower = c.in_ok-bound.ensures.below in

@@ -3,14 +3,14 @@ use Rattle.nntp_wire.specs.Inner.View.{active_value}
 use Rattle.nntp_article.specs.Session.{Limit.{profile_of}, Machine.{start}}
 use Rattle.nntp_said.specs.Facts.{group_of}
 use Rattle.nntp_theory.{specs.Conflict.{said, the_group}, proofs.OkResults.{if_ok}}
-use Rattle.nntp_facts.{specs.Inner.{Kept.{AreAdded}, Saying.{TellsThere}, SayingView.{saying_of}}, proofs.Keeping.ToldAnswers.{there_told, group_refused}}
-use Rattle.nntp_facts.proofs.Keeping.ToldAnswers.{answer_told}
+use Rattle.nntp_facts.specs.{Inner.{Kept.{AreAdded}, Saying.{TellsThere}, SayingView.{saying_of}}, Standing.{stands_of}}
+use Rattle.nntp_facts.proofs.Keeping.ToldAnswers.{there_told, group_refused, answer_told}
 use Rattle.nntp_facts.proofs.kept.Kept.tell.Goals as goal
 
 pub returns-then-not-branch : goal.returns-then-not-branch
 returns-then-not-branch g c facts kept together fit =
     let profile = profile_of c.args.limit c.args.marks in
-    let a = c.args.answer.now in
+    let a = stands_of c.args.answer.now in
     let saying = saying_of c.of-saying.result in
     let own = said profile.marks a in
     let there = there_told profile a _ _ _ _ _ saying fit c.prompt.ensures c.answer-response.ensures.value c.position.ensures
@@ -23,7 +23,7 @@ returns-then-not-branch g c facts kept together fit =
 pub returns : goal.returns
 returns g c = if_ok c.note.result (λ does adds facts kept together fit.
     let profile = profile_of c.args.limit c.args.marks in
-    let a = c.args.answer.now in
+    let a = stands_of c.args.answer.now in
     let saying = saying_of c.of-saying.result in
     let own = said profile.marks a in
     let there = there_told profile a _ _ _ _ _ saying fit c.prompt.ensures c.answer-response.ensures.value c.position.ensures

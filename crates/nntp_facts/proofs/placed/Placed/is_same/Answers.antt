@@ -8,10 +8,10 @@ returns-then-is_same g h = elim g.if-is_same_position.branch [
   | then-is_same_position w ↦ (elim g.if-is_same_name.branch [
     | then-is_same_name v ↦ (
         let name = g.is_same_name.ensures.0 v.if-is_same_name.true in
-        let position : g.self.inside.position ≡ g.other.inside.position = v.is_same_position.ensures.0 (sym v.value-is ∙ w.if-is_same_position.true) in
+        let position : g.args.self.now.standing.position ≡ g.args.other.now.standing.position = v.is_same_position.ensures.0 (sym v.value-is ∙ w.if-is_same_position.true) in
         let place = sym w.place.ensures ∙ w.is_same.ensures.0 (sym w.value-is ∙ g.if-is_same.true) ∙ w.place-then-is_same_position.ensures in
         let answer = sym g.answer.ensures.value ∙ g.is_same_answer.ensures h ∙ g.answer-then-is_same.ensures.value in
-        sym g.self.view_is ∙ (λ i. record { selected = name i; position = position i; asked = asked_at (place i); response = answer i }) ∙ g.other.view_is
+        λ i. record { selected = name i; position = position i; asked = asked_at (place i); response = answer i }
         )
     | else-is_same_name v ↦ absurd (cc)
   ])

@@ -1,6 +1,7 @@
-use Rattle.std.proofs.{Common.{rules, ◌≡◌, ◌<◌, ◌^◌, ◌++◌, ◌∷◌, [], length, Some, sym, ap, subst, ◌∙◌, arith, length-append}, lemmas.Option.{slice_get-get_or}}
+use Rattle.std.proofs.Common.{rules, ◌≡◌, ◌<◌, ◌^◌, ◌++◌, ◌∷◌, [], length, map, Some, sym, ap, subst, ◌∙◌, arith, length-append}
+use Rattle.std.proofs.lemmas.{Option.{slice_get-get_or}, List.{length-map, get_or-map}}
 use Rattle.nntp_article.specs.Session.Limit.{profile_of}
-use Rattle.nntp_facts.specs.Inner.{Kept.{IsKept}, Points.{Answers, AreHeld}, StatementView.{held_of}, Told.{AreToldWith}}
+use Rattle.nntp_facts.specs.{Inner.{Kept.{IsKept}, Points.{Answers, AreHeld}, StatementView.{held_of}, Told.{AreToldWith}}, Standing.{stands_of}}
 use Rattle.nntp_facts.proofs.Keeping.HeldAnswers.{no_places, core_conflicts, held_alone, held_behind, last_there, others_stand, told_front}
 use Rattle.nntp_theory.{specs.Conflict.{SomeHas, places_of, told_with}, proofs.OkResults.{if_two}}
 use Rattle.nntp_facts.proofs.points.Conflict.of.Goals as goal
@@ -8,8 +9,8 @@ use Rattle.nntp_facts.proofs.points.Conflict.of.Goals as goal
 pub returns-in_default : goal.returns-in_default
 returns-in_default g c =
     let profile = profile_of c.args.limit c.args.marks in
-    let bad = c.args.bad.now in
-    let answers = c.args.answers.now in
+    let bad = stands_of c.args.bad.now in
+    let answers = map stands_of c.args.answers.now in
     let core = c.args.core.now in
     let empty : length c.deref.result.now ≡ 0 = search rules in
     let places : places_of core ≡ [] = sym (c.deref.ensures.value ∙ c.in_ok-places.ensures) ∙ no_places c.deref.result.now empty in
@@ -24,12 +25,12 @@ returns-in_default g c =
 pub returns : goal.returns
 returns g c =
     let profile = profile_of c.args.limit c.args.marks in
-    let bad = c.args.bad.now in
-    let answers = c.args.answers.now in
+    let bad = stands_of c.args.bad.now in
+    let answers = map stands_of c.args.answers.now in
     let core = c.args.core.now in
     let front = c.in-Some.others.now in
     let k = c.in-Some.place.now in
-    let last-answer = c.answer_or-last.result.now in
+    let last-answer = stands_of c.answer_or-last.result.now in
     let ends : c.deref.result.now ≡ front ++ k ∷ [] = search rules in
     let parts : places_of core ≡ front ++ k ∷ [] = sym (c.deref.ensures.value ∙ c.in_ok-places.ensures) ∙ ends in
     let small : length c.in_ok-places.places.items < 2 ^ 64 = search rules in
@@ -40,7 +41,8 @@ returns g c =
     (λ conflict is few fits found last.
     let held = held_of conflict in
     let there = last_there profile bad answers core front k found last parts in
-    let here = slice_get-get_or answers k bad there ∙ ap (λ a. Some a) (sym c.answer_or-last.ensures) in
+    let within = subst (λ n. k < n) (length-map c.args.answers.now stands_of) there in
+    let here = slice_get-get_or answers k bad there ∙ ap (λ a. Some a) (get_or-map stands_of c.args.answers.now k c.args.bad.now bad within ∙ ap stands_of (sym c.answer_or-last.ensures)) in
     let told = told_front profile bad answers front c.tell_all.new.kept c.in_ok-tell_all.field-0 (others_stand profile bad answers core front k found last parts)
     (c.in_ok-tell_all.ensures c.new-kept.ensures fits) in
     subst (λ places. AreHeld profile (told_with profile bad answers places) held) (sym parts)

@@ -1,12 +1,13 @@
 use Rattle.std.proofs.Common.{◌∙◌, sym, subst, ap}
 use Rattle.nntp_article.specs.{Session.Machine.{start}, Inner.Misfit.{numbers_of}}
-use Rattle.nntp_facts.{specs.Inner.{Saying.{TellsThere}, SayingView.{saying_of}}, proofs.PointsFound.StatementsTold.{there_told_so, told_alone}}
+use Rattle.nntp_facts.{specs.{Inner.{Saying.{TellsThere}, SayingView.{saying_of}}, Standing.{stands_of}}, proofs.PointsFound.StatementsTold.{there_told_so}}
+use Rattle.nntp_facts.proofs.PointsFound.StatementsTold.{told_alone}
 use Rattle.nntp_theory.specs.Conflict.{said}
 use Rattle.nntp_facts.proofs.points.statement.Statement.of.Goals as goal
 
 pub returns : goal.returns
 returns c profile marks fit listed =
-    let a = c.args.answer.now in
+    let a = stands_of c.args.answer.now in
     let saying = saying_of c.of-saying.result in
     let there : TellsThere a.selected saying (said profile.marks a) =
     there_told_so profile a _ _ _ _ _ saying _ marks fit c.prompt.ensures c.answer.ensures.value c.position.ensures c.selected_name.ensures.value (listed

@@ -1,0 +1,78 @@
+-- An answer that closes the connection is never refused.
+use Rattle.std.proofs.Common.{◌≡◌, ◌⊎◌, ◌∙◌, ◌==◌, ◌||◌, ℕ, Bool, true, false, IsTrue, List, [], ◌∷◌, ◌++◌, None, Some, append-nil, arith, inl, inr, map, refl}
+use Rattle.std.{proofs.{Common.{sym, ap, subst}, lemmas.Bool.{true≢false, Decides.{nat_tests}}}, specs.List.{AllByRecursion}}
+use Rattle.nntp_wire.specs.{Answer.{Asked, Response, greeting, to, plain}, Session.{closes}, Command.{Request, mode_reader, quit, list_group, retrieve, by_id}}
+use Rattle.nntp_wire.specs.Command.{by_number, current}
+use Rattle.nntp_article.specs.{declared.session.profile.Profile.{Profile}, Session.Machine.{Visible, fits, start}}
+use Rattle.nntp_pair.specs.Pairing.{Paired, asked_at}
+use Rattle.nntp_said.specs.{declared.position.Position.{Position}, Facts.{Holds, facts_of, facts_of_code}}
+use Rattle.nntp_theory.specs.{Conflict.{placed_behind}, Inner.Exchanged.{said_behind}, Permitted.{exchanged, ArePermittedBehind}}
+use Rattle.nntp_theory.proofs.Given.{SessionsByFacts.{said_each, permits_each}, SessionsGoOn.{facts_behind}}
+use Rattle.nntp_facts.{specs.Inner.Noted.{FactsKept, HasNotedBehind, IsDue}, proofs.Keeping.RefusedAnswers.{fit_with, said_with}}
+
+-- it fits, and says nothing of a spool
+abbrev IsHarmless : Profile → Visible → Visible → Position → Asked → Response → Type 0
+IsHarmless profile v seen at asked response = IsTrue (fits profile v asked response) × (facts_of profile.marks seen at asked response ≡ [])
+
+-- a code is what is tested, or one of two
+this : (code a : ℕ) → (code == a) ≡ true → code ≡ a
+this code a e = grind (arith, nat_tests)
+
+either : (code a b : ℕ) → (code == a || code == b) ≡ true → (code ≡ a) ⊎ (code ≡ b)
+either code a b e = by (code == a) refl e where
+  by : (t : Bool) → (code == a) ≡ t → (t || code == b) ≡ true → (code ≡ a) ⊎ (code ≡ b)
+  by true same e = inl (this code a same)
+  by false other e = inr (this code b e)
+
+-- 400 says nothing
+nothing_said : (seen : Visible) (at : Position) (command : Request) → facts_of_code seen at command 400 ≡ []
+nothing_said seen at (list_group None range) = refl
+nothing_said seen at (list_group (Some word) range) = refl
+nothing_said seen at (retrieve what (by_id word)) = refl
+nothing_said seen at (retrieve what (by_number None)) = refl
+nothing_said seen at (retrieve what (by_number (Some n))) = refl
+nothing_said seen at (retrieve what current) = refl
+nothing_said seen at command = refl
+
+module _ (profile : Profile) (v seen : Visible) (at : Position) where
+  by_code : (asked : Asked) (code other : ℕ) → code ≡ other → IsHarmless profile v seen at asked (plain other) → IsHarmless profile v seen at asked (plain code)
+  by_code asked code other is h = subst (λ code. IsHarmless profile v seen at asked (plain code)) (sym is) h
+
+  harmless : (asked : Asked) (response : Response) → closes asked response ≡ true → IsHarmless profile v seen at asked response
+  harmless greeting (plain code) e = elim (either code 400 502 e) [
+    | inl is ↦ by_code greeting code 400 is (refl, refl)
+    | inr is ↦ by_code greeting code 502 is (refl, refl)
+  ]
+  harmless (to mode_reader) (plain code) e = elim (either code 400 502 e) [
+    | inl is ↦ by_code (to mode_reader) code 400 is (refl, refl)
+    | inr is ↦ by_code (to mode_reader) code 502 is (refl, refl)
+  ]
+  harmless (to quit) (plain code) e = elim (either code 400 205 e) [
+    | inl is ↦ by_code (to quit) code 400 is (refl, refl)
+    | inr is ↦ by_code (to quit) code 205 is (refl, refl)
+  ]
+  harmless (to command) (plain code) e = by_code (to command) code 400 (this code 400 e) (refl, nothing_said seen at command)
+  harmless greeting response e = absurd (true≢false (sym e))
+  harmless (to mode_reader) response e = absurd (true≢false (sym e))
+  harmless (to quit) response e = absurd (true≢false (sym e))
+  harmless (to command) response e = absurd (true≢false (sym e))
+
+-- so some spool permits it
+module _ (profile : Profile) (facts : FactsKept) (earlier : List (List Paired)) (past : List Paired) (pair : Paired) (s : HasNotedBehind profile facts earlier past) (due : IsDue facts pair) where
+  is_permitted : closes (asked_at pair.place) pair.response ≡ true → (ArePermittedBehind profile earlier (past ++ pair ∷ []) → ⊥) → ⊥
+  is_permitted closing none =
+      let bad = placed_behind past pair in
+      let S = s.permitted.0 in
+      let before = map exchanged earlier in
+      let is = harmless profile facts.visible (record start.visible { selected = bad.selected }) bad.position bad.asked bad.response closing in
+      let fit = fit_with profile facts earlier past pair s due (is.0, none, refl) in
+      let said = subst (AllByRecursion (Holds S)) (facts_behind profile.marks before (exchanged past)) (said_each profile S (before ++ exchanged past ∷ []) s.permitted.2).1 in
+      let same = said_with profile facts earlier past pair s ∙ ap (λ new. said_behind profile.marks earlier past ++ new) is.1 ∙ append-nil (said_behind profile.marks earlier past) in
+      none (S, s.permitted.1, permits_each profile S (before ++ exchanged (past ++ pair ∷ []) ∷ []) fit (subst (AllByRecursion (Holds S)) (sym same) said))
+
+  -- and it isn't refused
+  pub never_refused : (ArePermittedBehind profile earlier (past ++ pair ∷ []) → ⊥) → closes (asked_at pair.place) pair.response ≡ false
+  never_refused none = by (closes (asked_at pair.place) pair.response) refl where
+    by : (b : Bool) → closes (asked_at pair.place) pair.response ≡ b → closes (asked_at pair.place) pair.response ≡ false
+    by true is = absurd (is_permitted is none)
+    by false is = is
