@@ -1,7 +1,7 @@
 //! The groups that the lines of LIST ACTIVE list (RFC 3977, section 7.6.3).
-ghost use Rattle.std.specs.Prelude.{◌≡◌, ◌<◌, ◌^◌, length, List, option_map, is_some};
+ghost use Rattle.std.specs.Prelude.{◌≡◌, ◌<◌, ◌^◌, ◌∷◌, [], length, List, option_map, is_some};
 ghost use Rattle.std.specs.Iterator.{YieldsFirstBy, item_count};
-ghost use Rattle.nntp_wire.specs.Listing.{active_of, active_groups, are_active_lines};
+ghost use Rattle.nntp_wire.specs.Listing.{active_of, active_of_words, active_groups, are_active_lines};
 ghost use Rattle.nntp_wire.specs.Inner.View.{active_value};
 
 use crate::block::{Block, Lines};
@@ -30,7 +30,6 @@ pub struct ActiveLine<'a> {
 pub fn active_line(line: &[u8]) -> Option<ActiveLine<'_>>
     ensures { option_map active_value result ≡ active_of line.now }
 {
-    group_names_are_decided();
     let mut words = words(line);
     match (
         words.next(),
@@ -39,14 +38,29 @@ pub fn active_line(line: &[u8]) -> Option<ActiveLine<'_>>
         words.next(),
         words.next(),
     ) {
-        (Some(name), Some(high), Some(low), Some(status), None) => Some(ActiveLine {
-            name: GroupName::parse(name)?,
-            high: number(high)?,
-            low: number(low)?,
-            status,
-        }),
+        (Some(name), Some(high), Some(low), Some(status), None) => {
+            active_words(name, high, low, status)
+        }
         _ => None,
     }
+}
+
+/// Reads the four words of such a line.
+fn active_words<'a>(
+    name: &'a [u8],
+    high: &[u8],
+    low: &[u8],
+    status: &'a [u8],
+) -> Option<ActiveLine<'a>>
+    ensures { option_map active_value result ≡ active_of_words (name.now ∷ high.now ∷ low.now ∷ status.now ∷ []) }
+{
+    group_names_are_decided();
+    Some(ActiveLine {
+        name: GroupName::parse(name)?,
+        high: number(high)?,
+        low: number(low)?,
+        status,
+    })
 }
 
 /// Tells whether the line is one of LIST ACTIVE.
