@@ -24,7 +24,7 @@ use crate::versions::gives_versions;
 
 /// Why a frame spells no response to its prompt: the rule of spelling that fails first (RFC 3977,
 /// sections 3.1, 3.1.1, 3.2, 5.2, 6 and 7.6.3).
-#[derive(Clone, Copy, Debug, PartialEq, Eq)]
+#[derive(Clone, Copy, PartialEq, Eq)]
 pub enum Misspelling {
     /// The initial line holds NUL, CR or LF (RFC 3977, section 3.1).
     WrongOctet,
@@ -55,7 +55,7 @@ pub enum Misspelling {
 }
 
 /// What is due as an argument of an initial line (RFC 3977, sections 6.1 and 6.2).
-#[derive(Clone, Copy, Debug, PartialEq, Eq)]
+#[derive(Clone, Copy, PartialEq, Eq)]
 pub enum Due {
     /// A number of 1 to 16 digits.
     Number,
@@ -66,7 +66,7 @@ pub enum Due {
 }
 
 /// What is wrong with a line of a block.
-#[derive(Clone, Copy, Debug, PartialEq, Eq)]
+#[derive(Clone, Copy, PartialEq, Eq)]
 pub enum LineFault {
     /// The line holds NUL, CR or LF (RFC 3977, section 3.1.1).
     BadOctet,

@@ -13,7 +13,7 @@ use crate::word::skip_blanks;
 
 /// The kind of a prompt, which decides together with a code whether a block is due and whether the
 /// server closes the connection.
-#[derive(Clone, Copy, Debug, PartialEq, Eq)]
+#[derive(Clone, Copy, PartialEq, Eq)]
 pub enum PromptKind {
     /// The server speaks first, with its greeting (RFC 3977, section 5.1).
     Greeting,

@@ -13,7 +13,7 @@ const FIRST_DOTS: usize = 16;
 
 /// A search for some octets, its needle, in a stream that grows. No octet that can't begin or end
 /// the needle any more is looked at again.
-#[derive(Clone, Copy, Debug, PartialEq, Eq)]
+#[derive(Clone, Copy, PartialEq, Eq)]
 pub(crate) enum Search {
     /// The needle begins at none of so many octets at the front of the stream, whatever follows.
     Passed(usize),

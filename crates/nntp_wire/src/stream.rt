@@ -8,7 +8,7 @@ use crate::search::Search;
 
 /// A search for the end of the first line of a stream, which goes on as the stream grows (RFC 3977,
 /// section 3.1).
-#[derive(Clone, Copy, Debug, PartialEq, Eq)]
+#[derive(Clone, Copy, PartialEq, Eq)]
 pub struct LineSearch {
     end: Search,
 }

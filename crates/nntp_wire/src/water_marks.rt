@@ -3,7 +3,7 @@ ghost use Rattle.std.specs.Prelude.{◌≡◌};
 
 /// The three numbers of a 211: the estimate, and the reported low and high water marks (RFC 3977,
 /// section 6.1.1.2). All three may be 0 for an empty group.
-#[derive(Clone, Copy, Debug, PartialEq, Eq)]
+#[derive(Clone, Copy, PartialEq, Eq)]
 pub struct WaterMarks {
     /// The estimated number of articles in the group, which has at most so many.
     pub estimate: u64,
