@@ -1,19 +1,17 @@
 //! Why octets of the server answer nothing, and why an answer is bad.
 ghost use Rattle.std.specs.Prelude.{◌≡◌};
 
+use std::fmt;
 use thiserror::Error;
 
 /// Why the server's next octets answer nothing.
 #[derive(Clone, Copy, Debug, PartialEq, Eq, Error)]
 pub enum PairClass {
     /// The connection is closed, or the client sent no line that they could answer.
-    #[error("Surplus")]
     Surplus,
     /// They begin with no whole frame of a response (RFC 3977, section 3.1).
-    #[error("Cut")]
     Cut,
     /// They are a whole frame that spells no response.
-    #[error("Malformed")]
     Malformed,
 }
 
@@ -22,20 +20,37 @@ pub enum PairClass {
 pub enum Class {
     /// There are octets behind the end of the connection, or where no command is left to be
     /// answered.
-    #[error("Surplus")]
     Surplus,
     /// The octets end within the response (RFC 3977, sections 3.1 and 3.1.1).
-    #[error("Cut")]
     Cut,
     /// The response spells no answer to its command (RFC 3977, section 3.2).
-    #[error("Malformed")]
     Malformed,
     /// The command or the answers before it rule the answer out, whatever the articles are.
-    #[error("OutOfPlace")]
     OutOfPlace,
     /// No spool gives this answer together with those before it.
-    #[error("Contradiction")]
     Contradiction,
+}
+
+impl fmt::Display for PairClass {
+    fn fmt<W: fmt::Write>(&self, f: &mut fmt::Formatter<W>) -> fmt::Result {
+        f.write_str(match self {
+            PairClass::Surplus => "Surplus",
+            PairClass::Cut => "Cut",
+            PairClass::Malformed => "Malformed",
+        })
+    }
+}
+
+impl fmt::Display for Class {
+    fn fmt<W: fmt::Write>(&self, f: &mut fmt::Formatter<W>) -> fmt::Result {
+        f.write_str(match self {
+            Class::Surplus => "Surplus",
+            Class::Cut => "Cut",
+            Class::Malformed => "Malformed",
+            Class::OutOfPlace => "OutOfPlace",
+            Class::Contradiction => "Contradiction",
+        })
+    }
 }
 
 impl From<PairClass> for Class {

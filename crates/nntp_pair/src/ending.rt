@@ -2,7 +2,7 @@
 use crate::class::PairClass;
 
 /// How the pairing ends where no more octets come.
-#[derive(Clone, Copy, Debug, PartialEq, Eq)]
+#[derive(Clone, Copy, PartialEq, Eq)]
 pub enum Ending {
     /// It doesn't end here: a whole exchange waits.
     More,

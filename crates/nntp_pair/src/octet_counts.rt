@@ -6,7 +6,7 @@ ghost use Rattle.nntp_pair.specs.declared.side.Side.TheVariants.{Client, Server}
 use crate::side::Side;
 
 /// How many octets came of each stream.
-#[derive(Clone, Copy, Debug, PartialEq, Eq)]
+#[derive(Clone, Copy, PartialEq, Eq)]
 pub struct OctetCounts {
     /// Of the client's.
     pub client: u64,

@@ -38,7 +38,7 @@ impl<'a> Model for Pairs<'a> {
 }
 
 /// What comes next in both streams.
-#[derive(Clone, Copy, Debug, PartialEq, Eq)]
+#[derive(Clone, Copy, PartialEq, Eq)]
 pub struct Ahead<'a> {
     /// The client's line at the next place, without its CRLF: none at the greeting's place, or where no place is left.
     pub line: Option<&'a [u8]>,

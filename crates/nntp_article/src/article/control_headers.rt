@@ -52,13 +52,25 @@ fn push_control<A: Allocator + Copy>(
 fn control_of<A: Allocator + Copy>(alloc: A, content: Vec<u8, A>) -> Result<Control<A>, AllocError>
     ensures { IfOk result (λ control. control_value control ≡ control_of content.items) }
 {
-    let mut words = words(&content);
-    let control = match (words.next(), words.next(), words.next(), words.next()) {
-        (Some(verb), Some(subject), None, _) => of_two(alloc, verb, subject)?,
-        (Some(verb), Some(subject), Some(status), None) => of_three(alloc, verb, subject, status)?,
-        _ => None,
-    };
-    Ok(control.unwrap_or(Control::Other(content)))
+    match message_in(alloc, &content)? {
+        Some(control) => Ok(control),
+        None => Ok(Control::Other(content)),
+    }
+}
+
+/// The control message that the content of a Control header is, if it is one.
+fn message_in<A: Allocator + Copy>(
+    alloc: A,
+    content: &[u8],
+) -> Result<Option<Control<A>>, AllocError>
+    ensures { IfOk result (λ control. unwrap_or (option_map control_value control) (other content.now) ≡ control_of content.now) }
+{
+    let mut words = words(content);
+    match (words.next(), words.next(), words.next(), words.next()) {
+        (Some(verb), Some(subject), None, _) => of_two(alloc, verb, subject),
+        (Some(verb), Some(subject), Some(status), None) => of_three(alloc, verb, subject, status),
+        _ => Ok(None),
+    }
 }
 
 /// What two words say, where they are a control message.

@@ -3,7 +3,7 @@
 use std::alloc::{Allocator, Global};
 
 /// What a Control header says (RFC 1036, section 3).
-#[derive(Debug, Drop, PartialEq, Eq)]
+#[derive(Drop, PartialEq, Eq)]
 pub enum Control<A: Allocator = Global> {
     /// The article with this message id is to be cancelled (RFC 1036, section 3.1). The id stands
     /// here with its angle brackets.

@@ -1,7 +1,7 @@
 //! The headers that an article has to have (RFC 1036, section 2.1).
 
 /// Which of the six required headers are missing from a head: `true` where no header has the name.
-#[derive(Clone, Copy, PartialEq, Eq, Debug)]
+#[derive(Clone, Copy, PartialEq, Eq)]
 pub struct Missing {
     /// No header is named From (RFC 1036, section 2.1.1).
     pub from: bool,

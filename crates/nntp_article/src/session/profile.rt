@@ -5,7 +5,7 @@ ghost use Rattle.nntp_article.specs.Session.Limit.{profile_of};
 use nntp_wire::{Limit, Marks};
 
 /// What may vary between sessions: how large article numbers may be, and how marks are read.
-#[derive(Clone, Copy, Debug, PartialEq, Eq)]
+#[derive(Clone, Copy, PartialEq, Eq)]
 pub struct Profile {
     /// The greatest article number (RFC 3977, section 6).
     pub limit: u64,
