@@ -42,7 +42,7 @@ pub struct ReadFault {
 }
 
 /// The error of reading a text: a fault of the text, or want of memory.
-#[derive(Debug, Drop)]
+#[derive(Drop)]
 pub(crate) enum ReadError {
     /// Memory was refused.
     Memory,

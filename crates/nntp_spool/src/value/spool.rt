@@ -14,7 +14,7 @@ use std::alloc::{Allocator, Global};
 use std::marker::Model;
 
 /// The counts of what a spool holds.
-#[derive(Clone, Copy, Debug, PartialEq, Eq)]
+#[derive(Clone, Copy, PartialEq, Eq)]
 pub struct Counts {
     /// The number of groups, those without article numbers among them.
     pub groups: u64,

@@ -1,10 +1,10 @@
-use Rattle.std.proofs.{Common.{map, ap, sym, ◌∙◌}, lemmas.Bool.{true≢false}}
-use Rattle.nntp_wire.specs.Inner.{View.{active_value, asked}, AnswerView.{response}}
-use Rattle.nntp_article.specs.Session.Machine.{MayAnswer}
+use Rattle.std.proofs.{Common.{ap, sym, ◌∙◌}, lemmas.Bool.{true≢false}}
+use Rattle.nntp_wire.specs.Inner.{View.{asked}, AnswerView.{response}}
+use Rattle.nntp_article.specs.{Session.Machine.{MayAnswer}, Inner.Misfit.{numbers_of, groups_of}}
 use Rattle.nntp_said.specs.Inner.Asks.{state_at}
 use Rattle.nntp_spool.proofs.AnswersInFacts.{fitting, unfitting, facts_list, permitted_where_held}
-use Rattle.nntp_spool.proofs.verification.may_answer.Goals.{then-is_closed-via-then-is_closed, then-is_closed-via-else-is_closed+then-is_some}
-use Rattle.nntp_spool.proofs.verification.may_answer.Goals as goal
+use Rattle.nntp_spool.proofs.verification.may_answer_listing.Goals.{then-is_closed-via-then-is_closed, then-is_closed-via-else-is_closed+then-is_some}
+use Rattle.nntp_spool.proofs.verification.may_answer_listing.Goals as goal
 
 pub returns-then-is_closed-clause-may : goal.returns-then-is_closed-clause-may
 returns-then-is_closed-clause-may g c =
@@ -24,7 +24,7 @@ hold-requires-clause-listed g c =
     let q = asked c.prompt-prompt.result.now in
     let a = response c.answer-answer.result.now in
     let f = fitting c.args.profile v q a c.in_ok-why.why c.in_ok-why.ensures (sym c.is_some.ensures ∙ c.if-is_some.false) in
-    facts_list c.args.profile v c.args.position q a _ _ _ f (c.deref-3.ensures.value ∙ c.in_ok-numbers.ensures) (ap (map active_value) c.deref-4.ensures.value ∙ c.in_ok-groups.ensures)
+    facts_list c.args.profile v c.args.position q a _ _ _ f (c.requires.numbers ∙ ap numbers_of (sym c.answer-answer.ensures.value)) (c.requires.groups ∙ ap groups_of (sym c.answer-answer.ensures.value))
     (c.facts_of-facts.ensures v c.selected_name-selected.ensures)
 
 pub returns-clause-may : goal.returns-clause-may
