@@ -1,7 +1,7 @@
 //! Whether an exchange may stand behind those that were accepted.
 
 /// Whether an exchange may stand behind those that were accepted.
-#[derive(Clone, Copy, Debug, PartialEq, Eq)]
+#[derive(Clone, Copy, PartialEq, Eq)]
 pub enum Noted {
     /// Some spool permits the exchange together with those before it, of all sessions, and it is
     /// accepted.
