@@ -2,8 +2,9 @@
 use Rattle.std.{proofs.Common.{◌≡◌, ℕ, List, [], ◌∷◌, ◌++◌, Option, None, Some, map, replicate, refl}, specs.{Prelude.{codes}, Char.{encode_utf8}, Str.{chars}}}
 use Rattle.std.specs.Str.{is_utf8}
 use Rattle.nntp_wire.specs.Command.{Request, by_id, by_number, current, capabilities, mode_reader, next, last, quit, opaque, ill_formed, group, list_group}
-use Rattle.nntp_wire.specs.{Command.{retrieve, list_active, form_of, request_of}, Inner.Prompts.{prompt_kind}, Answer.{to}}
-use Rattle.nntp_wire.specs.declared.{command.What.TheVariants.{Article, Head, Body, Stat}, range.Range.{Range}, prompt_kind.PromptKind.{PromptKind}}
+use Rattle.nntp_wire.specs.{Command.{retrieve, list_active, over, the_id, in_range, the_current, form_of, request_as, request_of}, Inner.Prompts.{prompt_kind}}
+use Rattle.nntp_wire.specs.{Answer.{to}, declared.{overviews.Overviews.TheVariants.{Judged}, command.What.TheVariants.{Article, Head, Body, Stat}}}
+use Rattle.nntp_wire.specs.declared.{command.OverviewKeyword.TheVariants.{Over, Xover}, range.Range.{Range}, prompt_kind.PromptKind.{PromptKind}}
 use Rattle.nntp_wire.specs.declared.prompt_kind.PromptKind.TheVariants.{ListGroup, ModeReader, Quit, Other}
 use Rattle.nntp_unit_tests.proofs.Rows.{Makes}
 
@@ -20,6 +21,8 @@ opaque_lines : Ask (
     ∷ codes "LIST overview.fmt"
     ∷ codes "LIST ACTIVE a[b"
     ∷ codes "X-Y.z"
+    ∷ codes "OVER"
+    ∷ codes "OVER <a@b>"
     ∷ codes "XOVER 1-5"
     ∷ codes "abc"
     ∷ []) opaque
@@ -102,6 +105,38 @@ commands : Makes request_of rows
 unfolding form_of chars is_utf8 encode_utf8
 commands = refl
 
+-- ---- commands, where overviews are judged
+
+other_commands : Makes (request_as Judged) rows
+unfolding form_of chars is_utf8 encode_utf8
+other_commands = refl
+
+abbrev overview_rows : List (List ℕ × Request)
+overview_rows =
+    (codes "OVER", over Over the_current)
+    ∷ (codes "xover ", over Xover the_current)
+    ∷ (codes "over 5", over Over (in_range (range 5 (Some 5))))
+    ∷ (codes "OVER 05-", over Over (in_range (range 5 None)))
+    ∷ (codes "XOVER 1-5", over Xover (in_range (range 1 (Some 5))))
+    ∷ (codes "XOVER 5-3", over Xover (in_range (range 5 (Some 3))))
+    ∷ (codes "OVER 0", over Over (in_range (range 0 (Some 0))))
+    ∷ (codes "OVER <a@b>", over Over (the_id (codes "<a@b>")))
+    ∷ (codes "XOVER <", over Xover (the_id (codes "<")))
+    ∷ (codes "OVER 1-2-3", opaque)
+    ∷ (codes "OVER -5", opaque)
+    ∷ (codes "OVER 12345678901234567", opaque)
+    ∷ (codes "OVER a@b", opaque)
+    ∷ (codes "OVER 1 2", opaque)
+    ∷ (codes "OVER <a@b> <c@d>", opaque)
+    ∷ (codes "OVERVIEW", opaque)
+    ∷ (codes "XHDR Subject 1-5", opaque)
+    ∷ (codes "OVER a\0b", ill_formed)
+    ∷ []
+
+overviews : Makes (request_as Judged) overview_rows
+unfolding form_of
+overviews = refl
+
 -- ---- lines of 512 octets with CRLF, and of 513
 
 -- so many letters
@@ -119,6 +154,19 @@ named_of_513 = refl
 opaque_of_512_and_513 : Ask ((codes "LIST " ++ letters 505) ∷ (codes "MODE " ++ letters 505) ∷ (codes "GROUX " ++ letters 505) ∷ []) opaque
 unfolding form_of
 opaque_of_512_and_513 = refl
+
+abbrev long_overviews : List (List ℕ × Request)
+long_overviews =
+    (codes "XOVER <" ++ letters 503, over Xover (the_id (codes "<" ++ letters 503)))
+    ∷ (codes "XOVER <" ++ letters 504, ill_formed)
+    ∷ (codes "XOVER " ++ letters 504, opaque)
+    ∷ (codes "XOVER " ++ letters 505, ill_formed)
+    ∷ (codes "XOVEX " ++ letters 505, opaque)
+    ∷ []
+
+overviews_of_512_and_513 : Makes (request_as Judged) long_overviews
+unfolding form_of
+overviews_of_512_and_513 = refl
 
 -- ---- what of a line decides how it is answered
 

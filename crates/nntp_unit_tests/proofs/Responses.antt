@@ -1,10 +1,11 @@
 -- Why a response is malformed, and which answers close the connection.
 use Rattle.std.{proofs.Common.{◌≡◌, ℕ, Bool, true, false, List, [], ◌∷◌, ◌++◌, Option, None, Some, replicate, refl}, specs.Prelude.{codes}}
 use Rattle.std.specs.{Char.{encode_utf8}, Str.{chars, is_utf8}}
-use Rattle.nntp_wire.specs.{Lines.{ended}, Command.{form_of, request_of}, Answer.{Asked, greeting, to, plain}, Session.{closes}, Misspelling.{misspelling}}
+use Rattle.nntp_wire.specs.{Lines.{ended}, Command.{form_of, request_of, request_as}, Answer.{Asked, greeting, to, plain}, Session.{closes}}
+use Rattle.nntp_wire.specs.{Misspelling.{misspelling}, Listing.{OverviewValue, overview_of}, declared.overviews.Overviews.TheVariants.{Judged}}
 use Rattle.nntp_wire.specs.declared.misspelling.Misspelling.{Misspelling, TheVariants.{WrongOctet, TooLong, NoCode, WrongArgument, WrongLine, WrongBlock}}
 use Rattle.nntp_wire.specs.declared.misspelling.{Due.TheVariants.{Number, GroupName, MessageId}, LineFault.TheVariants.{BadOctet, SingleDot, NoNumber, NoGroup}}
-use Rattle.nntp_wire.specs.declared.misspelling.LineFault.TheVariants.{NoVersions}
+use Rattle.nntp_wire.specs.declared.misspelling.LineFault.TheVariants.{NoArticleNumber, NoMessageId, NoVersions}
 use Rattle.nntp_unit_tests.proofs.Rows.{Makes}
 
 -- what a line asks
@@ -136,6 +137,59 @@ lists =
 list_reasons : Makes reason lists
 unfolding form_of chars is_utf8 encode_utf8
 list_reasons = refl
+
+-- what a line of OVER or XOVER says
+abbrev overview : ℕ → List ℕ → (subject from date references : List (List ℕ)) → Option OverviewValue
+overview number id subject from date references =
+    Some (record { number = number; id = id; subject = subject; from = from; date = date; references = references })
+
+abbrev overview_lines : List (List ℕ × Option OverviewValue)
+overview_lines =
+    (codes "5\ts\tf\td\t<a@x>\tr\t9\t1", overview 5 (codes "<a@x>") (codes "s" ∷ []) (codes "f" ∷ []) (codes "d" ∷ []) (codes "r" ∷ []))
+    ∷ (codes "5\t\t\t\t<a@x>", overview 5 (codes "<a@x>") [] [] [] [])
+    ∷ (codes "0\t\t\t\t<a@x>\t\t9\t1", overview 0 (codes "<a@x>") [] [] [] [])
+    ∷ (
+      codes " 05 \tRe:  s \t\t\t <a@x>\t<r@x>  <q@x>\t9\t1\tXref: x",
+      overview 5 (codes "<a@x>") (codes "Re:" ∷ codes "s" ∷ []) [] [] (codes "<r@x>" ∷ codes "<q@x>" ∷ []),
+    )
+    ∷ (codes "5\ts\tf\td", None)
+    ∷ (codes "5 s f d <a@x> r 9 1", None)
+    ∷ (codes "\ts\tf\td\t<a@x>\tr\t9\t1", None)
+    ∷ (codes "x\ts\tf\td\t<a@x>\tr\t9\t1", None)
+    ∷ (codes "5 6\ts\tf\td\t<a@x>\tr\t9\t1", None)
+    ∷ (codes "00000000000000005\ts\tf\td\t<a@x>\tr\t9\t1", None)
+    ∷ (codes "5\ts\tf\td\t\t<r@x>\t9\t1", None)
+    ∷ (codes "5\ts\tf\td\ta@x\tr\t9\t1", None)
+    ∷ (codes "5\ts\tf\td\t<a@x> <b@x>\tr\t9\t1", None)
+    ∷ (codes "", None)
+    ∷ []
+
+overviews_of_lines : Makes overview_of overview_lines
+overviews_of_lines = refl
+
+-- why these are no response to the line, where overviews are judged
+abbrev judged_reason : Whole → Option Misspelling
+judged_reason (line, initial, lines) = misspelling (to (request_as Judged line)) initial (Some (ended lines))
+
+abbrev overviews : List (Whole × Option Misspelling)
+overviews =
+    ((codes "OVER 1-5", codes "224 o", codes "1\ts\tf\td\t<a@x>\tr\t9\t1" ∷ codes "2\t\t\t\t<b@x>" ∷ []), None)
+    ∷ ((codes "XOVER 1-5", codes "224", []), None)
+    ∷ ((codes "OVER <a@x>", codes "224", codes "0\t\t\t\t<a@x>" ∷ []), None)
+    ∷ ((codes "XOVER", codes "224", codes "1 s f d <a@x>" ∷ []), Some (WrongLine 1 NoArticleNumber))
+    ∷ ((codes "OVER 1-5", codes "224", codes "1\ts\tf\td\t<a@x>\tr" ∷ codes "x\ts\tf\td\t<a@x>\tr" ∷ []), Some (WrongLine 2 NoArticleNumber))
+    ∷ ((codes "OVER 1-5", codes "224", codes "x\ts\tf\td" ∷ []), Some (WrongLine 1 NoArticleNumber))
+    ∷ ((codes "OVER 1-5", codes "224", codes "1\ts\tf\td" ∷ []), Some (WrongLine 1 NoMessageId))
+    ∷ ((codes "XOVER 1-5", codes "224", codes "1\ts\tf\td\t\t<r@x>" ∷ []), Some (WrongLine 1 NoMessageId))
+    ∷ ((codes "OVER 1-5", codes "224", codes "1" ∷ codes ".x" ∷ []), Some (WrongLine 1 NoMessageId))
+    ∷ ((codes "OVER 1-5", codes "224", codes ".x" ∷ []), Some (WrongLine 1 SingleDot))
+    ∷ ((codes "OVER x", codes "224", codes "1 x" ∷ []), None)
+    ∷ ((codes "STAT", codes "224", codes "1 x" ∷ []), None)
+    ∷ []
+
+overview_reasons : Makes judged_reason overviews
+unfolding form_of
+overview_reasons = refl
 
 -- what is wrong with a list of capabilities
 abbrev capabilities_reason : List (List ℕ) → Option Misspelling

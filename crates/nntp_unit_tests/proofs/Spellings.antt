@@ -1,9 +1,9 @@
 -- Octets that spell responses.
 use Rattle.std.{proofs.Common.{ℕ, List, [], ◌∷◌, None, Some, refl}, specs.{Prelude.{codes}, Char.{encode_utf8}, Str.{chars, is_utf8}}}
-use Rattle.nntp_wire.specs.{Command.{by_id, current, capabilities, next, opaque, group, list_group, from_one, retrieve, list_active}, Argument.{HasArticle}}
-use Rattle.nntp_wire.specs.{Argument.{HasGroup}, Answer.{Spells, greeting, to, group_is, numbers_are, sends, active_are, plain}}
-use Rattle.nntp_wire.{specs.declared.{command.What.TheVariants.{Body, Stat}, water_marks.WaterMarks.{WaterMarks}}, proofs.DecidedLemmas.{message_id-iff}}
-use Rattle.nntp_wire.proofs.DecidedLemmas.{group_name-iff}
+use Rattle.nntp_wire.specs.Command.{by_id, current, capabilities, next, opaque, group, list_group, from_one, retrieve, list_active, over, the_id, in_range}
+use Rattle.nntp_wire.specs.{Argument.{HasArticle, HasGroup}, Answer.{Spells, greeting, to, group_is, numbers_are, sends, active_are, overviews_are, plain}}
+use Rattle.nntp_wire.specs.declared.{command.{What.TheVariants.{Body, Stat}, OverviewKeyword.TheVariants.{Over, Xover}}, water_marks.WaterMarks.{WaterMarks}}
+use Rattle.nntp_wire.proofs.DecidedLemmas.{message_id-iff, group_name-iff}
 
 -- ---- a code alone
 
@@ -114,3 +114,20 @@ groups = codes "g 5 1 y" ∷ codes "h 0 1 n" ∷ []
 groups_listed : Spells (to (list_active None)) (active_are groups) (codes "215\r\ng 5 1 y\r\nh 0 1 n\r\n.\r\n")
 unfolding chars is_utf8 encode_utf8
 groups_listed = record { line = codes "215"; code = 215; block = Some groups; whole = refl; status = refl; due = refl; clean = (refl, (refl, tt)); says = (refl, refl) }
+
+-- ---- overviews
+
+abbrev overviews : List (List ℕ)
+overviews = codes "1\ts\tf\td\t<a@x>\tr\t9\t1" ∷ codes "2\t\t\t\t<b@x>" ∷ []
+
+overviews_of_a_range : Spells (to (over Over (in_range from_one))) (overviews_are overviews) (codes "224 o\r\n1\ts\tf\td\t<a@x>\tr\t9\t1\r\n2\t\t\t\t<b@x>\r\n.\r\n")
+overviews_of_a_range = record { line = codes "224 o"; code = 224; block = Some overviews; whole = refl; status = refl; due = refl; clean = (refl, (refl, tt)); says = (refl, refl) }
+
+overviews_of_none : Spells (to (over Xover (in_range from_one))) (overviews_are []) (codes "224\r\n.\r\n")
+overviews_of_none = record { line = codes "224"; code = 224; block = Some []; whole = refl; status = refl; due = refl; clean = tt; says = (refl, refl) }
+
+none_in_a_range : Spells (to (over Over (in_range from_one))) (plain 423) (codes "423 none\r\n")
+none_in_a_range = record { line = codes "423 none"; code = 423; block = None; whole = refl; status = refl; due = refl; clean = tt; says = refl }
+
+no_overview_of_an_id : Spells (to (over Over (the_id (codes "<a@x>")))) (plain 430) (codes "430\r\n")
+no_overview_of_an_id = record { line = codes "430"; code = 430; block = None; whole = refl; status = refl; due = refl; clean = tt; says = refl }
