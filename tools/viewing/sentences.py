@@ -55,7 +55,11 @@ WHY = (
     ("why order N M", "It lists {M} directly behind {N}, and {M} isn't greater."),
     ("why range N", "It lists {N}, which isn't in the range that was asked for."),
     ("why match NAME", "It lists the group {NAME}, which the wildmat doesn't match."),
-    ("why twice NAME", "It lists the group {NAME} twice."),
+    ("why twice NAME", "It lists {NAME} twice."),
+    (
+        "why lines",
+        "It lists no overview where OVER names a range, or not just one where the overview of one article was asked for.",
+    ),
     ("why head", "What it sends isn't a head, or isn't a head and a body. Which line is wrong isn't told."),
     ("why own ID", "The head that it sends says the id {ID}, and that isn't the id of the answer."),
     ("why octet", "The initial line holds NUL, CR or LF."),

@@ -11,4 +11,5 @@ pub use article::{
 };
 pub use session::{
     Misfit, Profile, Visible, groups_listed, is_article_number, is_generic_failure, numbers_listed,
+    overviews_listed,
 };

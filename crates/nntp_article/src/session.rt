@@ -7,4 +7,6 @@ mod visible;
 
 pub use misfit::Misfit;
 pub use profile::Profile;
-pub use visible::{Visible, groups_listed, is_article_number, is_generic_failure, numbers_listed};
+pub use visible::{
+    Visible, groups_listed, is_article_number, is_generic_failure, numbers_listed, overviews_listed,
+};

@@ -6,7 +6,7 @@ use Rattle.nntp_wire.specs.declared.misspelling.{Misspelling.TheVariants.{WrongA
 use Rattle.nntp_wire.specs.declared.misspelling.{Due.TheVariants.{MessageId}, LineFault.{LineFault, TheVariants.{BadOctet, SingleDot, NoNumber, NoGroup}}}
 use Rattle.nntp_wire.specs.{declared.misspelling.LineFault.TheVariants.{NoArticleNumber, NoMessageId, NoVersions}, Session.{closes}}
 use Rattle.nntp_article.specs.Session.Misfit.{Misfit, wrong_code, wrong_name, wrong_number, wrong_id, below_low, wrong_marks, beyond_limit, not_above}
-use Rattle.nntp_article.specs.Session.{Misfit.{beyond_range, unmatched, listed_twice, no_head, other_id}, Machine.{is_same}, Spool.{Name}}
+use Rattle.nntp_article.specs.Session.{Misfit.{beyond_range, unmatched, listed_twice, wrong_lines, no_head, other_id}, Machine.{is_same}, Spool.{Name}}
 use Rattle.nntp_said.specs.declared.position.Position.{Position, TheVariants.{Nowhere, First, Known}}
 use Rattle.nntp_printing.specs.{BadAnswer.{shown, command_line}, Printing.{escaped}}
 use Rattle.nntp_theory.specs.Conflict.{Point, Step, Group, Number as NumberOf, Count, First as FirstNumber, IdOf, PlaceOf, Article, HeadOf, BodyOf}
@@ -56,7 +56,8 @@ misfit_line (beyond_limit n) = number_line (codes "why limit ") n
 misfit_line (not_above before n) = codes "why order " ++ decimal before ++ codes " " ++ decimal n ++ codes "\n"
 misfit_line (beyond_range n) = number_line (codes "why range ") n
 misfit_line (unmatched name) = octets_line (codes "why match ") name
-misfit_line (listed_twice name) = octets_line (codes "why twice ") name
+misfit_line (listed_twice word) = octets_line (codes "why twice ") word
+misfit_line wrong_lines = codes "why lines\n"
 misfit_line no_head = codes "why head\n"
 misfit_line (other_id said) = octets_line (codes "why own ") said
 

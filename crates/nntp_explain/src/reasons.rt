@@ -70,7 +70,8 @@ pub(crate) fn put_misfit<A: Allocator + Copy>(
         Misfit::NotAbove { before, number } => put_not_above(text, before, number),
         Misfit::BeyondRange(number) => put_number_line(text, b"why range ", number),
         Misfit::Unmatched(name) => put_escaped_line(text, b"why match ", name),
-        Misfit::ListedTwice(name) => put_escaped_line(text, b"why twice ", name),
+        Misfit::ListedTwice(word) => put_escaped_line(text, b"why twice ", word),
+        Misfit::WrongLines => text.extend_from_slice(b"why lines\n"),
         Misfit::NoHead => text.extend_from_slice(b"why head\n"),
         Misfit::OtherId(said) => put_escaped_line(text, b"why own ", said),
     }

@@ -26,7 +26,7 @@ use crate::points::Refusal;
 use crate::saying::Saying;
 use crate::shown_groups::{ShownGroup, ShownGroups};
 use crate::taken_groups::TakenGroups;
-use nntp_article::{Misfit, Profile, Visible, groups_listed, numbers_listed};
+use nntp_article::{Misfit, Profile, Visible, groups_listed, numbers_listed, overviews_listed};
 use nntp_pair::Exchange;
 use nntp_said::Position;
 use nntp_theory::Noted;
@@ -189,9 +189,12 @@ impl<A: Allocator + Copy> Facts<A> {
         let prompt = exchange.prompt();
         let answer = exchange.answer();
         let profile = self.profile();
+        let numbers = numbers_listed(self.alloc, answer)?;
+        let groups = groups_listed(self.alloc, answer)?;
+        let overviews = overviews_listed(self.alloc, answer)?;
         let why = self
             .visible
-            .misfit_as_read(profile, prompt, answer, numbers, groups)?;
+            .misfit_as_read(profile, prompt, answer, &numbers, &groups, &overviews)?;
         if why.is_some() {
             return Ok(Noted::OutOfPlace);
         }

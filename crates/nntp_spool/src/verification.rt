@@ -25,7 +25,7 @@ use crate::value::content::Content;
 use asked_counts::AskedCounts;
 use holding::hold;
 use last_group::LastGroup;
-use nntp_article::{Profile, Visible, groups_listed, numbers_listed};
+use nntp_article::{Profile, Visible, groups_listed, numbers_listed, overviews_listed};
 use nntp_pair::{Exchange, Pairs, Step};
 use nntp_said::{Position, facts_of};
 use nntp_wire::{ActiveLine, Marks};
@@ -127,36 +127,8 @@ fn may_answer<A: Allocator + Copy, S: Allocator>(
     let answer = exchange.answer();
     let numbers = numbers_listed(alloc, answer)?;
     let groups = groups_listed(alloc, answer)?;
-    // Both are lent, and so dropped at one exit alone: the check goes through the drops of each.
-    may_answer_listing(
-        profile, group, counts, visible, position, exchange, &numbers, &groups,
-    )
-}
-
-/// Tells whether the spool permits the exchange, as [`may_answer`] does; `numbers` and `groups` are those that the
-/// answer lists.
-fn may_answer_listing<'a, A: Allocator + Copy, S: Allocator>(
-    profile: Profile,
-    group: &mut LastGroup<'_, S>,
-    counts: &mut AskedCounts<A>,
-    visible: &Visible<A>,
-    position: Position,
-    exchange: &Exchange<'a>,
-    numbers: &[u64],
-    groups: &[ActiveLine<'a>],
-) -> Result<bool, AllocError>
-    requires spool { IsSpool profile.limit group.old }
-    requires counted { AreCounted group.old counts.old }
-    requires numbers { numbers.now ≡ numbers_of exchange.now.response }
-    requires groups { map active_value groups.now ≡ groups_of exchange.now.response }
-    ensures spool { group.new ≡ group.old }
-    ensures counted { IfOk result (λ _. AreCounted group.old counts.new) }
-    ensures may { IfOk result (λ may. IsTrue may
-        ↔ MayAnswer profile group.old (state_at group.old visible.now position) (asked_at exchange.now.place) exchange.now.response) }
-{
-    let prompt = exchange.prompt();
-    let answer = exchange.answer();
-    let why = visible.misfit_as_read(profile, prompt, answer, numbers, groups)?;
+    let overviews = overviews_listed(alloc, answer)?;
+    let why = visible.misfit_as_read(profile, prompt, answer, &numbers, &groups, &overviews)?;
     if visible.is_closed() || why.is_some() {
         return Ok(false);
     }

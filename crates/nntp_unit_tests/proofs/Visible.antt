@@ -2,11 +2,12 @@
 use Rattle.std.{proofs.Common.{◌≡◌, ℕ, Bool, true, false, List, [], ◌∷◌, Option, None, Some, refl, ap}, specs.Prelude.{codes, unwrap_or, nat_le}}
 use Rattle.std.specs.{Cmp.Lexicographic.{slice_cmp}, Ordering.{nat_cmp}, FinMap.{FinMap, empty, get, insert}, Char.{encode_utf8}, Str.{chars, is_utf8}}
 use Rattle.nntp_wire.specs.{Limit.{greatest}, Reason.{unless, first}, Command.{Target, by_id, by_number, current, group, list_group, retrieve, list_active}}
-use Rattle.nntp_wire.specs.{Command.{next, quit}, Answer.{Asked, greeting, to, Response, group_is, numbers_are, sends, active_are, plain}}
+use Rattle.nntp_wire.specs.{Command.{next, quit, over, the_id, in_range, the_current}, Answer.{Asked, greeting, to, Response, group_is, numbers_are, sends}}
+use Rattle.nntp_wire.specs.{Answer.{active_are, overviews_are, plain}, declared.command.OverviewKeyword.{OverviewKeyword, TheVariants.{Over, Xover}}}
 use Rattle.nntp_wire.specs.declared.{command.What.TheVariants.{Head, Stat}, limit.Limit.{Limit, TheVariants.{Narrow, Wide}}, marks.Marks.TheVariants.{Lenient}}
 use Rattle.nntp_article.specs.{Article.Parts.{Line}, declared.session.profile.Profile.{Profile}, Session.Machine.{Visible, start, is_article_number}}
 use Rattle.nntp_article.specs.Session.{Machine.{visible_after}, Misfit.{Misfit, wrong_code, wrong_name, wrong_number, wrong_id, below_low, wrong_marks}}
-use Rattle.nntp_article.specs.Session.Misfit.{beyond_limit, not_above, beyond_range, unmatched, listed_twice, no_head, other_id, misfit}
+use Rattle.nntp_article.specs.Session.Misfit.{beyond_limit, not_above, beyond_range, unmatched, listed_twice, wrong_lines, no_head, other_id, misfit}
 use Rattle.nntp_unit_tests.proofs.Rows.{Makes}
 
 abbrev within : Limit → Profile
@@ -129,6 +130,85 @@ groups_are_listed : Makes (λ row. misfit (within Narrow) none_selected (to (lis
 unfolding chars is_utf8 encode_utf8
 groups_are_listed = refl
 
+-- ---- overviews
+
+-- what is asked: of a range, of an id, or of the current article
+abbrev of_range : OverviewKeyword → ℕ → ℕ → Asked
+of_range keyword first_number last_number = to (over keyword (in_range (record { first = first_number; last = Some last_number })))
+
+abbrev of_a : Asked
+of_a = to (over Over (the_id (codes "<a@x>")))
+
+abbrev of_current : Asked
+of_current = to (over Xover the_current)
+
+-- what is answered
+abbrev one_is_a : Line
+one_is_a = codes "1\ts\tf\td\t<a@x>\tr\t9\t1"
+
+abbrev three_is_c : Line
+three_is_c = codes "3\ts\tf\td\t<c@x>\tr\t9\t1"
+
+abbrev ranges_in_a_group : Rows
+ranges_in_a_group =
+    ((of_range Over 1 3, overviews_are (one_is_a ∷ three_is_c ∷ [])), None)
+    ∷ ((of_range Over 1 5, overviews_are []), Some wrong_lines)
+    ∷ ((of_range Xover 1 5, overviews_are []), None)
+    ∷ ((of_range Over 2 4, plain 423), None)
+    ∷ ((of_range Over 2 4, plain 420), Some (wrong_code 420 (224 ∷ 423 ∷ [])))
+    ∷ ((of_range Over 2 4, plain 503), None)
+    ∷ ((of_range Over 2 4, plain 381), Some (wrong_code 381 (224 ∷ 423 ∷ [])))
+    ∷ ((of_range Xover 2 4, plain 423), None)
+    ∷ ((of_range Xover 2 4, plain 420), None)
+    ∷ ((of_range Xover 2 4, plain 412), Some (wrong_code 412 (224 ∷ 420 ∷ 423 ∷ [])))
+    ∷ ((of_range Xover 5 3, overviews_are (codes "5\t\t\t\t<a@x>" ∷ [])), Some (beyond_range 5))
+    ∷ ((of_range Xover 1 2, overviews_are (one_is_a ∷ codes "2\t\t\t\t<a@x>" ∷ [])), Some (listed_twice (codes "<a@x>")))
+    ∷ ((of_range Xover 1 3, overviews_are (three_is_c ∷ one_is_a ∷ [])), Some (not_above 3 1))
+    ∷ ((of_range Xover 1 3, overviews_are (one_is_a ∷ codes "01\t\t\t\t<b@x>" ∷ [])), Some (not_above 1 1))
+    ∷ ((of_range Xover 0 3, overviews_are (codes "0\t\t\t\t<b@x>" ∷ one_is_a ∷ [])), Some (beyond_limit 0))
+    ∷ ((to next, overviews_are (one_is_a ∷ [])), Some (wrong_code 224 (223 ∷ 420 ∷ 421 ∷ [])))
+    ∷ []
+
+ranges_of_g : (lows : Lows) → Makes (λ row. misfit (within Narrow) (selected lows) row.0 row.1) ranges_in_a_group
+ranges_of_g lows = refl
+
+abbrev single_in_a_group : Rows
+single_in_a_group =
+    ((of_current, overviews_are (one_is_a ∷ [])), None)
+    ∷ ((of_current, overviews_are []), Some wrong_lines)
+    ∷ ((of_current, overviews_are (one_is_a ∷ three_is_c ∷ [])), Some wrong_lines)
+    ∷ ((of_current, overviews_are (codes "0\t\t\t\t<a@x>" ∷ [])), Some (beyond_limit 0))
+    ∷ ((of_current, plain 420), None)
+    ∷ ((of_current, plain 423), Some (wrong_code 423 (224 ∷ 420 ∷ [])))
+    ∷ ((of_a, overviews_are (one_is_a ∷ [])), None)
+    ∷ ((of_a, overviews_are (codes "0\t\t\t\t<a@x>" ∷ [])), None)
+    ∷ ((of_a, overviews_are (codes "2147483648\t\t\t\t<a@x>" ∷ [])), Some (beyond_limit 2147483648))
+    ∷ ((of_a, overviews_are (three_is_c ∷ [])), Some (wrong_id (codes "<c@x>")))
+    ∷ ((of_a, overviews_are (one_is_a ∷ three_is_c ∷ [])), Some wrong_lines)
+    ∷ ((of_a, overviews_are []), Some wrong_lines)
+    ∷ ((of_a, plain 430), None)
+    ∷ ((of_a, plain 423), Some (wrong_code 423 (224 ∷ 430 ∷ [])))
+    ∷ []
+
+single_of_g : (lows : Lows) → Makes (λ row. misfit (within Narrow) (selected lows) row.0 row.1) single_in_a_group
+single_of_g lows = refl
+
+abbrev overviews_before_a_group : Rows
+overviews_before_a_group =
+    ((of_range Over 1 3, overviews_are (one_is_a ∷ [])), Some (wrong_code 224 (412 ∷ [])))
+    ∷ ((of_range Over 1 3, plain 412), None)
+    ∷ ((of_range Over 1 3, plain 423), Some (wrong_code 423 (412 ∷ [])))
+    ∷ ((of_current, overviews_are (one_is_a ∷ three_is_c ∷ [])), Some (wrong_code 224 (412 ∷ [])))
+    ∷ ((of_current, plain 412), None)
+    ∷ ((of_a, overviews_are (codes "0\t\t\t\t<a@x>" ∷ [])), None)
+    ∷ ((of_a, overviews_are (one_is_a ∷ [])), Some (wrong_number 1))
+    ∷ ((of_a, plain 430), None)
+    ∷ ((of_a, plain 412), Some (wrong_code 412 (224 ∷ 430 ∷ [])))
+    ∷ []
+
+no_overviews_yet : Makes (λ row. misfit (within Narrow) none_selected row.0 row.1) overviews_before_a_group
+no_overviews_yet = refl
+
 -- ---- marks, and the greatest low mark of g before them
 
 -- why a low mark doesn't fit
@@ -190,3 +270,6 @@ low_mark_is_kept = refl
 
 zeros_leave_the_low_mark : (lows : Lows) → (visible_after (selected lows) g (marks_are 0 0 0 (codes "g"))).lows ≡ lows
 zeros_leave_the_low_mark lows = refl
+
+overviews_move_nothing : (lows : Lows) → visible_after (selected lows) (of_range Over 1 3) (overviews_are (one_is_a ∷ [])) ≡ selected lows
+overviews_move_nothing lows = refl

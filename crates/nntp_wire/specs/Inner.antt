@@ -1,6 +1,5 @@
 pub mod Octets
 pub mod Lines
-pub mod Listing
 pub mod Pattern
 pub mod Block
 pub mod Decided

@@ -1,8 +1,7 @@
 //! The overviews that the lines of OVER and XOVER are (RFC 3977, section 8.3).
 ghost use Rattle.std.specs.Prelude.{◌≡◌, ◌<◌, ◌^◌, length, List, ℕ, option_map, is_some};
 ghost use Rattle.std.specs.Iterator.{YieldsFirstBy, item_count};
-ghost use Rattle.nntp_wire.specs.Listing.{id_alone, overview_of, are_overview_lines, number_in_front, id_in_place};
-ghost use Rattle.nntp_wire.specs.Inner.Listing.{overviews_of};
+ghost use Rattle.nntp_wire.specs.Listing.{id_alone, overview_of, overviews_of, are_overview_lines, number_in_front, id_in_place};
 ghost use Rattle.nntp_wire.specs.Words.{words_of};
 ghost use Rattle.nntp_wire.specs.Inner.View.{overview_value};
 
@@ -114,8 +113,7 @@ pub struct OverviewLines<'a> {
 
 impl<'a> Model for OverviewLines<'a> {
     ghost use Rattle.std.specs.Prelude.{List};
-    ghost use Rattle.nntp_wire.specs.Listing.{OverviewValue};
-    ghost use Rattle.nntp_wire.specs.Inner.Listing.{overviews_of};
+    ghost use Rattle.nntp_wire.specs.Listing.{OverviewValue, overviews_of};
 
     ghost Value = { List OverviewValue };
 

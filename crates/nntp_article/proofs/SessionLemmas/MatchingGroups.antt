@@ -1,5 +1,5 @@
 -- Groups of a map that match, and as many names that are listed.
-use Rattle.std.proofs.Common.{◌≡◌, ℕ, Bool, true, false, cond, not, T, None, is_some, List, [], ◌∷◌, map, length, refl, sym, ap, subst, ◌∙◌, arith}
+use Rattle.std.proofs.Common.{◌≡◌, Bool, true, false, cond, not, T, None, is_some, List, [], ◌∷◌, length, refl, sym, ap, subst, ◌∙◌, arith}
 use Rattle.std.proofs.lemmas.{Bool.{true≢false, and_parts, not-true}, List.{length-map, Sums.{length-filter}}, Map.Entries.{length-keys_of}}
 use Rattle.std.proofs.lemmas.Map.{Keys.{IsDistinct-from_sorted, IsDistinct-cons}, Made.{IsDistinct-keys_filter, length-le_from_is_member}}
 use Rattle.std.{proofs.lemmas.Map.Text.{is_eq-slice_cmp}, specs.{Prelude.{◌||◌}, declared.cmp.Ordering.{Ordering, TheVariants.{Less}}, Ordering.{nat_cmp}}}
@@ -8,37 +8,34 @@ use Rattle.std.specs.{List.{filter, AllByRecursion, IsDistinct, Sorted.{IsStrict
 use Rattle.std.specs.FinMap.{find, is_sorted, entries_sorted, get-entries, IsAntisymmetric, nat_cmp-IsAntisymmetric, slice_cmp-IsAntisymmetric}
 use Rattle.std.specs.FinMap.Entries.{below_all, is_some-find, find-where_key}
 use Rattle.nntp_wire.{specs.Listing.{ActiveValue}, proofs.ShownMaps.{equal_is}}
-use Rattle.nntp_article.specs.Session.{Spool.{Name}, Machine.{is_same, names_differ}}
+use Rattle.nntp_article.specs.Session.{Spool.{Name}, Machine.{is_same, all_differ, group_names, names_differ}}
 
 abbrev pub same_name : Name → Name → Bool
 same_name a b = eq_by_cmp (slice_cmp nat_cmp) a b
 
-abbrev pub names_of : List ActiveValue → List Name
-names_of lines = map (λ line. line.name) lines
-
 -- ---- names that are listed
 
-pub member_names : (q : Name) (lines : List ActiveValue) → is_member same_name (names_of lines) q ≡ list_any (λ line. is_same q line.name) lines
+pub member_names : (q : Name) (lines : List ActiveValue) → is_member same_name (group_names lines) q ≡ list_any (λ line. is_same q line.name) lines
 member_names q [] = refl
 member_names q (l ∷ lines) = rw (is_eq-slice_cmp q l.name) (ap (λ b. is_same q l.name || b) (member_names q lines))
 
 -- no other is the same
-none_same : (name : List ℕ) (lines : List ActiveValue) → list_any (λ line. is_same name line.name) lines ≡ false → list_all (λ other. not (is_same name other.name)) lines ≡ true
+none_same : (name : Name) (lines : List ActiveValue) → list_any (λ line. is_same name line.name) lines ≡ false → list_all (λ other. not (is_same name other)) (group_names lines) ≡ true
 none_same name [] e = refl
 none_same name (l ∷ lines) e = grind (arith, none_same name lines)
 
-no_other : (name : Name) (lines : List ActiveValue) → list_all (λ other. not (is_same name other.name)) lines ≡ true → AllByRecursion (λ y. same_name name y ≡ false) (names_of lines)
+no_other : (name : Name) (names : List Name) → list_all (λ other. not (is_same name other)) names ≡ true → AllByRecursion (λ y. same_name name y ≡ false) names
 no_other name [] e = tt
-no_other name (l ∷ lines) e =
-    let both = and_parts (not (is_same name l.name)) (list_all (λ other. not (is_same name other.name)) lines) e in
-    (is_eq-slice_cmp name l.name ∙ not-true (is_same name l.name) both.0, no_other name lines both.1)
+no_other name (other ∷ names) e =
+    let both = and_parts (not (is_same name other)) (list_all (λ other. not (is_same name other)) names) e in
+    (is_eq-slice_cmp name other ∙ not-true (is_same name other) both.0, no_other name names both.1)
 
-distinct_names : (lines : List ActiveValue) → names_differ lines ≡ true → IsDistinct same_name (names_of lines)
+distinct_names : (names : List Name) → all_differ names ≡ true → IsDistinct same_name names
 unfolding IsDistinct
 distinct_names [] e = tt
-distinct_names (l ∷ lines) e =
-    let both = and_parts (list_all (λ other. not (is_same l.name other.name)) lines) (names_differ lines) e in
-    (no_other l.name lines both.0, distinct_names lines both.1)
+distinct_names (name ∷ names) e =
+    let both = and_parts (list_all (λ other. not (is_same name other)) names) (all_differ names) e in
+    (no_other name names both.0, distinct_names names both.1)
 
 -- ---- keys that match
 
@@ -91,37 +88,37 @@ module _ {X : Type 0} where
     member_is q e = grind (arith, member_kept, true≢false)
 
     module _ (lines : List ActiveValue) (differ : names_differ lines ≡ true) (are : (q : Name) → list_any (λ line. is_same q line.name) lines ≡ true → (is_some (get m q) ≡ true) × (t q ≡ true)) where
-      length-names : length (names_of lines) ≡ length lines
+      length-names : length (group_names lines) ≡ length lines
       length-names = simp length-map
 
-      are_kept : (q : Name) → is_member same_name (names_of lines) q ≡ true → is_member same_name kept q ≡ true
+      are_kept : (q : Name) → is_member same_name (group_names lines) q ≡ true → is_member same_name kept q ≡ true
       are_kept q e = let a = are q (sym (member_names q lines) ∙ e) in member_if q a.0 a.1
 
       -- where each key that passes is listed, as many are listed as pass
       pub as_many : ((q : Name) → is_some (get m q) ≡ true → t q ≡ true → list_any (λ line. is_same q line.name) lines ≡ true) → count_by (λ e. t e.0) (entries m) ≡ length lines
       as_many each =
-          let most = length-le_from_is_member (eq_by_cmp_equiv nat_list_cmp_total) (names_of lines) kept (distinct_names lines differ) are_kept in
-          let least = length-le_from_is_member (eq_by_cmp_equiv nat_list_cmp_total) kept (names_of lines) distinct_kept (λ q e. let is = member_is q e in member_names q lines ∙ each q is.0 is.1) in
-          let same : length kept ≡ length (names_of lines) = omega arith in
+          let most = length-le_from_is_member (eq_by_cmp_equiv nat_list_cmp_total) (group_names lines) kept (distinct_names (group_names lines) differ) are_kept in
+          let least = length-le_from_is_member (eq_by_cmp_equiv nat_list_cmp_total) kept (group_names lines) distinct_kept (λ q e. let is = member_is q e in member_names q lines ∙ each q is.0 is.1) in
+          let same : length kept ≡ length (group_names lines) = omega arith in
           count-kept ∙ same ∙ length-names
 
       -- and the other way round
       pub each_listed : count_by (λ e. t e.0) (entries m) ≡ length lines → (q : Name) → is_some (get m q) ≡ true → t q ≡ true → list_any (λ line. is_same q line.name) lines ≡ true
       each_listed count q here passes = by (list_any (λ line. is_same q line.name) lines) refl
         where
-          one_more : list_any (λ line. is_same q line.name) lines ≡ false → (x : Name) → is_member same_name (q ∷ names_of lines) x ≡ true → is_member same_name kept x ≡ true
+          one_more : list_any (λ line. is_same q line.name) lines ≡ false → (x : Name) → is_member same_name (q ∷ group_names lines) x ≡ true → is_member same_name kept x ≡ true
           one_more missing x e = of (same_name x q) refl e
             where
-              of : (b : Bool) → same_name x q ≡ b → (b || is_member same_name (names_of lines) x) ≡ true → is_member same_name kept x ≡ true
+              of : (b : Bool) → same_name x q ≡ b → (b || is_member same_name (group_names lines) x) ≡ true → is_member same_name kept x ≡ true
               of true tied e = subst (λ k. is_member same_name kept k ≡ true) (sym (octet_keys x q (equal_is (slice_cmp nat_cmp x q) tied))) (member_if q here passes)
               of false tied e = are_kept x e
 
-          apart : list_any (λ line. is_same q line.name) lines ≡ false → IsDistinct same_name (q ∷ names_of lines)
-          apart missing = IsDistinct-cons same_name q (names_of lines) (no_other q lines (none_same q lines missing)) (distinct_names lines differ)
+          apart : list_any (λ line. is_same q line.name) lines ≡ false → IsDistinct same_name (q ∷ group_names lines)
+          apart missing = IsDistinct-cons same_name q (group_names lines) (no_other q (group_names lines) (none_same q lines missing)) (distinct_names (group_names lines) differ)
 
           by : (b : Bool) → list_any (λ line. is_same q line.name) lines ≡ b → b ≡ true
           by true e = refl
           by false e =
-              let most = length-le_from_is_member (eq_by_cmp_equiv nat_list_cmp_total) (q ∷ names_of lines) kept (apart e) (one_more e) in
-              let same : length kept ≡ length (names_of lines) = sym count-kept ∙ count ∙ sym length-names in
+              let most = length-le_from_is_member (eq_by_cmp_equiv nat_list_cmp_total) (q ∷ group_names lines) kept (apart e) (one_more e) in
+              let same : length kept ≡ length (group_names lines) = sym count-kept ∙ count ∙ sym length-names in
               absurd (omega arith)

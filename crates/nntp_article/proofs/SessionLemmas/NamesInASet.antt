@@ -1,10 +1,9 @@
 -- Names that are put into a set, one after the other.
-use Rattle.std.proofs.{Common.{◌≡◌, Bool, true, false, not, List, [], ◌∷◌, Some, map, refl, sym, ap, ◌∙◌, arith}, lemmas.Map.Text.{is_eq-slice_cmp}}
+use Rattle.std.proofs.{Common.{◌≡◌, ℕ, Bool, true, false, not, List, [], ◌∷◌, Some, map, refl, sym, ap, ◌∙◌, arith}, lemmas.Map.Text.{is_eq-slice_cmp}}
 use Rattle.std.specs.{Prelude.{◌||◌, if◌then◌else◌}, Borrow.{Bor}, declared.cmp.Ordering.{Ordering}, Ordering.{nat_cmp, is_eq}, Cmp.Lexicographic.{slice_cmp}}
 use Rattle.std.specs.{List.{list_any}, BTreeSet.{insert_key}}
-use Rattle.nntp_wire.specs.Listing.{ActiveValue}
 use Rattle.nntp_article.{specs.Session.{Spool.{Name}, Machine.{is_same}, Misfit.{listed_twice, twice_misfit}}, proofs.SessionLemmas.SetKeys.{any-insert_key}}
-use Rattle.nntp_article.proofs.SessionLemmas.Misfits.{twice_by_names}
+use Rattle.nntp_article.proofs.SessionLemmas.Misfits.{twice_by_words}
 use Rattle.std.specs.FinMap as finite
 
 -- a name that wasn't added was there
@@ -40,13 +39,13 @@ has_more name old new k e =
     ∙ any-insert_key ref_cmp (λ x. is_same name x.now) k old
     (λ x tied. ap (is_same name) (sym (finite.slice_cmp-IsAntisymmetric finite.nat_cmp-IsAntisymmetric k.now x.now tied)))
 
-module _ (v : ActiveValue) (lines : List ActiveValue) (old : List (Bor Name)) (k : Bor Name) (is : k.now ≡ v.name) where
-  found : list_any (λ x. is_eq (slice_cmp nat_cmp k.now x.now)) old ≡ list_any (is_same v.name) (names_in old)
-  found = has_name-set k.now old ∙ ap (has_name old) is ∙ sym (any_in v.name old)
+module _ (word : List ℕ) (words : List (List ℕ)) (old : List (Bor Name)) (k : Bor Name) (is : k.now ≡ word) where
+  found : list_any (λ x. is_eq (slice_cmp nat_cmp k.now x.now)) old ≡ list_any (is_same word) (names_in old)
+  found = has_name-set k.now old ∙ ap (has_name old) is ∙ sym (any_in word old)
 
-  pub twice_here : list_any (λ x. is_eq (slice_cmp nat_cmp k.now x.now)) old ≡ true → twice_misfit (names_in old) (v ∷ lines) ≡ Some (listed_twice k.now)
-  twice_here e = ap (λ b. if b then Some (listed_twice v.name) else twice_misfit (v.name ∷ names_in old) lines) (sym found ∙ e) ∙ ap (λ name. Some (listed_twice name)) (sym is)
+  pub twice_here : list_any (λ x. is_eq (slice_cmp nat_cmp k.now x.now)) old ≡ true → twice_misfit (names_in old) (word ∷ words) ≡ Some (listed_twice k.now)
+  twice_here e = ap (λ b. if b then Some (listed_twice word) else twice_misfit (word ∷ names_in old) words) (sym found ∙ e) ∙ ap (λ word. Some (listed_twice word)) (sym is)
 
   pub twice_later : (new : List (Bor Name)) → list_any (λ x. is_eq (slice_cmp nat_cmp k.now x.now)) old ≡ false → new ≡ insert_key ref_cmp old k
-      → twice_misfit (names_in new) lines ≡ twice_misfit (names_in old) (v ∷ lines)
-  twice_later new e put = grind (arith, found, twice_by_names, any_in, has_more)
+      → twice_misfit (names_in new) words ≡ twice_misfit (names_in old) (word ∷ words)
+  twice_later new e put = grind (arith, found, twice_by_words, any_in, has_more)

@@ -1,20 +1,23 @@
 -- What a reason names is at fault.
-use Rattle.std.proofs.Common.{◌≡◌, ℕ, ◌≤◌, Bool, true, false, not, ◌&&◌, ◌||◌, ◌==◌, Option, None, Some, is_some, MatchOption, List, [], ◌∷◌, ◌++◌, map, ◌⊎◌}
-use Rattle.std.proofs.{Common.{inl, inr, refl, sym, ap, subst, arith, ◌∙◌}, lemmas.Bool.{or_cases, leb-false, ltb-false, and_right, and_from, or_left}}
-use Rattle.std.{proofs.lemmas.{Bool.{or_right}, Option.{IfSome_then}}, specs.Prelude.{◌+◌, ◌-◌, nat_le, nat_lt, unwrap_or, if◌then◌else◌, IfSome}}
-use Rattle.std.specs.{List.{list_any}, Option.{option_map_or, option_or}, FinMap.{get}, Cmp.Lexicographic.{bytes_decides}}
+use Rattle.std.proofs.Common.{◌≡◌, ℕ, ◌≤◌, Bool, true, false, not, ◌&&◌, ◌||◌, ◌==◌, Option, None, Some, is_some, option_map, MatchOption, List, [], ◌∷◌, ◌++◌}
+use Rattle.std.proofs.{Common.{map, ◌⊎◌, inl, inr, refl, sym, ap, subst, arith, ◌∙◌}, lemmas.Bool.{or_cases, leb-false, ltb-false, and_right, and_from}}
+use Rattle.std.{proofs.lemmas.{Bool.{or_left, or_right}, Option.{IfSome_then}}, specs.Prelude.{◌+◌, ◌-◌, nat_le, nat_lt, unwrap_or, if◌then◌else◌, IfSome}}
+use Rattle.std.specs.{Prelude.{is_none}, List.{list_any}, Option.{option_map_or, option_or}, FinMap.{get}, Cmp.Lexicographic.{bytes_decides}}
 use Rattle.nntp_wire.specs.Answer.{Success, Asked, Response, greeting, to, group_is, numbers_are, sends, active_are, plain, success_code, overviews_are}
-use Rattle.nntp_wire.specs.{declared.{water_marks.WaterMarks.{WaterMarks}, command.What.{What, TheVariants.{Article, Head, Body, Stat}}}, Listing.{ActiveValue}}
-use Rattle.nntp_wire.specs.{Listing.{listed_numbers, active_groups}, Decided.{matches_name}, Command.{Target, group, list_group, next, last, retrieve}}
-use Rattle.nntp_wire.{specs.{Command.{list_active, over}, Reason.{unless, first}}, proofs.Reasons.{so_unless, so_first, so_each}}
-use Rattle.nntp_article.specs.{Article.Parts.{Line, is_head, said_id}, Session.{Spool.{Name}, Machine.{Visible, is_same, is_generic, is_greeting}}}
-use Rattle.nntp_article.specs.Session.{Machine.{is_article_number, are_zeros, is_in_range, code_fits}, Misfit.{Misfit, wrong_code, wrong_name, wrong_number}}
-use Rattle.nntp_article.specs.Session.Misfit.{wrong_id, below_low, wrong_marks, beyond_limit, not_above, beyond_range, unmatched, listed_twice, no_head}
-use Rattle.nntp_article.specs.Session.Misfit.{other_id, name_misfit, marks_misfit, step_misfit, order_misfit, listed_misfit, selected_misfit, target_misfit}
-use Rattle.nntp_article.specs.Session.Misfit.{said_misfit, head_misfit, active_misfit, twice_misfit, step_sent_misfit, code_misfit, misfit, allowed_codes}
-use Rattle.nntp_article.specs.{Session.Misfit.{answered_code}, Inner.Misfit.{marked_by, numbers_of, is_outside, is_unmatched, AreNeighbours, IsAbove}}
-use Rattle.nntp_article.specs.Inner.Misfit.{asked_group, asked_number, asked_id, sent_by, sent_head, names_of, IsTwice, are_out_of_order, have_no_room}
-use Rattle.nntp_article.specs.{Inner.Misfit.{is_out_of_order, has_wrong_marks, has_parts, lacks_parts}, declared.session.profile.Profile.{Profile}}
+use Rattle.nntp_wire.specs.declared.{water_marks.WaterMarks.{WaterMarks}, command.What.{What, TheVariants.{Article, Head, Body, Stat}}}
+use Rattle.nntp_wire.specs.{declared.{command.OverviewKeyword.{OverviewKeyword}, range.Range.{Range}}, Listing.{ActiveValue, OverviewValue, listed_numbers}}
+use Rattle.nntp_wire.specs.{Listing.{active_groups, overviews_of}, Decided.{matches_name}, Command.{Target, by_id, current, the_id, in_range, the_current}}
+use Rattle.nntp_wire.{specs.{Command.{group, list_group, next, last, retrieve, list_active, over}, Reason.{unless, first}}, proofs.Reasons.{so_unless}}
+use Rattle.nntp_wire.proofs.Reasons.{so_first, so_each}
+use Rattle.nntp_article.specs.{Article.Parts.{Line, is_head, said_id}, Session.{Spool.{Name}, Machine.{Visible, is_same, is_generic, is_greeting, group_names}}}
+use Rattle.nntp_article.specs.Session.{Machine.{overview_numbers, only, may_list, is_article_number, are_zeros, is_in_range, code_fits}, Misfit.{Misfit}}
+use Rattle.nntp_article.specs.Session.Misfit.{wrong_code, wrong_name, wrong_number, wrong_id, below_low, wrong_marks, beyond_limit, not_above, beyond_range}
+use Rattle.nntp_article.specs.Session.Misfit.{unmatched, listed_twice, wrong_lines, no_head, other_id, name_misfit, marks_misfit, step_misfit, order_misfit}
+use Rattle.nntp_article.specs.Session.Misfit.{listed_misfit, selected_misfit, target_misfit, said_misfit, head_misfit, active_misfit, twice_misfit}
+use Rattle.nntp_article.specs.{Session.Misfit.{step_sent_misfit, code_misfit, misfit, allowed_codes, overview_misfit, answered_code}, Inner.Misfit.{marked_by}}
+use Rattle.nntp_article.specs.Inner.Misfit.{numbers_in, is_outside, is_unmatched, AreNeighbours, IsAbove, asked_group, asked_number, asked_id, answered_number}
+use Rattle.nntp_article.specs.Inner.Misfit.{answered_id, sent_by, sent_head, listed_words, IsTwice, are_out_of_order, have_no_room, is_out_of_order}
+use Rattle.nntp_article.specs.{Inner.Misfit.{has_wrong_marks, has_wrong_lines, has_parts, lacks_parts}, declared.session.profile.Profile.{Profile}}
 
 so_if : (Q : Misfit → Type 0) (b : Bool) (o : Option Misfit) → (b ≡ false → IfSome o Q) → IfSome (if b then None else o) Q
 so_if Q b o p = grind arith
@@ -56,16 +59,17 @@ abbrev pub Tells : Profile → Visible → Asked → Response → Misfit → Typ
 Tells profile v asked response (wrong_code code allowed) = (code ≡ answered_code response) × (allowed ≡ allowed_codes v asked)
 Tells profile v asked response (below_low low) = MatchOption (marked_by response) ⊥ (IsAbove v low)
 Tells profile v asked response (beyond_limit n) = is_article_number profile.limit n ≡ false
-Tells profile v asked response (not_above before n) = AreNeighbours (numbers_of response) before n × (n ≤ before)
+Tells profile v asked response (not_above before n) = AreNeighbours (numbers_in response) before n × (n ≤ before)
 Tells profile v asked response (beyond_range n) = is_outside asked n ≡ true
 Tells profile v asked response (unmatched name) = is_unmatched asked name ≡ true
 Tells profile v asked response (wrong_name name) =
     MatchOption (marked_by response) ⊥ (λ marked. marked.0 ≡ name) × MatchOption (asked_group v asked) ⊥ (λ word. is_same name word ≡ false)
 Tells profile v asked response (wrong_number n) =
-    MatchOption (sent_by response) ⊥ (λ sent. sent.number ≡ n) × MatchOption (asked_number asked) (v.selected ≡ None) (λ k. (n == k) ≡ false)
+    (answered_number response ≡ Some n) × MatchOption (asked_number asked) (v.selected ≡ None) (λ k. (n == k) ≡ false)
 Tells profile v asked response (wrong_id id) =
-    MatchOption (sent_by response) ⊥ (λ sent. sent.id ≡ id) × MatchOption (asked_id asked) ⊥ (λ word. is_same id word ≡ false)
-Tells profile v asked response (listed_twice name) = IsTwice (names_of response) name
+    (answered_id response ≡ Some id) × MatchOption (asked_id asked) ⊥ (λ word. is_same id word ≡ false)
+Tells profile v asked response (listed_twice word) = IsTwice (listed_words response) word
+Tells profile v asked response wrong_lines = has_wrong_lines asked response ≡ true
 Tells profile v asked response (other_id said) =
     MatchOption (sent_head asked response) ⊥ (λ head. said_id head ≡ Some said) × MatchOption (sent_by response) ⊥ (λ sent. is_same said sent.id ≡ false)
 Tells profile v asked response (wrong_marks name) = has_wrong_marks response name ≡ true
@@ -158,46 +162,81 @@ so_actives profile v response p (line ∷ lines) listed =
     (so_active profile v response p line (λ e. listed line.name (or_left (is_out_of_order line.name line) (list_any (is_out_of_order line.name) lines) e)))
     (so_actives profile v response p lines (λ name e. listed name (or_right (is_out_of_order name line) (list_any (is_out_of_order name) lines) e)))
 
--- the name stands in the list
-record Occurs (names : List Name) (name : Name) : Type 0 where
-  front : List Name
-  behind : List Name
-  whole : names ≡ front ++ name ∷ behind
+-- the word stands in the list
+record Occurs (words : List (List ℕ)) (word : List ℕ) : Type 0 where
+  front : List (List ℕ)
+  behind : List (List ℕ)
+  whole : words ≡ front ++ word ∷ behind
 
-abbrev listed_names : List ActiveValue → List Name
-listed_names lines = map (λ line. line.name) lines
+-- the reason names a word that stands in the list twice, or in it and before it
+record IsListedTwice (before words : List (List ℕ)) (why : Misfit) : Type 0 where
+  word : List ℕ
+  is : why ≡ listed_twice word
+  ways : ((list_any (is_same word) before ≡ true) × Occurs words word) ⊎ IsTwice words word
 
--- the reason names a group that the lines list twice, or that they and what stands before them list
-record IsListedTwice (names : List Name) (lines : List ActiveValue) (why : Misfit) : Type 0 where
-  name : Name
-  is : why ≡ listed_twice name
-  ways : ((list_any (is_same name) names ≡ true) × Occurs (listed_names lines) name) ⊎ IsTwice (listed_names lines) name
-
-so_twice : (names : List Name) (lines : List ActiveValue) → IfSome (twice_misfit names lines) (IsListedTwice names lines)
-so_twice names [] = tt
-so_twice names (line ∷ lines) = by (list_any (is_same line.name) names) refl (so_twice (line.name ∷ names) lines)
+so_twice : (before words : List (List ℕ)) → IfSome (twice_misfit before words) (IsListedTwice before words)
+so_twice before [] = tt
+so_twice before (first ∷ words) = by (list_any (is_same first) before) refl (so_twice (first ∷ before) words)
   where
-    later : (why : Misfit) → IsListedTwice (line.name ∷ names) lines why → IsListedTwice names (line ∷ lines) why
-    later why t = record { name = t.name; is = t.is; ways = at t.ways }
+    later : (why : Misfit) → IsListedTwice (first ∷ before) words why → IsListedTwice before (first ∷ words) why
+    later why t = record { word = t.word; is = t.is; ways = at t.ways }
       where
-        at : ((list_any (is_same t.name) (line.name ∷ names) ≡ true) × Occurs (listed_names lines) t.name) ⊎ IsTwice (listed_names lines) t.name
-            → ((list_any (is_same t.name) names ≡ true) × Occurs (listed_names (line ∷ lines)) t.name) ⊎ IsTwice (listed_names (line ∷ lines)) t.name
-        at (inr two) = inr (record { front = line.name ∷ two.front; between = two.between; behind = two.behind; whole = ap (λ t. line.name ∷ t) two.whole })
-        at (inl one) = elim (or_cases (is_same t.name line.name) (list_any (is_same t.name) names) one.0) [
-          | inl e ↦ (let same : t.name ≡ line.name = (bytes_decides t.name line.name).0 e in
+        at : ((list_any (is_same t.word) (first ∷ before) ≡ true) × Occurs words t.word) ⊎ IsTwice words t.word
+            → ((list_any (is_same t.word) before ≡ true) × Occurs (first ∷ words) t.word) ⊎ IsTwice (first ∷ words) t.word
+        at (inr two) = inr (record { front = first ∷ two.front; between = two.between; behind = two.behind; whole = ap (λ t. first ∷ t) two.whole })
+        at (inl one) = elim (or_cases (is_same t.word first) (list_any (is_same t.word) before) one.0) [
+          | inl e ↦ (let same : t.word ≡ first = (bytes_decides t.word first).0 e in
               inr (record { front = []; between = one.1.front; behind = one.1.behind; whole = λ i. sym same i ∷ one.1.whole i }))
-          | inr e ↦ inl (e, record { front = line.name ∷ one.1.front; behind = one.1.behind; whole = ap (λ t. line.name ∷ t) one.1.whole })
+          | inr e ↦ inl (e, record { front = first ∷ one.1.front; behind = one.1.behind; whole = ap (λ t. first ∷ t) one.1.whole })
         ]
 
-    by : (b : Bool) → list_any (is_same line.name) names ≡ b → IfSome (twice_misfit (line.name ∷ names) lines) (IsListedTwice (line.name ∷ names) lines)
-        → IfSome (if b then Some (listed_twice line.name) else twice_misfit (line.name ∷ names) lines) (IsListedTwice names (line ∷ lines))
-    by true e t = record { name = line.name; is = refl; ways = inl (e, record { front = []; behind = listed_names lines; whole = refl }) }
-    by false e t = IfSome_then (twice_misfit (line.name ∷ names) lines) t later
+    by : (b : Bool) → list_any (is_same first) before ≡ b → IfSome (twice_misfit (first ∷ before) words) (IsListedTwice (first ∷ before) words)
+        → IfSome (if b then Some (listed_twice first) else twice_misfit (first ∷ before) words) (IsListedTwice before (first ∷ words))
+    by true e t = record { word = first; is = refl; ways = inl (e, record { front = []; behind = words; whole = refl }) }
+    by false e t = IfSome_then (twice_misfit (first ∷ before) words) t later
 
--- where nothing stands before them, the lines list it twice
-all_twice : (profile : Profile) (v : Visible) (asked : Asked) (lines : List (List ℕ)) (why : Misfit) → IsListedTwice [] (active_groups lines) why
-    → Tells profile v asked (active_are lines) why
-all_twice profile v asked lines why t = grind arith
+-- where nothing stands before them, the answer lists it twice
+all_twice : (profile : Profile) (v : Visible) (asked : Asked) (response : Response) (why : Misfit) → IsListedTwice [] (listed_words response) why → Tells profile v asked response why
+all_twice profile v asked response why t = grind arith
+
+so_words : (profile : Profile) (v : Visible) (asked : Asked) (response : Response) → IfSome (twice_misfit [] (listed_words response)) (Tells profile v asked response)
+so_words profile v asked response = IfSome_then (twice_misfit [] (listed_words response)) (so_twice [] (listed_words response)) (all_twice profile v asked response)
+
+-- ---- numbers that are listed
+
+so_ascending : (profile : Profile) (v : Visible) (asked : Asked) (response : Response) → IfSome (order_misfit None (numbers_in response)) (Tells profile v asked response)
+so_ascending profile v asked response =
+    IfSome_then (order_misfit None (numbers_in response)) (so_numbers (numbers_in response)) (λ why f. subst (Tells profile v asked response) (sym f.is) (f.neighbours, f.falls))
+
+so_within : (profile : Profile) (v : Visible) (asked : Asked) (response : Response) (range : Range) → ((n : ℕ) → is_outside asked n ≡ not (is_in_range range n))
+    → (ns : List ℕ) → IfSome (first (map (listed_misfit profile.limit range) ns)) (Tells profile v asked response)
+so_within profile v asked response range outside =
+    so_each Q (listed_misfit profile.limit range)
+    (λ n. so_first Q _ _ (so_unless Q (is_article_number profile.limit n) _ (λ e. e)) (so_first Q _ _ (so_unless Q (is_in_range range n) _ (λ e. outside n ∙ ap not e)) tt))
+  where
+    Q : Misfit → Type 0
+    Q = Tells profile v asked response
+
+-- ---- overviews
+
+-- the only overview, where an id was asked for
+so_named : (profile : Profile) (v : Visible) (keyword : OverviewKeyword) (word : List ℕ) (lines : List (List ℕ)) (why : Misfit) (o : Option OverviewValue) → only (overviews_of lines) ≡ o
+    → IfSome (overview_misfit profile v why (by_id word) o) (Tells profile v (to (over keyword (the_id word))) (overviews_are lines))
+so_named profile v keyword word lines why None e = ap is_none e
+so_named profile v keyword word lines why (Some x) e =
+    so_first Q _ _ (so_unless Q (is_same x.id word) _ (λ f. (ap (option_map (λ o. o.id)) e, f)))
+    (so_first Q _ _ (so_unless Q (x.number == 0 || is_some v.selected) _ (λ f. (ap (option_map (λ o. o.number)) e, none_some v.selected (or_false (x.number == 0) (is_some v.selected) f))))
+    (so_first Q _ _ (so_unless Q (x.number == 0 || is_article_number profile.limit x.number) _ (or_false (x.number == 0) (is_article_number profile.limit x.number))) tt))
+  where
+    Q : Misfit → Type 0
+    Q = Tells profile v (to (over keyword (the_id word))) (overviews_are lines)
+
+-- the only overview, where nothing was named
+so_unnamed : (profile : Profile) (v : Visible) (keyword : OverviewKeyword) (lines : List (List ℕ)) (why : Misfit) (o : Option OverviewValue) → only (overviews_of lines) ≡ o
+    → Tells profile v (to (over keyword the_current)) (overviews_are lines) why
+    → IfSome (overview_misfit profile v why current o) (Tells profile v (to (over keyword the_current)) (overviews_are lines))
+so_unnamed profile v keyword lines why None e t = ap is_none e
+so_unnamed profile v keyword lines why (Some x) e t = so_selected profile v (to (over keyword the_current)) (overviews_are lines) why x.number t
 
 so_name : (profile : Profile) (v : Visible) (asked : Asked) (response : Response) (why : Misfit) (o : Option Name) (name : Name) (m : WaterMarks)
     → marked_by response ≡ Some (name, m) → asked_group v asked ≡ o → Tells profile v asked response why
@@ -222,10 +261,8 @@ tells profile v (to (group word)) (group_is m name) =
 tells profile v (to (list_group word range)) (numbers_are m name lines) =
     so_first Q _ _ (so_name profile v asked response (code_misfit v asked 211) (option_or word v.selected) name m refl refl (refl, refl))
     (so_first Q _ _ (so_marks profile v asked response name m refl refl)
-    (so_first Q _ _ (IfSome_then (order_misfit None (listed_numbers lines)) (so_numbers (listed_numbers lines)) (λ why f. subst Q (sym f.is) (f.neighbours, f.falls)))
-    (so_first Q _ _ (so_each Q (listed_misfit profile.limit range)
-    (λ n. so_first Q _ _ (so_unless Q (is_article_number profile.limit n) _ (λ e. e)) (so_first Q _ _ (so_unless Q (is_in_range range n) _ (λ e. ap not e)) tt))
-    (listed_numbers lines)) tt)))
+    (so_first Q _ _ (so_ascending profile v asked response)
+    (so_first Q _ _ (so_within profile v asked response range (λ n. refl) (listed_numbers lines)) tt)))
   where
     asked : Asked
     asked = to (list_group word range)
@@ -248,10 +285,9 @@ tells profile v (to (retrieve what which)) (sends sent) =
     Q : Misfit → Type 0
     Q = Tells profile v asked (sends sent)
 tells profile v (to (list_active p)) (active_are lines) =
-    so_first Q (first (map (active_misfit profile p) (active_groups lines))) (twice_misfit [] (active_groups lines) ∷ [])
+    so_first Q (first (map (active_misfit profile p) (active_groups lines))) (twice_misfit [] (group_names (active_groups lines)) ∷ [])
     (so_actives profile v (active_are lines) p (active_groups lines) (λ name e. e))
-    (so_first Q (twice_misfit [] (active_groups lines)) []
-    (IfSome_then (twice_misfit [] (active_groups lines)) (so_twice [] (active_groups lines)) (all_twice profile v (to (list_active p)) lines)) tt)
+    (so_first Q (twice_misfit [] (group_names (active_groups lines))) [] (so_words profile v (to (list_active p)) (active_are lines)) tt)
   where
     Q : Misfit → Type 0
     Q = Tells profile v (to (list_active p)) (active_are lines)
@@ -259,7 +295,26 @@ tells profile v asked (group_is m name) = (refl, refl)
 tells profile v asked (numbers_are m name lines) = (refl, refl)
 tells profile v asked (sends sent) = (refl, refl)
 tells profile v asked (active_are lines) = (refl, refl)
-tells profile v (to (over keyword which)) (overviews_are lines) = tt
+tells profile v (to (over keyword (in_range range))) (overviews_are lines) =
+    so_first Q _ _ (so_unless Q (is_some v.selected) _ (λ e. (refl, refl)))
+    (so_first Q _ _ (so_unless Q (may_list keyword (overviews_of lines)) _ (λ e. ap not e))
+    (so_first Q _ _ (so_ascending profile v asked (overviews_are lines))
+    (so_first Q _ _ (so_within profile v asked (overviews_are lines) range (λ n. refl) (overview_numbers (overviews_of lines)))
+    (so_first Q _ _ (so_words profile v asked (overviews_are lines)) tt))))
+  where
+    asked : Asked
+    asked = to (over keyword (in_range range))
+
+    Q : Misfit → Type 0
+    Q = Tells profile v asked (overviews_are lines)
+tells profile v (to (over keyword (the_id word))) (overviews_are lines) =
+    so_named profile v keyword word lines (code_misfit v (to (over keyword (the_id word))) 224) (only (overviews_of lines)) refl
+tells profile v (to (over keyword the_current)) (overviews_are lines) =
+    so_first Q _ _ (so_unless Q (is_some v.selected) _ (λ e. (refl, refl)))
+    (so_first Q _ _ (so_unnamed profile v keyword lines (code_misfit v (to (over keyword the_current)) 224) (only (overviews_of lines)) refl (refl, refl)) tt)
+  where
+    Q : Misfit → Type 0
+    Q = Tells profile v (to (over keyword the_current)) (overviews_are lines)
 tells profile v asked (overviews_are lines) = (refl, refl)
 
 pub so : (profile : Profile) (v : Visible) (asked : Asked) (response : Response) (why : Misfit) → misfit profile v asked response ≡ Some why → Tells profile v asked response why

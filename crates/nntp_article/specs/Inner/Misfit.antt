@@ -1,12 +1,13 @@
 -- What is said with the words of `Misfit.antt`, and needn't be believed.
-use Rattle.std.specs.Prelude.{ℕ, ◌≡◌, ◌<◌, ◌+◌, ◌-◌, ◌++◌, Bool, true, false, not, ◌&&◌, ◌||◌, ◌==◌, nat_le, List, [], ◌∷◌, map, Option, None, Some, option_map}
-use Rattle.std.specs.{List.{list_any}, Option.{option_or}, FinMap.{get}}
-use Rattle.nntp_wire.specs.{Command.{by_id, by_number, next, last, group, list_group, retrieve, list_active, over}, Answer.{Asked, to, Success, Response}}
-use Rattle.nntp_wire.specs.{Answer.{group_is, numbers_are, sends, active_are, success_code}, declared.water_marks.WaterMarks.{WaterMarks}}
-use Rattle.nntp_wire.specs.{declared.command.What.{What, TheVariants.{Article, Head, Body, Stat}}, Listing.{ActiveValue, listed_numbers, active_groups}}
-use Rattle.nntp_wire.specs.Decided.{matches_name}
+use Rattle.std.specs.Prelude.{ℕ, ◌≡◌, ◌<◌, ◌+◌, ◌-◌, ◌++◌, Bool, true, false, not, ◌&&◌, ◌||◌, ◌==◌, nat_le, List, [], ◌∷◌, Option, None, Some, option_map}
+use Rattle.std.specs.{Prelude.{is_none}, List.{list_any}, Option.{option_or}, FinMap.{get}}
+use Rattle.nntp_wire.specs.Command.{by_id, by_number, next, last, group, list_group, retrieve, list_active, over, Overviewed, the_id, in_range}
+use Rattle.nntp_wire.specs.Answer.{Asked, to, Success, Response, group_is, numbers_are, sends, active_are, overviews_are, success_code}
+use Rattle.nntp_wire.specs.declared.{water_marks.WaterMarks.{WaterMarks}, command.What.{What, TheVariants.{Article, Head, Body, Stat}}}
+use Rattle.nntp_wire.specs.{declared.command.OverviewKeyword.{OverviewKeyword}, Listing.{ActiveValue, OverviewValue, listed_numbers, active_groups}}
+use Rattle.nntp_wire.specs.{Listing.{overviews_of}, Decided.{matches_name}}
 use Rattle.nntp_article.specs.{Article.Parts.{Line, Id, is_empty, is_head, head_part}, Session.{Spool.{Name}, Machine.{Visible, is_same, are_zeros}}}
-use Rattle.nntp_article.specs.Session.Machine.{is_in_range}
+use Rattle.nntp_article.specs.Session.Machine.{is_in_range, group_names, overview_numbers, overview_ids, only, may_list}
 
 -- ---- codes (section 3.2)
 
@@ -40,15 +41,28 @@ abbrev pub asked_number : Asked → Option ℕ
 asked_number (to (retrieve what (by_number number))) = number
 asked_number asked = None
 
--- the id that was asked for (section 6.2)
+-- the id that was asked for (sections 6.2 and 8.3)
 abbrev pub asked_id : Asked → Option Id
 asked_id (to (retrieve what (by_id word))) = Some word
+asked_id (to (over keyword (the_id word))) = Some word
 asked_id asked = None
 
 -- the article that is answered (section 6.2)
 abbrev pub sent_by : Response → Option Success
 sent_by (sends sent) = Some sent
 sent_by response = None
+
+-- the number of the article that is answered, or of the only overview (sections 6.2 and 8.3)
+abbrev pub answered_number : Response → Option ℕ
+answered_number (sends sent) = Some sent.number
+answered_number (overviews_are lines) = option_map (λ o. o.number) (only (overviews_of lines))
+answered_number response = None
+
+-- its id
+abbrev pub answered_id : Response → Option Id
+answered_id (sends sent) = Some sent.id
+answered_id (overviews_are lines) = option_map (λ o. o.id) (only (overviews_of lines))
+answered_id response = None
 
 -- the head in what is sent (section 6.2)
 abbrev pub sent_head : Asked → Response → Option (List Line)
@@ -61,18 +75,31 @@ abbrev pub groups_of : Response → List ActiveValue
 groups_of (active_are lines) = active_groups lines
 groups_of response = []
 
--- the names of these
-abbrev pub names_of : Response → List Name
-names_of response = map (λ line. line.name) (groups_of response)
-
 -- the numbers that the answer lists (section 6.1.2)
 abbrev pub numbers_of : Response → List ℕ
 numbers_of (numbers_are m name lines) = listed_numbers lines
 numbers_of response = []
 
--- the number is outside the range that was asked for, if one was (section 6.1.2)
+-- the overviews that the answer lists (section 8.3)
+abbrev pub overviews_in : Response → List OverviewValue
+overviews_in (overviews_are lines) = overviews_of lines
+overviews_in response = []
+
+-- the numbers that the answer lists, by themselves or with overviews (sections 6.1.2 and 8.3)
+abbrev pub numbers_in : Response → List ℕ
+numbers_in (overviews_are lines) = overview_numbers (overviews_of lines)
+numbers_in response = numbers_of response
+
+-- the names of the groups, or the ids, that the answer lists (sections 7.6.3 and 8.3)
+abbrev pub listed_words : Response → List (List ℕ)
+listed_words (active_are lines) = group_names (active_groups lines)
+listed_words (overviews_are lines) = overview_ids (overviews_of lines)
+listed_words response = []
+
+-- the number is outside the range that was asked for, if one was (sections 6.1.2 and 8.3)
 abbrev pub is_outside : Asked → ℕ → Bool
 is_outside (to (list_group word range)) n = not (is_in_range range n)
+is_outside (to (over keyword (in_range range))) n = not (is_in_range range n)
 is_outside asked n = false
 
 -- the wildmat doesn't match the name, if one was given (section 7.6.3)
@@ -112,6 +139,16 @@ abbrev pub lacks_parts : Asked → Response → Bool
 lacks_parts (to (retrieve what which)) (sends sent) = not (has_parts what sent.block)
 lacks_parts asked response = false
 
+-- these are none of a range that OVER lists, or not just one where one is due (section 8.3)
+abbrev pub are_wrong_lines : OverviewKeyword → Overviewed → List OverviewValue → Bool
+are_wrong_lines keyword (in_range range) overviews = not (may_list keyword overviews)
+are_wrong_lines keyword which overviews = is_none (only overviews)
+
+-- the answer lists so many
+abbrev pub has_wrong_lines : Asked → Response → Bool
+has_wrong_lines (to (over keyword which)) (overviews_are lines) = are_wrong_lines keyword which (overviews_of lines)
+has_wrong_lines asked response = false
+
 -- the two numbers stand in the list, one after the other
 pub record AreNeighbours (numbers : List ℕ) (before next : ℕ) : Type 0 where
   pub front : List ℕ
@@ -122,9 +159,9 @@ pub record AreNeighbours (numbers : List ℕ) (before next : ℕ) : Type 0 where
 abbrev pub IsAbove : Visible → ℕ → Name × WaterMarks → Type 0
 IsAbove v low marked = (get v.lows marked.0 ≡ Some low) × (marked.1.low < low)
 
--- the name stands in the list twice
-pub record IsTwice (names : List Name) (name : Name) : Type 0 where
-  pub front : List Name
-  pub between : List Name
-  pub behind : List Name
-  pub whole : names ≡ front ++ name ∷ (between ++ name ∷ behind)
+-- the word stands in the list twice
+pub record IsTwice (words : List (List ℕ)) (word : List ℕ) : Type 0 where
+  pub front : List (List ℕ)
+  pub between : List (List ℕ)
+  pub behind : List (List ℕ)
+  pub whole : words ≡ front ++ word ∷ (between ++ word ∷ behind)

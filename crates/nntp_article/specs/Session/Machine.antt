@@ -3,11 +3,12 @@ use Rattle.std.specs.Prelude.{◌≡◌, ℕ, ◌+◌, ◌-◌, ◌≤◌, ◌�
 use Rattle.std.specs.{Prelude.{[], ◌∷◌, Option, None, Some, is_some, is_none, MatchOption, IfSome, unwrap_or, Contains, All, map, ⊤}, List.{list_any, list_all}}
 use Rattle.std.specs.{Option.{option_map_or, option_or}, Cmp.Lexicographic.{slice_cmp, pointwise}, Ordering.{nat_cmp}, FinMap.{FinMap, get, insert, len, empty}}
 use Rattle.nntp_wire.specs.Command.{Target, by_id, by_number, current, Request, capabilities, mode_reader, next, last, quit, opaque, ill_formed, group}
-use Rattle.nntp_wire.specs.{Command.{list_group, retrieve, list_active, over}, Answer.{Asked, greeting, to, Success, Response, group_is, numbers_are, sends}}
-use Rattle.nntp_wire.specs.{Answer.{active_are, overviews_are, plain, success_code}, declared.{water_marks.WaterMarks.{WaterMarks}, marks.Marks.{Marks}}}
-use Rattle.nntp_wire.specs.declared.{marks.Marks.TheVariants.{Lenient, Strict}, range.Range.{Range}, command.What.{What, TheVariants.{Article, Head, Body}}}
-use Rattle.nntp_wire.specs.{declared.command.What.TheVariants.{Stat}, Listing.{ActiveValue, listed_numbers, active_groups}, Session.{closes}}
-use Rattle.nntp_wire.specs.{Wildmat.{MatchesName}, Decided.{matches_name}}
+use Rattle.nntp_wire.specs.{Command.{Overviewed, the_id, in_range, the_current, list_group, retrieve, list_active, over}, Answer.{Asked, greeting, to, Success}}
+use Rattle.nntp_wire.specs.Answer.{Response, group_is, numbers_are, sends, active_are, overviews_are, plain, success_code}
+use Rattle.nntp_wire.specs.declared.{water_marks.WaterMarks.{WaterMarks}, marks.Marks.{Marks, TheVariants.{Lenient, Strict}}, range.Range.{Range}}
+use Rattle.nntp_wire.specs.declared.command.{What.{What, TheVariants.{Article, Head, Body, Stat}}, OverviewKeyword.{OverviewKeyword, TheVariants.{Over, Xover}}}
+use Rattle.nntp_wire.specs.{Session.{closes}, Listing.{ActiveValue, OverviewValue, listed_numbers, active_groups, overviews_of}, Wildmat.{MatchesName}}
+use Rattle.nntp_wire.specs.Decided.{matches_name}
 use Rattle.nntp_article.specs.{Article.Parts.{Line, Id, is_empty, is_head, said_id, head_part}, Session.Spool.{Name, Spool, Numbers, IsGroup, IsNumber}}
 use Rattle.nntp_article.specs.Session.Spool.{numbers, least, IsNextAbove, IsNextBelow, NoneAbove, NoneBelow, Lists, HasText}
 use Rattle.nntp_article.specs.declared.session.profile.Profile.{Profile}
@@ -45,7 +46,7 @@ is_generic code = is_one_of (400 ∷ 401 ∷ 403 ∷ 480 ∷ 483 ∷ 500 ∷ 501
 abbrev pub is_greeting : ℕ → Bool
 is_greeting code = is_one_of (200 ∷ 201 ∷ 400 ∷ 502 ∷ []) code
 
--- the codes by which a command that isn't understood may be answered, or one for overviews, of which nothing is concluded
+-- the codes by which a command that isn't understood may be answered
 abbrev pub is_opaque : ℕ → Bool
 is_opaque code = code == 381 || nat_lt code 300 || nat_le 400 code
 
@@ -91,10 +92,18 @@ active_fits profile p line =
     ((line.low == 0 && line.high == 0) || (nat_le 1 line.low && nat_le line.low (line.high + 1) && nat_le line.high profile.limit))
     && option_map_or (λ w. matches_name w line.name) p true
 
+-- no two of them are the same octets
+abbrev pub all_differ : List (List ℕ) → Bool
+all_differ [] = true
+all_differ (word ∷ words) = list_all (λ other. not (is_same word other)) words && all_differ words
+
+-- the names of listed groups
+abbrev pub group_names : List ActiveValue → List Name
+group_names lines = map (λ line. line.name) lines
+
 -- no group is listed twice
 abbrev pub names_differ : List ActiveValue → Bool
-names_differ [] = true
-names_differ (line ∷ lines) = list_all (λ other. not (is_same line.name other.name)) lines && names_differ lines
+names_differ lines = all_differ (group_names lines)
 
 -- the number and the id of a success, by what was asked
 abbrev pub number_fits : Profile → Visible → Target → ℕ → Id → Bool
@@ -102,6 +111,37 @@ number_fits profile v (by_id word) number id = is_same id word && (number == 0 |
 number_fits profile v (by_number None) number id = false
 number_fits profile v (by_number (Some n)) number id = is_some v.selected && number == n && is_article_number profile.limit n
 number_fits profile v current number id = is_some v.selected && is_article_number profile.limit number
+
+-- the numbers of overviews
+abbrev pub overview_numbers : List OverviewValue → List ℕ
+overview_numbers overviews = map (λ o. o.number) overviews
+
+-- their ids
+abbrev pub overview_ids : List OverviewValue → List Id
+overview_ids overviews = map (λ o. o.id) overviews
+
+-- the one of a list that has no other
+abbrev pub only : {A : Type 0} → List A → Option A
+only (x ∷ []) = Some x
+only xs = None
+
+-- of a range OVER lists one overview at least, XOVER perhaps none (section 8.3; RFC 2980, section 2.8)
+abbrev pub may_list : OverviewKeyword → List OverviewValue → Bool
+may_list Over [] = false
+may_list keyword overviews = true
+
+-- the lines of OVER or XOVER, by what was asked
+abbrev pub overviews_fit : Profile → Visible → OverviewKeyword → Overviewed → List OverviewValue → Bool
+overviews_fit profile v keyword (in_range range) overviews =
+    is_some v.selected && may_list keyword overviews && is_ascending (overview_numbers overviews)
+    && list_all (λ n. is_article_number profile.limit n && is_in_range range n) (overview_numbers overviews) && all_differ (overview_ids overviews)
+overviews_fit profile v keyword (the_id word) overviews = option_map_or (λ o. number_fits profile v (by_id word) o.number o.id) (only overviews) false
+overviews_fit profile v keyword the_current overviews = option_map_or (λ o. number_fits profile v current o.number o.id) (only overviews) false
+
+-- the codes that tell that a range has no article: to XOVER 420 is one too (RFC 2980, section 2.8)
+abbrev pub none_in_range : OverviewKeyword → List ℕ
+none_in_range Over = 423 ∷ []
+none_in_range Xover = 420 ∷ 423 ∷ []
 
 -- an answer of a code alone, other than a generic failure
 abbrev pub code_fits : Visible → Request → ℕ → Bool
@@ -117,7 +157,9 @@ code_fits v (retrieve what (by_id word)) code = code == 430
 code_fits v (retrieve what (by_number n)) code = (code == 412 && is_none v.selected) || (code == 423 && is_some v.selected)
 code_fits v (retrieve what current) code = (code == 412 && is_none v.selected) || (code == 420 && is_some v.selected)
 code_fits v (list_active p) code = false
-code_fits v (over keyword which) code = is_opaque code
+code_fits v (over keyword (the_id word)) code = code == 430
+code_fits v (over keyword (in_range range)) code = (code == 412 && is_none v.selected) || (is_one_of (none_in_range keyword) code && is_some v.selected)
+code_fits v (over keyword the_current) code = (code == 412 && is_none v.selected) || (code == 420 && is_some v.selected)
 code_fits v opaque code = is_opaque code
 code_fits v ill_formed code = false
 
@@ -134,7 +176,7 @@ fits profile v (to last) (sends sent) = sent.code == 223 && is_some v.selected &
 fits profile v (to (retrieve what which)) (sends sent) =
     sent.code == success_code what && number_fits profile v which sent.number sent.id && head_fits what sent.id sent.block
 fits profile v (to (list_active p)) (active_are lines) = list_all (active_fits profile p) (active_groups lines) && names_differ (active_groups lines)
-fits profile v (to (over keyword which)) (overviews_are lines) = true
+fits profile v (to (over keyword which)) (overviews_are lines) = overviews_fit profile v keyword which (overviews_of lines)
 fits profile v asked response = false
 
 -- ---- the condition over the spool

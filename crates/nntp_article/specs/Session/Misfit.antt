@@ -2,26 +2,29 @@
 use Rattle.std.specs.Prelude.{ℕ, ◌+◌, ◌-◌, Bool, true, false, ◌&&◌, ◌||◌, ◌==◌, nat_lt, nat_le, if◌then◌else◌, List, [], ◌∷◌, map, Option, None, Some, is_some}
 use Rattle.std.specs.{Prelude.{unwrap_or}, List.{list_any}, Option.{option_map_or, option_or}, FinMap.{get}}
 use Rattle.nntp_wire.specs.Command.{Target, by_id, by_number, current, Request, capabilities, mode_reader, next, last, quit, opaque, ill_formed, group}
-use Rattle.nntp_wire.specs.{Command.{list_group, retrieve, list_active, over}, Answer.{Asked, greeting, to, Success, Response, group_is, numbers_are, sends}}
-use Rattle.nntp_wire.specs.{Answer.{active_are, overviews_are, plain, success_code}, declared.{water_marks.WaterMarks.{WaterMarks}, range.Range.{Range}}}
-use Rattle.nntp_wire.specs.{declared.command.What.{What, TheVariants.{Article, Head, Body, Stat}}, Listing.{ActiveValue, listed_numbers, active_groups}}
-use Rattle.nntp_wire.specs.{Decided.{matches_name}, Reason.{unless, first}}
+use Rattle.nntp_wire.specs.{Command.{Overviewed, the_id, in_range, the_current, list_group, retrieve, list_active, over}, Answer.{Asked, greeting, to, Success}}
+use Rattle.nntp_wire.specs.Answer.{Response, group_is, numbers_are, sends, active_are, overviews_are, plain, success_code}
+use Rattle.nntp_wire.specs.declared.{water_marks.WaterMarks.{WaterMarks}, range.Range.{Range}, command.What.{What, TheVariants.{Article, Head, Body, Stat}}}
+use Rattle.nntp_wire.specs.{declared.command.OverviewKeyword.{OverviewKeyword}, Listing.{ActiveValue, OverviewValue, listed_numbers, active_groups}}
+use Rattle.nntp_wire.specs.{Listing.{overviews_of}, Decided.{matches_name}, Reason.{unless, first}}
 use Rattle.nntp_article.specs.{Article.Parts.{Line, Id, is_empty, is_head, said_id, head_part}, Session.{Spool.{Name}, Machine.{Visible, is_same, is_generic}}}
-use Rattle.nntp_article.specs.{Session.Machine.{is_greeting, is_article_number, are_zeros, is_in_range, code_fits}, declared.session.profile.Profile.{Profile}}
+use Rattle.nntp_article.specs.Session.Machine.{is_greeting, is_article_number, are_zeros, is_in_range, code_fits, group_names, overview_numbers, overview_ids}
+use Rattle.nntp_article.specs.{Session.Machine.{only, may_list, none_in_range}, declared.session.profile.Profile.{Profile}}
 
 -- why an answer doesn't fit
 pub data Misfit : Type 0 where
   wrong_code : (code : ℕ) → (allowed : List ℕ) → Misfit  -- the code of the answer, and the codes that fit here, generic failures aside (section 3.2)
   wrong_name : (name : Name) → Misfit  -- the name in the answer, which isn't that of the group that was asked for (section 6.1)
-  wrong_number : (number : ℕ) → Misfit  -- the number in the answer, which isn't the one that was asked for, or with which no group is selected (section 6.2.1)
-  wrong_id : (id : Id) → Misfit  -- the id in the answer, which isn't the one that was asked for (section 6.2.1)
+  wrong_number : (number : ℕ) → Misfit  -- the number in the answer, which isn't the one that was asked for, or with which no group is selected (sections 6.2.1 and 8.3)
+  wrong_id : (id : Id) → Misfit  -- the id in the answer, which isn't the one that was asked for (sections 6.2.1 and 8.3)
   below_low : (low : ℕ) → Misfit  -- an earlier low mark of the group, which is greater than the one in the answer (section 6.1.1.2)
   wrong_marks : (name : Name) → Misfit  -- the group whose marks begin below 1, are in no order, or leave no room for the estimate (sections 6.1.1.2 and 7.6.3)
   beyond_limit : (number : ℕ) → Misfit  -- a number that is 0, or greater than the greatest article number (section 6)
-  not_above : (before number : ℕ) → Misfit  -- a listed number, and the next, which isn't greater (section 6.1.2)
-  beyond_range : (number : ℕ) → Misfit  -- a listed number outside the range that was asked for (section 6.1.2)
+  not_above : (before number : ℕ) → Misfit  -- a listed number, and the next, which isn't greater (sections 6.1.2 and 8.3)
+  beyond_range : (number : ℕ) → Misfit  -- a listed number outside the range that was asked for (sections 6.1.2 and 8.3)
   unmatched : (name : Name) → Misfit  -- a listed group whose name the wildmat doesn't match (section 7.6.3)
-  listed_twice : (name : Name) → Misfit  -- a group that an earlier line lists too (section 7.6.3)
+  listed_twice : (word : List ℕ) → Misfit  -- a group, or an id, that an earlier line lists too (sections 7.6.3 and 8.3)
+  wrong_lines : Misfit  -- a wrong number of lines: none of a range that OVER lists, or not just one of an id or of the current article (section 8.3)
   no_head : Misfit  -- what is sent hasn't the parts that were asked for: no head stands where one is due (section 3.6)
   other_id : (said : Id) → Misfit  -- the id that the head says, which isn't the one in the answer (section 6.2.1)
 
@@ -39,7 +42,13 @@ retrieve_codes is_selected what (by_number None) = codes_if_selected is_selected
 retrieve_codes is_selected what (by_number (Some n)) = codes_if_selected is_selected (success_code what ∷ 423 ∷ [])
 retrieve_codes is_selected what current = codes_if_selected is_selected (success_code what ∷ 420 ∷ [])
 
--- the codes that fit a command, successes and others: of a command that isn't understood, or for overviews, only that of 300 to 399, where all others fit
+-- the codes that fit OVER and XOVER (section 8.3; RFC 2980, section 2.8)
+abbrev pub over_codes : Bool → OverviewKeyword → Overviewed → List ℕ
+over_codes is_selected keyword (the_id word) = 224 ∷ 430 ∷ []
+over_codes is_selected keyword (in_range range) = codes_if_selected is_selected (224 ∷ none_in_range keyword)
+over_codes is_selected keyword the_current = codes_if_selected is_selected (224 ∷ 420 ∷ [])
+
+-- the codes that fit a command, successes and others: of a command that isn't understood only that of 300 to 399, where all others fit
 abbrev pub command_codes : Bool → Request → List ℕ
 command_codes is_selected capabilities = 101 ∷ []
 command_codes is_selected mode_reader = 200 ∷ 201 ∷ []
@@ -51,7 +60,7 @@ command_codes is_selected next = codes_if_selected is_selected (223 ∷ 420 ∷ 
 command_codes is_selected last = codes_if_selected is_selected (223 ∷ 420 ∷ 422 ∷ [])
 command_codes is_selected (retrieve what which) = retrieve_codes is_selected what which
 command_codes is_selected (list_active p) = 215 ∷ []
-command_codes is_selected (over keyword which) = 381 ∷ []
+command_codes is_selected (over keyword which) = over_codes is_selected keyword which
 command_codes is_selected opaque = 381 ∷ []
 command_codes is_selected ill_formed = []
 
@@ -151,6 +160,13 @@ sent_misfit profile v code_why what which sent = first (
     ∷ head_misfit what sent.id sent.block
     ∷ [])
 
+-- ---- words that are listed twice (sections 7.6.3 and 8.3)
+
+-- the first that stands before it too, where these words stand before all
+abbrev pub twice_misfit : List (List ℕ) → List (List ℕ) → Option Misfit
+twice_misfit before [] = None
+twice_misfit before (word ∷ words) = if list_any (is_same word) before then Some (listed_twice word) else twice_misfit (word ∷ before) words
+
 -- ---- lists of groups (section 7.6.3)
 
 -- marks of a listed group
@@ -165,11 +181,25 @@ abbrev pub active_misfit : Profile → Option (List ℕ) → ActiveValue → Opt
 active_misfit profile p line =
     first (active_marks_misfit profile line ∷ unless (option_map_or (λ w. matches_name w line.name) p true) (unmatched line.name) ∷ [])
 
--- the first group that a line before it lists too, where these names stand before all
-abbrev pub twice_misfit : List Name → List ActiveValue → Option Misfit
-twice_misfit names [] = None
-twice_misfit names (line ∷ lines) =
-    if list_any (is_same line.name) names then Some (listed_twice line.name) else twice_misfit (line.name ∷ names) lines
+-- ---- overviews (section 8.3)
+
+-- the overview of one article
+abbrev pub overview_misfit : Profile → Visible → Misfit → Target → Option OverviewValue → Option Misfit
+overview_misfit profile v code_why which None = Some wrong_lines
+overview_misfit profile v code_why which (Some o) = target_misfit profile v code_why which o.number o.id
+
+-- the lines of OVER or XOVER, by what was asked, where the code is at fault if a group has to be selected and none is
+abbrev pub overviews_misfit : Profile → Visible → Misfit → OverviewKeyword → Overviewed → List OverviewValue → Option Misfit
+overviews_misfit profile v code_why keyword (in_range range) overviews = first (
+    unless (is_some v.selected) code_why
+    ∷ unless (may_list keyword overviews) wrong_lines
+    ∷ order_misfit None (overview_numbers overviews)
+    ∷ first (map (listed_misfit profile.limit range) (overview_numbers overviews))
+    ∷ twice_misfit [] (overview_ids overviews)
+    ∷ [])
+overviews_misfit profile v code_why keyword (the_id word) overviews = overview_misfit profile v code_why (by_id word) (only overviews)
+overviews_misfit profile v code_why keyword the_current overviews =
+    first (unless (is_some v.selected) code_why ∷ overview_misfit profile v code_why current (only overviews) ∷ [])
 
 -- ---- answers
 
@@ -188,6 +218,7 @@ misfit profile v (to next) (sends sent) = step_sent_misfit profile v (code_misfi
 misfit profile v (to last) (sends sent) = step_sent_misfit profile v (code_misfit v (to last) sent.code) sent
 misfit profile v (to (retrieve what which)) (sends sent) = sent_misfit profile v (code_misfit v (to (retrieve what which)) sent.code) what which sent
 misfit profile v (to (list_active p)) (active_are lines) =
-    first (first (map (active_misfit profile p) (active_groups lines)) ∷ twice_misfit [] (active_groups lines) ∷ [])
-misfit profile v (to (over keyword which)) (overviews_are lines) = None
+    first (first (map (active_misfit profile p) (active_groups lines)) ∷ twice_misfit [] (group_names (active_groups lines)) ∷ [])
+misfit profile v (to (over keyword which)) (overviews_are lines) =
+    overviews_misfit profile v (code_misfit v (to (over keyword which)) 224) keyword which (overviews_of lines)
 misfit profile v asked response = Some (code_misfit v asked (answered_code response))

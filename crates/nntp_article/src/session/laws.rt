@@ -6,11 +6,11 @@ ghost use Rattle.nntp_article.specs.declared.session.profile.Profile.{Profile};
 ghost use Rattle.nntp_article.specs.Session.Machine.{Visible, State, is_one_of, is_same, is_article_number, fits, Permits};
 ghost use Rattle.nntp_article.specs.Article.Parts.{Id, said_id};
 ghost use Rattle.nntp_article.specs.Session.Misfit.{misfit, wrong_code, wrong_name, wrong_number, wrong_id, below_low, wrong_marks, beyond_limit, not_above};
-ghost use Rattle.nntp_article.specs.Session.Misfit.{beyond_range, unmatched, listed_twice, no_head, other_id};
-ghost use Rattle.nntp_article.specs.Inner.Misfit.{has_wrong_marks, lacks_parts};
-ghost use Rattle.nntp_article.specs.Inner.Misfit.{asked_group, asked_number, asked_id, sent_by, sent_head, names_of, IsTwice};
+ghost use Rattle.nntp_article.specs.Session.Misfit.{beyond_range, unmatched, listed_twice, wrong_lines, no_head, other_id};
+ghost use Rattle.nntp_article.specs.Inner.Misfit.{has_wrong_marks, has_wrong_lines, lacks_parts};
+ghost use Rattle.nntp_article.specs.Inner.Misfit.{asked_group, asked_number, asked_id, answered_number, answered_id, sent_by, sent_head, listed_words, IsTwice};
 ghost use Rattle.nntp_article.specs.Session.Misfit.{allowed_codes, answered_code};
-ghost use Rattle.nntp_article.specs.Inner.Misfit.{is_success, marked_by, numbers_of, is_outside, is_unmatched, AreNeighbours, IsAbove};
+ghost use Rattle.nntp_article.specs.Inner.Misfit.{is_success, marked_by, numbers_in, is_outside, is_unmatched, AreNeighbours, IsAbove};
 ghost use Rattle.nntp_wire.specs.Answer.{Asked, Response, plain};
 
 /// An answer that some spool permits meets the visible condition, and the visible state after it is
@@ -56,10 +56,10 @@ pub fn reasons_are_so()
         → MatchOption (marked_by response) ⊥ (λ marked. marked.0 ≡ name) × MatchOption (asked_group v asked) ⊥ (λ word. IsFalse (is_same name word)) }
     ensures number { (profile : Profile) (v : Visible) (asked : Asked) (response : Response) (number : ℕ)
         → misfit profile v asked response ≡ Some (wrong_number number)
-        → MatchOption (sent_by response) ⊥ (λ sent. sent.number ≡ number) × MatchOption (asked_number asked) (v.selected ≡ None) (λ n. IsFalse (number == n)) }
+        → (answered_number response ≡ Some number) × MatchOption (asked_number asked) (v.selected ≡ None) (λ n. IsFalse (number == n)) }
     ensures id { (profile : Profile) (v : Visible) (asked : Asked) (response : Response) (id : Id)
         → misfit profile v asked response ≡ Some (wrong_id id)
-        → MatchOption (sent_by response) ⊥ (λ sent. sent.id ≡ id) × MatchOption (asked_id asked) ⊥ (λ word. IsFalse (is_same id word)) }
+        → (answered_id response ≡ Some id) × MatchOption (asked_id asked) ⊥ (λ word. IsFalse (is_same id word)) }
     ensures low { (profile : Profile) (v : Visible) (asked : Asked) (response : Response) (low : ℕ)
         → misfit profile v asked response ≡ Some (below_low low) → MatchOption (marked_by response) ⊥ (IsAbove v low) }
     ensures marks { (profile : Profile) (v : Visible) (asked : Asked) (response : Response) (name : Name)
@@ -67,13 +67,15 @@ pub fn reasons_are_so()
     ensures limit { (profile : Profile) (v : Visible) (asked : Asked) (response : Response) (number : ℕ)
         → misfit profile v asked response ≡ Some (beyond_limit number) → IsFalse (is_article_number profile.limit number) }
     ensures order { (profile : Profile) (v : Visible) (asked : Asked) (response : Response) (before number : ℕ)
-        → misfit profile v asked response ≡ Some (not_above before number) → AreNeighbours (numbers_of response) before number × (number ≤ before) }
+        → misfit profile v asked response ≡ Some (not_above before number) → AreNeighbours (numbers_in response) before number × (number ≤ before) }
     ensures range { (profile : Profile) (v : Visible) (asked : Asked) (response : Response) (number : ℕ)
         → misfit profile v asked response ≡ Some (beyond_range number) → IsTrue (is_outside asked number) }
     ensures matched { (profile : Profile) (v : Visible) (asked : Asked) (response : Response) (name : Name)
         → misfit profile v asked response ≡ Some (unmatched name) → IsTrue (is_unmatched asked name) }
-    ensures twice { (profile : Profile) (v : Visible) (asked : Asked) (response : Response) (name : Name)
-        → misfit profile v asked response ≡ Some (listed_twice name) → IsTwice (names_of response) name }
+    ensures twice { (profile : Profile) (v : Visible) (asked : Asked) (response : Response) (word : List ℕ)
+        → misfit profile v asked response ≡ Some (listed_twice word) → IsTwice (listed_words response) word }
+    ensures lines { (profile : Profile) (v : Visible) (asked : Asked) (response : Response)
+        → misfit profile v asked response ≡ Some wrong_lines → IsTrue (has_wrong_lines asked response) }
     ensures head { (profile : Profile) (v : Visible) (asked : Asked) (response : Response)
         → misfit profile v asked response ≡ Some no_head → IsTrue (lacks_parts asked response) }
     ensures own { (profile : Profile) (v : Visible) (asked : Asked) (response : Response) (said : Id)

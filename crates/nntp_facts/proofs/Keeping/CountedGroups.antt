@@ -3,7 +3,7 @@ use Rattle.std.proofs.Common.{◌≡◌, ℕ, Bool, true, false, ◌||◌, ◌&&
 use Rattle.std.{proofs.lemmas.{Bool.{true≢false, and_parts, and_from}, Map.Views.{any-filter_same}}, specs.{Prelude.{◌↔◌, IsFalse}, List.{AllByRecursion}}}
 use Rattle.std.specs.{List.{list_any, list_all, filter}, Option.{option_map_or}, FinMap.{get}, Cmp.Lexicographic.{same_text, nat_list_eq_equiv}}
 use Rattle.nntp_wire.{specs.{Decided.{is_group_name, matches_name}, Inner.Decided.{is_asked}, Listing.{ActiveValue}}, proofs.DecidedLemmas.{group_name-iff}}
-use Rattle.nntp_article.{specs.Session.{Spool.{Name}, Machine.{is_same, names_differ}}, proofs.SessionLemmas.MatchingGroups.{as_many, each_listed}}
+use Rattle.nntp_article.{specs.Session.{Spool.{Name}, Machine.{is_same, group_names, names_differ}}, proofs.SessionLemmas.MatchingGroups.{as_many, each_listed}}
 use Rattle.nntp_said.specs.Facts.{Fact, GroupsAre}
 use Rattle.nntp_theory.{specs.{Given.{shows_group, is_shown_group}, Together.{denies_group}, Inner.Together.{Together}}, proofs.Members.{In, in_contains}}
 use Rattle.nntp_theory.proofs.{Members.{contains_in, in_front, all_at, any_in, found_in}, Given.ShownNames.{shown_named}}
@@ -21,23 +21,23 @@ listed_still facts more p count were = record {
 
 -- ---- some of the lines
 
--- what holds of each holds of those that pass a test
-all_filtered : {X : Type 0} (test p : X → Bool) (xs : List X) → list_all p xs ≡ true → list_all p (filter test xs) ≡ true
+-- what holds of each name holds of those of the lines that pass a test
+all_filtered : (test : ActiveValue → Bool) (p : Name → Bool) (lines : List ActiveValue) → list_all p (group_names lines) ≡ true → list_all p (group_names (filter test lines)) ≡ true
 all_filtered test p [] e = refl
-all_filtered test p (x ∷ xs) e = let both = and_parts (p x) (list_all p xs) e in
-    elim (test x) as (λ b. list_all p (cond b (x ∷ filter test xs) (filter test xs)) ≡ true) [
-      | true ↦ and_from (p x) (list_all p (filter test xs)) both.0 (all_filtered test p xs both.1)
-      | false ↦ all_filtered test p xs both.1
+all_filtered test p (line ∷ lines) e = let both = and_parts (p line.name) (list_all p (group_names lines)) e in
+    elim (test line) as (λ b. list_all p (group_names (cond b (line ∷ filter test lines) (filter test lines))) ≡ true) [
+      | true ↦ and_from (p line.name) (list_all p (group_names (filter test lines))) both.0 (all_filtered test p lines both.1)
+      | false ↦ all_filtered test p lines both.1
     ]
 
 -- where no group is listed twice, none is in those
 still_differ : (test : ActiveValue → Bool) (lines : List ActiveValue) → names_differ lines ≡ true → names_differ (filter test lines) ≡ true
 still_differ test [] e = refl
 still_differ test (line ∷ lines) e =
-    let other = λ (other : ActiveValue). not (is_same line.name other.name) in
-    let both = and_parts (list_all other lines) (names_differ lines) e in
+    let other = λ (word : Name). not (is_same line.name word) in
+    let both = and_parts (list_all other (group_names lines)) (names_differ lines) e in
     elim (test line) as (λ b. names_differ (cond b (line ∷ filter test lines) (filter test lines)) ≡ true) [
-      | true ↦ and_from (list_all other (filter test lines)) (names_differ (filter test lines)) (all_filtered test other lines both.0) (still_differ test lines both.1)
+      | true ↦ and_from (list_all other (group_names (filter test lines))) (names_differ (filter test lines)) (all_filtered test other lines both.0) (still_differ test lines both.1)
       | false ↦ still_differ test lines both.1
     ]
 

@@ -3,7 +3,7 @@ use Rattle.std.proofs.Common.{◌≡◌, ℕ, Bool, true, false, ◌||◌, cond,
 use Rattle.std.proofs.{lemmas.Bool.{true≢false, and_parts, and_from, or_left, false_from_ne_true, not-true, true_from_ne_false}, Math.Bool.{or-false}}
 use Rattle.std.specs.{Prelude.{◌↔◌, IsFalse}, List.{AllByRecursion, list_any, list_all, flat_map}, Option.{option_map_or}, Cmp.Lexicographic.{same_text}}
 use Rattle.nntp_wire.specs.{Listing.{ActiveValue}, Decided.{matches_name}}
-use Rattle.nntp_article.specs.Session.{Spool.{Name}, Machine.{is_same, names_differ}}
+use Rattle.nntp_article.specs.Session.{Spool.{Name}, Machine.{is_same, group_names, names_differ}}
 use Rattle.nntp_said.specs.{Asks.{Ask, Bounds}, Facts.{Fact, GroupsAre}}
 use Rattle.nntp_theory.specs.{Given.{asks_of, is_shown_group}, Inner.Together.{IsWellFormed, AsksStand, Together, Join}, Together.{denies_group}}
 use Rattle.nntp_theory.proofs.{Members.{In, all_at, all_from, any_in, found_in}, Together.FactsOfASpoolStand.{same_itself}}
@@ -23,10 +23,10 @@ no_bounds name (line ∷ lines) e = by (is_same line.name name) e (no_bounds nam
     by false e rest = rest e
 
 -- a name that differs from all of the lines' isn't listed among them
-differs : (name other : Name) (lines : List ActiveValue) → is_same name other ≡ true → list_all (λ line. not (is_same name line.name)) lines ≡ true → is_listed lines other ≡ false
+differs : (name other : Name) (lines : List ActiveValue) → is_same name other ≡ true → list_all (λ word. not (is_same name word)) (group_names lines) ≡ true → is_listed lines other ≡ false
 differs name other [] s e = refl
 differs name other (line ∷ lines) s e =
-    let p = and_parts (not (is_same name line.name)) (list_all (λ line. not (is_same name line.name)) lines) e in
+    let p = and_parts (not (is_same name line.name)) (list_all (λ word. not (is_same name word)) (group_names lines)) e in
     let apart : is_same line.name other ≡ false = false_from_ne_true (is_same line.name other) (λ t.
     let here : is_same name line.name ≡ true = subst (λ n. is_same name n ≡ true) (same_text name other (sym s) ∙ sym (same_text line.name other (sym t))) (same_itself name) in
     true≢false (sym here ∙ not-true (is_same name line.name) p.0)) in
@@ -36,11 +36,11 @@ differs name other (line ∷ lines) s e =
 pub bounds_at : (line : ActiveValue) (lines : List ActiveValue) → names_differ lines ≡ true → In line lines → bounds_in line.name lines ≡ Bounds line.low line.high ∷ []
 bounds_at line [] d i = absurd i
 bounds_at line (x ∷ xs) d (inl e) =
-    let p = and_parts (list_all (λ other. not (is_same x.name other.name)) xs) (names_differ xs) d in
+    let p = and_parts (list_all (λ word. not (is_same x.name word)) (group_names xs)) (names_differ xs) d in
     subst (λ line. bounds_in line.name (x ∷ xs) ≡ Bounds line.low line.high ∷ []) e
     (λ i. cond (same_itself x.name i) (Bounds x.low x.high ∷ []) [] ++ no_bounds x.name xs (differs x.name x.name xs (same_itself x.name) p.0) i)
 bounds_at line (x ∷ xs) d (inr i) =
-    let p = and_parts (list_all (λ other. not (is_same x.name other.name)) xs) (names_differ xs) d in
+    let p = and_parts (list_all (λ word. not (is_same x.name word)) (group_names xs)) (names_differ xs) d in
     let there = any_in (λ other. is_same other.name line.name) line xs i (same_itself line.name) in
     let apart : is_same x.name line.name ≡ false = false_from_ne_true (is_same x.name line.name) (λ s. true≢false (sym there ∙ differs x.name line.name xs s p.0)) in
     ap (λ b. cond b (Bounds x.low x.high ∷ []) [] ++ bounds_in line.name xs) apart ∙ bounds_at line xs p.1 i

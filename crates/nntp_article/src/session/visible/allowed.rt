@@ -1,13 +1,14 @@
 //! The codes that fit a prompt (RFC 3977, sections 3.2, 5, 6 and 7.6).
 ghost use Rattle.std.specs.Prelude.{◌≡◌, ◌∷◌, [], is_some};
 ghost use Rattle.nntp_wire.specs.Answer.{success_code};
-ghost use Rattle.nntp_wire.specs.Inner.View.{asked, request, target};
-ghost use Rattle.nntp_article.specs.Session.Misfit.{codes_if_selected, retrieve_codes, command_codes, allowed_codes, code_misfit};
+ghost use Rattle.nntp_wire.specs.Inner.View.{asked, request, target, overviewed};
+ghost use Rattle.nntp_article.specs.Session.Machine.{none_in_range};
+ghost use Rattle.nntp_article.specs.Session.Misfit.{codes_if_selected, retrieve_codes, over_codes, command_codes, allowed_codes, code_misfit};
 ghost use Rattle.nntp_article.specs.Inner.MisfitView.{why};
 
 use crate::session::misfit::Misfit;
 use crate::session::visible::Visible;
-use nntp_wire::{Command, Prompt, What, Which};
+use nntp_wire::{Command, OverviewKeyword, Prompt, What, Which, WhichArticles};
 use std::alloc::Allocator;
 
 /// These codes where a group is selected, and else 412.
@@ -65,6 +66,31 @@ fn retrieve_codes(is_selected: bool, what: What, which: &Which<'_>) -> &'static 
     }
 }
 
+/// The code of success, and those by which a range has no article.
+fn codes_by_range(keyword: OverviewKeyword) -> &'static [u64]
+    ensures { result.now ≡ 224 ∷ none_in_range keyword }
+{
+    match keyword {
+        OverviewKeyword::Over => &[224, 423],
+        OverviewKeyword::Xover => &[224, 420, 423],
+    }
+}
+
+/// The codes that fit OVER and XOVER.
+fn over_codes(
+    is_selected: bool,
+    keyword: OverviewKeyword,
+    which: &WhichArticles<'_>,
+) -> &'static [u64]
+    ensures { result.now ≡ over_codes is_selected keyword (overviewed which.now) }
+{
+    match which {
+        WhichArticles::Id(_) => &[224, 430],
+        WhichArticles::Range(_) => codes_if_selected(is_selected, codes_by_range(keyword)),
+        WhichArticles::Current => codes_if_selected(is_selected, &[224, 420]),
+    }
+}
+
 /// The codes that fit a command.
 fn command_codes(is_selected: bool, command: &Command<'_>) -> &'static [u64]
     ensures { result.now ≡ command_codes is_selected (request command.now) }
@@ -80,7 +106,8 @@ fn command_codes(is_selected: bool, command: &Command<'_>) -> &'static [u64]
         Command::Last => codes_if_selected(is_selected, &[223, 420, 422]),
         Command::Retrieve { what, which } => retrieve_codes(is_selected, *what, which),
         Command::ListActive(_) => &[215],
-        Command::Over { .. } | Command::Opaque => &[381],
+        Command::Over { keyword, which } => over_codes(is_selected, *keyword, which),
+        Command::Opaque => &[381],
         Command::IllFormed => &[],
     }
 }

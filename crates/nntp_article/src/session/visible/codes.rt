@@ -1,12 +1,13 @@
 //! Answers of a code alone.
 ghost use Rattle.std.specs.Prelude.{◌≡◌};
 ghost use Rattle.nntp_wire.specs.Answer.{plain};
-ghost use Rattle.nntp_wire.specs.Inner.View.{asked, request};
-ghost use Rattle.nntp_article.specs.Session.Machine.{code_fits, fits, is_generic};
+ghost use Rattle.nntp_wire.specs.Command.{over};
+ghost use Rattle.nntp_wire.specs.Inner.View.{asked, request, overviewed};
+ghost use Rattle.nntp_article.specs.Session.Machine.{code_fits, fits, is_generic, is_one_of, none_in_range};
 
 use crate::session::profile::Profile;
 use crate::session::visible::Visible;
-use nntp_wire::{Command, Prompt, Which};
+use nntp_wire::{Command, OverviewKeyword, Prompt, Which, WhichArticles};
 use std::alloc::Allocator;
 
 /// Whether the code is a generic failure, which any command may be answered with (RFC 3977, section
@@ -18,6 +19,16 @@ pub fn is_generic_failure(code: u64) -> bool
         code,
         400 | 401 | 403 | 480 | 483 | 500 | 501 | 502 | 503 | 504
     )
+}
+
+/// Whether the code tells that a range has no article.
+fn is_none_in_range(keyword: OverviewKeyword, code: u64) -> bool
+    ensures { result ≡ is_one_of (none_in_range keyword) code }
+{
+    match keyword {
+        OverviewKeyword::Over => code == 423,
+        OverviewKeyword::Xover => code == 420 || code == 423,
+    }
 }
 
 impl<A: Allocator> Visible<A> {
@@ -58,8 +69,25 @@ impl<A: Allocator> Visible<A> {
                 Which::Number(_) => (code == 412 && !is_selected) || (code == 423 && is_selected),
                 Which::Current => (code == 412 && !is_selected) || (code == 420 && is_selected),
             },
-            Command::Over { .. } | Command::Opaque => code == 381 || code < 300 || code >= 400,
+            Command::Over { keyword, which } => self.fits_over(*keyword, which, code),
+            Command::Opaque => code == 381 || code < 300 || code >= 400,
             _ => false,
+        }
+    }
+
+    /// Whether the code, where it is no generic failure, fits OVER or XOVER.
+    fn fits_over(&self, keyword: OverviewKeyword, which: &WhichArticles<'_>, code: u64) -> bool
+        ensures { result ≡ code_fits self.now (over keyword (overviewed which.now)) code }
+    {
+        let is_selected = self.is_selected();
+        match which {
+            WhichArticles::Id(_) => code == 430,
+            WhichArticles::Range(_) => {
+                (code == 412 && !is_selected) || (is_none_in_range(keyword, code) && is_selected)
+            }
+            WhichArticles::Current => {
+                (code == 412 && !is_selected) || (code == 420 && is_selected)
+            }
         }
     }
 }

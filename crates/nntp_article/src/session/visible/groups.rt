@@ -3,6 +3,7 @@ ghost use Rattle.std.specs.Prelude.{◌≡◌, IfOk, map, [], ◌∷◌};
 ghost use Rattle.nntp_wire.specs.Reason.{first};
 ghost use Rattle.nntp_wire.specs.Inner.View.{active_value};
 ghost use Rattle.nntp_wire.specs.Inner.AnswerView.{response};
+ghost use Rattle.nntp_article.specs.Session.Machine.{group_names};
 ghost use Rattle.nntp_article.specs.Session.Misfit.{active_marks_misfit, active_misfit, twice_misfit};
 ghost use Rattle.nntp_article.specs.Inner.Misfit.{groups_of};
 ghost use Rattle.nntp_article.specs.Inner.MisfitView.{why_if};
@@ -77,7 +78,8 @@ pub(crate) fn groups_misfit<'a, A: Allocator + Copy>(
     groups: &[ActiveLine<'a>],
 ) -> Result<Option<Misfit<'a>>, AllocError>
     ensures { IfOk result (λ reason. why_if reason
-        ≡ first (first (map (active_misfit profile wildmat.now) (map active_value groups.now)) ∷ twice_misfit [] (map active_value groups.now) ∷ [])) }
+        ≡ first (first (map (active_misfit profile wildmat.now) (map active_value groups.now))
+        ∷ twice_misfit [] (group_names (map active_value groups.now)) ∷ [])) }
 {
     let mut names = BTreeSet::new(alloc);
     let mut twice = None;

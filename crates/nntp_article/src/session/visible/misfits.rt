@@ -1,15 +1,14 @@
 //! Whether an answer fits what a session shows, and why not, a row of the machine's table at a time.
 ghost use Rattle.std.specs.Prelude.{◌≡◌, ℕ, List, map, IfOk, option_copied, false};
 ghost use Rattle.std.specs.Option.{option_map_or, option_or};
-ghost use Rattle.nntp_wire.specs.Inner.View.{active_value, asked};
+ghost use Rattle.nntp_wire.specs.Inner.View.{active_value, asked, overview_value};
 ghost use Rattle.nntp_wire.specs.Inner.AnswerView.{response};
-ghost use Rattle.nntp_wire.specs.Answer.{plain, sends, group_is, numbers_are, active_are, overviews_are};
+ghost use Rattle.nntp_wire.specs.Answer.{plain, sends, group_is, numbers_are, active_are};
 ghost use Rattle.nntp_wire.specs.Listing.{active_groups, listed_numbers};
 ghost use Rattle.nntp_article.specs.Session.Machine.{fits, is_same};
 ghost use Rattle.nntp_article.specs.Session.Misfit.{name_misfit, misfit};
-ghost use Rattle.nntp_article.specs.Inner.Misfit.{groups_of, numbers_of};
+ghost use Rattle.nntp_article.specs.Inner.Misfit.{groups_of, numbers_of, overviews_in};
 ghost use Rattle.nntp_article.specs.Inner.MisfitView.{why, why_if};
-ghost use Rattle.nntp_wire.specs.declared.overviews.Overviews.{Overviews};
 
 use crate::session::misfit::Misfit;
 use crate::session::profile::Profile;
@@ -17,12 +16,15 @@ use crate::session::visible::Visible;
 use crate::session::visible::groups::{groups_listed, groups_misfit};
 use crate::session::visible::heads::{head_misfit, is_same};
 use crate::session::visible::numbers::{numbers_listed, numbers_misfit};
-use nntp_wire::{ActiveLine, Answer, Block, Command, Prompt, WaterMarks, success_code};
+use crate::session::visible::overviews::overviews_listed;
+use nntp_wire::{
+    ActiveLine, Answer, Block, Command, OverviewLine, Prompt, WaterMarks, success_code,
+};
 use std::alloc::{AllocError, Allocator};
 
 impl<A: Allocator + Copy> Visible<A> {
     /// Whether the answer may follow the prompt in this visible state, whatever the spool, where
-    /// the connection is open. Only the numbers and the groups that are listed need memory.
+    /// the connection is open. Only what is listed needs memory: numbers, groups or overviews.
     ///
     /// # Errors
     ///
@@ -40,8 +42,8 @@ impl<A: Allocator + Copy> Visible<A> {
     }
 
     /// Why the answer can't follow the prompt in this visible state, whatever the spool, where the
-    /// connection is open. None exactly where it fits. Only the numbers and the groups that are listed
-    /// need memory.
+    /// connection is open. None exactly where it fits. Only what is listed needs memory: numbers, groups
+    /// or overviews.
     ///
     /// # Errors
     ///
@@ -56,11 +58,13 @@ impl<A: Allocator + Copy> Visible<A> {
     {
         let numbers = numbers_listed(self.alloc, answer)?;
         let groups = groups_listed(self.alloc, answer)?;
-        self.misfit_as_read(profile, prompt, answer, &numbers, &groups)
+        let overviews = overviews_listed(self.alloc, answer)?;
+        self.misfit_as_read(profile, prompt, answer, &numbers, &groups, &overviews)
     }
 
-    /// Why the answer can't follow the prompt, as [`misfit`](Visible::misfit) tells, where the numbers
-    /// and the groups that it lists were read before. Only the names of these groups need memory.
+    /// Why the answer can't follow the prompt, as [`misfit`](Visible::misfit) tells, where the numbers,
+    /// the groups and the overviews that it lists were read before. Only the names of these groups, and
+    /// the numbers and ids of these overviews, need memory.
     ///
     /// # Errors
     ///
@@ -72,9 +76,11 @@ impl<A: Allocator + Copy> Visible<A> {
         answer: &Answer<'a>,
         numbers: &[u64],
         groups: &[ActiveLine<'a>],
+        overviews: &[OverviewLine<'a>],
     ) -> Result<Option<Misfit<'a>>, AllocError>
         requires numbers { numbers.now ≡ numbers_of (response answer.now) }
         requires groups { map active_value groups.now ≡ groups_of (response answer.now) }
+        requires overviews { map overview_value overviews.now ≡ overviews_in (response answer.now) }
         ensures { IfOk result (λ reason. why_if reason ≡ misfit profile self.now (asked prompt.now) (response answer.now)) }
     {
         match answer {
@@ -92,7 +98,7 @@ impl<A: Allocator + Copy> Visible<A> {
                 block,
             } => Ok(self.sent_misfit(profile, prompt, *code, *number, id.as_slice(), block)),
             Answer::Active(_) => self.active_misfit(profile, prompt, groups),
-            Answer::Overviews(_) => Ok(self.overviews_misfit(prompt)),
+            Answer::Overviews(_) => self.overviews_misfit(profile, prompt, overviews),
         }
     }
 
@@ -216,16 +222,6 @@ impl<A: Allocator + Copy> Visible<A> {
                 head_misfit(*what, id, block)
             }
             _ => Some(wrong_code),
-        }
-    }
-
-    /// 224 to OVER or XOVER.
-    fn overviews_misfit(&self, prompt: &Prompt<'_>) -> Option<Misfit<'static>>
-        ensures { (profile : Profile) (lines : List (List ℕ)) → why_if result ≡ misfit profile self.now (asked prompt.now) (overviews_are lines) }
-    {
-        match prompt {
-            Prompt::To(Command::Over { .. }) => None,
-            _ => Some(self.code_misfit(prompt, 224)),
         }
     }
 

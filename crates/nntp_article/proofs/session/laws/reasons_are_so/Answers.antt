@@ -1,5 +1,5 @@
 use Rattle.nntp_article.specs.Session.Misfit.{wrong_code, wrong_name, wrong_number, wrong_id, below_low, wrong_marks, beyond_limit, not_above, beyond_range}
-use Rattle.nntp_article.{specs.Session.Misfit.{unmatched, listed_twice, no_head, other_id}, proofs.SessionLemmas.ReasonsAreSo.{so}}
+use Rattle.nntp_article.{specs.Session.Misfit.{unmatched, listed_twice, wrong_lines, no_head, other_id}, proofs.SessionLemmas.ReasonsAreSo.{so}}
 use Rattle.nntp_article.proofs.session.laws.reasons_are_so.Goals as goal
 
 pub returns : goal.returns
@@ -14,7 +14,8 @@ returns c = record {
   order = λ profile v asked response before number. so profile v asked response (not_above before number);
   range = λ profile v asked response number. so profile v asked response (beyond_range number);
   matched = λ profile v asked response name. so profile v asked response (unmatched name);
-  twice = λ profile v asked response name. so profile v asked response (listed_twice name);
+  twice = λ profile v asked response word. so profile v asked response (listed_twice word);
+  lines = λ profile v asked response. so profile v asked response wrong_lines;
   head = λ profile v asked response. so profile v asked response no_head;
   own = λ profile v asked response said. so profile v asked response (other_id said);
 }

@@ -1,5 +1,5 @@
 use Rattle.std.proofs.Common.{◌≡◌, length}
-use Rattle.nntp_wire.specs.Inner.Listing.{overviews_of}
+use Rattle.nntp_wire.specs.Listing.{overviews_of}
 use Rattle.nntp_wire.proofs.overview_lines.OverviewLinesIterator.next.Given as goal
 
 abbrev pub invariant-loop-line : goal.invariant-loop-line

@@ -1,16 +1,16 @@
 use Rattle.std.{proofs.Common.{◌≡◌, ℕ, ◌+◌, List, [], ◌∷◌, map, drop, Option, None, Some, sym, ap, ◌∙◌, rules}, specs.Option.{option_or}}
 use Rattle.nntp_wire.specs.{Inner.View.{active_value}, Listing.{ActiveValue}, Reason.{first}}
-use Rattle.nntp_article.specs.{Session.{Spool.{Name}, Misfit.{Misfit, active_misfit, twice_misfit}}, declared.session.profile.Profile.{Profile}}
-use Rattle.nntp_article.{specs.Inner.MisfitView.{why_if}, proofs.SessionLemmas.{LinesLeft.{next_left}, Misfits.{why_or}, NamesInASet.{names_in, taken, free}}}
-use Rattle.nntp_article.proofs.{SessionLemmas.NamesInASet.{twice_here, twice_later}, session.visible.groups.groups_misfit.Goals.{then-not-branch}}
-use Rattle.nntp_article.proofs.session.visible.groups.groups_misfit.Goals.{else-not-branch}
+use Rattle.nntp_article.specs.Session.{Spool.{Name}, Machine.{group_names}, Misfit.{Misfit, active_misfit, twice_misfit}}
+use Rattle.nntp_article.{specs.{declared.session.profile.Profile.{Profile}, Inner.MisfitView.{why_if}}, proofs.SessionLemmas.LinesLeft.{next_left}}
+use Rattle.nntp_article.proofs.SessionLemmas.{Misfits.{why_or}, NamesInASet.{names_in, taken, free, twice_here, twice_later}}
+use Rattle.nntp_article.proofs.session.visible.groups.groups_misfit.Goals.{then-not-branch, else-not-branch}
 use Rattle.nntp_article.proofs.session.visible.groups.groups_misfit.Goals as goal
 
 -- a group that fits by itself is left behind
 left_behind : (profile : Profile) (p : Option (List ℕ)) (line : ActiveValue) (rest lines : List ActiveValue) (old more : List Name) (twice new all : Option Misfit)
-    → lines ≡ line ∷ rest → None ≡ active_misfit profile p line → option_or new (twice_misfit more rest) ≡ option_or twice (twice_misfit old (line ∷ rest))
-    → first (first (map (active_misfit profile p) lines) ∷ option_or twice (twice_misfit old lines) ∷ []) ≡ all
-    → first (first (map (active_misfit profile p) rest) ∷ option_or new (twice_misfit more rest) ∷ []) ≡ all
+    → lines ≡ line ∷ rest → None ≡ active_misfit profile p line → option_or new (twice_misfit more (group_names rest)) ≡ option_or twice (twice_misfit old (group_names (line ∷ rest)))
+    → first (first (map (active_misfit profile p) lines) ∷ option_or twice (twice_misfit old (group_names lines)) ∷ []) ≡ all
+    → first (first (map (active_misfit profile p) rest) ∷ option_or new (twice_misfit more (group_names rest)) ∷ []) ≡ all
 left_behind profile p line rest lines old more twice new all steps fits same known = search rules
 
 first_kept : (a : Option Misfit) (why : Misfit) (b : Option Misfit) → option_or (option_or a (Some why)) b ≡ option_or a (Some why)
@@ -29,12 +29,13 @@ loop-group-preserved g c =
     (ap why_if (sym c.in_default.is) ∙ c.active_misfit.ensures)
     (elim c.if-not-branch.branch [
       | then-not-branch w ↦
-          ap (λ o. option_or o (twice_misfit (names_in c.insert.new.self.keys) rest)) (ap why_if (w.twice-is ∙ w.or-twice.ensures) ∙ why_or twice _)
+          ap (λ o. option_or o (twice_misfit (names_in c.insert.new.self.keys) (group_names rest))) (ap why_if (w.twice-is ∙ w.or-twice.ensures) ∙ why_or twice _)
           ∙ first_kept (why_if twice) _ _
-          ∙ ap (option_or (why_if twice)) (sym (twice_here line rest old c.as_slice-name.result c.as_slice-name.ensures.value (taken _ _ c.in_ok-insert.ensures.added w.if-not-branch.true)))
+          ∙ ap (option_or (why_if twice)) (sym (twice_here line.name (group_names rest) old c.as_slice-name.result c.as_slice-name.ensures.value
+          (taken _ _ c.in_ok-insert.ensures.added w.if-not-branch.true)))
       | else-not-branch w ↦
-          ap (λ o. option_or (why_if o) (twice_misfit (names_in c.insert.new.self.keys) rest)) w.twice-is
-          ∙ ap (option_or (why_if twice)) (twice_later line rest old c.as_slice-name.result c.as_slice-name.ensures.value c.insert.new.self.keys
+          ap (λ o. option_or (why_if o) (twice_misfit (names_in c.insert.new.self.keys) (group_names rest))) w.twice-is
+          ∙ ap (option_or (why_if twice)) (twice_later line.name (group_names rest) old c.as_slice-name.result c.as_slice-name.ensures.value c.insert.new.self.keys
           (free _ _ c.in_ok-insert.ensures.added w.if-not-branch.false) c.in_ok-insert.ensures.keys)
     ])
     c.loop-group.invariant

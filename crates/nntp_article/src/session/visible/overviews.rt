@@ -1,0 +1,183 @@
+//! The overviews of OVER and XOVER (RFC 3977, section 8.3).
+ghost use Rattle.std.specs.Prelude.{◌≡◌, IfOk, List, ℕ, map, []};
+ghost use Rattle.nntp_wire.specs.Answer.{overviews_are};
+ghost use Rattle.nntp_wire.specs.Command.{in_range};
+ghost use Rattle.nntp_wire.specs.Listing.{overviews_of};
+ghost use Rattle.nntp_wire.specs.Inner.View.{asked, overview_value, overviewed, target};
+ghost use Rattle.nntp_wire.specs.Inner.AnswerView.{response};
+ghost use Rattle.nntp_article.specs.Session.Machine.{overview_numbers, overview_ids, only, may_list};
+ghost use Rattle.nntp_article.specs.Session.Misfit.{misfit, overview_misfit, overviews_misfit, twice_misfit};
+ghost use Rattle.nntp_article.specs.Inner.Misfit.{overviews_in};
+ghost use Rattle.nntp_article.specs.Inner.MisfitView.{why, why_if};
+
+use crate::session::misfit::Misfit;
+use crate::session::profile::Profile;
+use crate::session::visible::Visible;
+use crate::session::visible::numbers::numbers_misfit;
+use nntp_wire::{
+    Answer, Command, OverviewKeyword, OverviewLine, Prompt, Range, Which, WhichArticles,
+};
+use std::alloc::{AllocError, Allocator};
+use std::collections::BTreeSet;
+
+/// Collects the overviews that an answer lists: a 224 to OVER or XOVER (RFC 3977, section 8.3). Another
+/// answer lists none.
+///
+/// # Errors
+///
+/// If memory is refused.
+pub fn overviews_listed<'a, A: Allocator + Copy>(
+    alloc: A,
+    answer: &Answer<'a>,
+) -> Result<Vec<OverviewLine<'a>, A>, AllocError>
+    ensures { IfOk result (λ overviews. map overview_value overviews.items ≡ overviews_in (response answer.now)) }
+{
+    let mut overviews = Vec::new(alloc);
+    let Answer::Overviews(block) = answer else {
+        return Ok(overviews);
+    };
+    for overview in block.overviews() {
+        overviews.push(overview)?;
+    }
+    Ok(overviews)
+}
+
+/// Collects the numbers of overviews.
+fn overview_numbers<A: Allocator + Copy>(
+    alloc: A,
+    overviews: &[OverviewLine<'_>],
+) -> Result<Vec<u64, A>, AllocError>
+    ensures { IfOk result (λ numbers. numbers.items ≡ overview_numbers (map overview_value overviews.now)) }
+{
+    let mut numbers = Vec::new(alloc);
+    for overview in overviews {
+        numbers.push(overview.number)?;
+    }
+    Ok(numbers)
+}
+
+/// Why the ids don't fit, if they don't: the first that an earlier line has too.
+fn ids_misfit<'a, A: Allocator + Copy>(
+    alloc: A,
+    overviews: &[OverviewLine<'a>],
+) -> Result<Option<Misfit<'a>>, AllocError>
+    ensures { IfOk result (λ reason. why_if reason ≡ twice_misfit [] (overview_ids (map overview_value overviews.now))) }
+{
+    let mut ids = BTreeSet::new(alloc);
+    for overview in overviews {
+        let id = overview.id.as_slice();
+        if !ids.insert(id)? {
+            return Ok(Some(Misfit::ListedTwice(id)));
+        }
+    }
+    Ok(None)
+}
+
+/// Whether so many overviews may be listed of a range: of one without an article none are, by OVER.
+fn may_list(keyword: OverviewKeyword, overviews: &[OverviewLine<'_>]) -> bool
+    ensures { result ≡ may_list keyword (map overview_value overviews.now) }
+{
+    match keyword {
+        OverviewKeyword::Over => !overviews.is_empty(),
+        OverviewKeyword::Xover => true,
+    }
+}
+
+impl<A: Allocator> Visible<A> {
+    /// Why the overviews aren't just that of the article that was asked for, if they aren't.
+    fn overview_misfit<'a>(
+        &self,
+        profile: Profile,
+        wrong_code: Misfit<'a>,
+        which: &Which<'_>,
+        overviews: &[OverviewLine<'a>],
+    ) -> Option<Misfit<'a>>
+        ensures { why_if result ≡ overview_misfit profile self.now (why wrong_code.entry) (target which.now) (only (map overview_value overviews.now)) }
+    {
+        let [overview] = overviews else {
+            return Some(Misfit::WrongLines);
+        };
+        self.target_misfit(
+            profile,
+            wrong_code,
+            which,
+            overview.number,
+            overview.id.as_slice(),
+        )
+    }
+}
+
+impl<A: Allocator + Copy> Visible<A> {
+    /// Why the overviews don't fit the range that was asked for, if they don't.
+    fn range_misfit<'a>(
+        &self,
+        profile: Profile,
+        wrong_code: Misfit<'a>,
+        keyword: OverviewKeyword,
+        range: Range,
+        overviews: &[OverviewLine<'a>],
+    ) -> Result<Option<Misfit<'a>>, AllocError>
+        ensures { IfOk result (λ reason. why_if reason
+            ≡ overviews_misfit profile self.now (why wrong_code.entry) keyword (in_range range) (map overview_value overviews.now)) }
+    {
+        if !self.is_selected() {
+            return Ok(Some(wrong_code));
+        }
+        if !may_list(keyword, overviews) {
+            return Ok(Some(Misfit::WrongLines));
+        }
+        let numbers = overview_numbers(self.alloc, overviews)?;
+        if let Some(why) = numbers_misfit(profile.limit, range, &numbers) {
+            return Ok(Some(why));
+        }
+        ids_misfit(self.alloc, overviews)
+    }
+
+    /// Why the overviews don't fit what was asked for, if they don't. The code is at fault where no
+    /// group is selected, unless an id was asked for.
+    fn asked_overviews_misfit<'a>(
+        &self,
+        profile: Profile,
+        wrong_code: Misfit<'a>,
+        keyword: OverviewKeyword,
+        which: &WhichArticles<'_>,
+        overviews: &[OverviewLine<'a>],
+    ) -> Result<Option<Misfit<'a>>, AllocError>
+        ensures { IfOk result (λ reason. why_if reason
+            ≡ overviews_misfit profile self.now (why wrong_code.entry) keyword (overviewed which.now) (map overview_value overviews.now)) }
+    {
+        match which {
+            WhichArticles::Range(range) => {
+                self.range_misfit(profile, wrong_code, keyword, *range, overviews)
+            }
+            WhichArticles::Id(word) => {
+                Ok(self.overview_misfit(profile, wrong_code, &Which::Id(*word), overviews))
+            }
+            WhichArticles::Current => {
+                if !self.is_selected() {
+                    return Ok(Some(wrong_code));
+                }
+                Ok(self.overview_misfit(profile, wrong_code, &Which::Current, overviews))
+            }
+        }
+    }
+
+    /// 224 to OVER or XOVER.
+    pub(crate) fn overviews_misfit<'a>(
+        &self,
+        profile: Profile,
+        prompt: &Prompt<'_>,
+        overviews: &[OverviewLine<'a>],
+    ) -> Result<Option<Misfit<'a>>, AllocError>
+        ensures { IfOk result (λ reason. (lines : List (List ℕ)) → map overview_value overviews.now ≡ overviews_of lines
+            → why_if reason ≡ misfit profile self.now (asked prompt.now) (overviews_are lines)) }
+    {
+        let wrong_code = self.code_misfit(prompt, 224);
+        match prompt {
+            Prompt::To(Command::Over { keyword, which }) => {
+                self.asked_overviews_misfit(profile, wrong_code, *keyword, which, overviews)
+            }
+            _ => Ok(Some(wrong_code)),
+        }
+    }
+}
