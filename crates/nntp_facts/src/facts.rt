@@ -4,9 +4,9 @@ ghost use Rattle.nntp_pair.specs.Pairing.{Paired, asked_at};
 ghost use Rattle.nntp_article.specs.declared.session.profile.Profile.{Profile};
 ghost use Rattle.nntp_article.specs.Session.Limit.{profile_of};
 ghost use Rattle.nntp_article.specs.Session.Misfit.{misfit};
-ghost use Rattle.nntp_article.specs.Inner.Misfit.{numbers_of, groups_of};
+ghost use Rattle.nntp_article.specs.Inner.Misfit.{numbers_of, groups_of, overviews_in};
 ghost use Rattle.nntp_article.specs.Inner.MisfitView.{why_if};
-ghost use Rattle.nntp_wire.specs.Inner.View.{active_value};
+ghost use Rattle.nntp_wire.specs.Inner.View.{active_value, overview_value};
 ghost use Rattle.nntp_said.specs.Facts.{Fact};
 ghost use Rattle.nntp_theory.specs.Given.{is_mentioned};
 ghost use Rattle.nntp_pair.specs.Inner.Pairing.{lines_in};
@@ -30,7 +30,7 @@ use nntp_article::{Misfit, Profile, Visible, groups_listed, numbers_listed, over
 use nntp_pair::Exchange;
 use nntp_said::Position;
 use nntp_theory::Noted;
-use nntp_wire::{ActiveLine, Limit, Marks};
+use nntp_wire::{ActiveLine, Limit, Marks, OverviewLine};
 use std::alloc::{AllocError, Allocator, Global};
 use std::marker::Model;
 
@@ -168,33 +168,33 @@ impl<A: Allocator + Copy> Facts<A> {
         let answer = exchange.answer();
         let numbers = numbers_listed(self.alloc, answer)?;
         let groups = groups_listed(self.alloc, answer)?;
-        // Both are lent, and so dropped at one exit alone: the check goes through the drops of each.
-        self.note_listing(exchange, &numbers, &groups)
+        let overviews = overviews_listed(self.alloc, answer)?;
+        // All are lent, and so dropped at one exit alone: the check goes through the drops of each.
+        self.note_listing(exchange, &numbers, &groups, &overviews)
     }
 
-    /// Accepts the exchange as [`try_note`](Facts::try_note) does; `numbers` and `groups` are those that its answer
-    /// lists.
+    /// Accepts the exchange as [`try_note`](Facts::try_note) does; `numbers`, `groups` and `overviews` are those that
+    /// its answer lists.
     fn note_listing<'a>(
         &mut self,
         exchange: &Exchange<'a>,
         numbers: &[u64],
         groups: &[ActiveLine<'a>],
+        overviews: &[OverviewLine<'a>],
     ) -> Result<Noted, AllocError>
         requires due { IsDue self.old exchange.now }
         requires numbers { numbers.now ≡ numbers_of exchange.now.response }
         requires groups { map active_value groups.now ≡ groups_of exchange.now.response }
+        requires overviews { map overview_value overviews.now ≡ overviews_in exchange.now.response }
         ensures { IfOk result (λ noted. (profile : Profile) (earlier : List (List Paired)) (past : List Paired) → HasNotedBehind profile self.old earlier past
             → IsNotedBehind profile earlier past exchange.now self.old self.new noted) }
     {
         let prompt = exchange.prompt();
         let answer = exchange.answer();
         let profile = self.profile();
-        let numbers = numbers_listed(self.alloc, answer)?;
-        let groups = groups_listed(self.alloc, answer)?;
-        let overviews = overviews_listed(self.alloc, answer)?;
         let why = self
             .visible
-            .misfit_as_read(profile, prompt, answer, &numbers, &groups, &overviews)?;
+            .misfit_as_read(profile, prompt, answer, numbers, groups, overviews)?;
         if why.is_some() {
             return Ok(Noted::OutOfPlace);
         }

@@ -24,7 +24,8 @@ hold-requires-clause-listed g c =
     let q = asked c.prompt-prompt.result.now in
     let a = response c.answer-answer.result.now in
     let f = fitting c.args.profile v q a c.in_ok-why.why c.in_ok-why.ensures (sym c.is_some.ensures ∙ c.if-is_some.false) in
-    facts_list c.args.profile v c.args.position q a _ _ _ f (c.deref-4.ensures.value ∙ c.in_ok-numbers.ensures) (ap (map active_value) c.deref-5.ensures.value ∙ c.in_ok-groups.ensures)
+    let value = sym c.answer-answer.ensures.value in
+    facts_list c.args.profile v c.args.position q a _ _ _ f (c.requires.numbers ∙ ap numbers_of value) (c.requires.groups ∙ ap groups_of value)
     (c.facts_of-facts.ensures v c.selected_name-selected.ensures)
 
 pub returns-clause-may : goal.returns-clause-may

@@ -35,8 +35,8 @@ returns-then-not-branch g c profile earlier past stands =
     (c.profile-profile.ensures ∙ ap profile_kept (sym c.self.view_is))
     (fits_by_reason c.profile-profile.result c.self.inside.visible (asked c.prompt-prompt.result.now) (response c.answer-answer.result.now) c.in_ok-why.why c.in_ok-why.ensures)
     (no_reason c.in_ok-why.why (sym c.is_some.ensures ∙ c.if-is_some.false))
-    c.selected_name-here.ensures (c.deref-4.ensures.value ∙ c.in_ok-numbers.ensures) c.of-saying.ensures.tells in
-    let adds = c.in_ok-note.ensures (c.of-saying.ensures.groups _ (ap (map active_value) c.deref-5.ensures.value ∙ c.in_ok-groups.ensures)) in
+    c.selected_name-here.ensures (c.requires.numbers ∙ ap numbers_of (sym says.value)) c.of-saying.ensures.tells in
+    let adds = c.in_ok-note.ensures (c.of-saying.ensures.groups _ (c.requires.groups ∙ ap groups_of (sym says.value))) in
     refused profile _ _ c.note.new.self earlier past pair saying is w before (subst (Adds c.self.inside.kept c.note.new.self saying) c.if-not-branch.true adds)
 
 pub returns : goal.returns
@@ -50,8 +50,8 @@ returns g c profile earlier past stands =
     (c.profile-profile.ensures ∙ ap profile_kept (sym c.self.view_is))
     (fits_by_reason c.profile-profile.result c.self.inside.visible (asked c.prompt-prompt.result.now) (response c.answer-answer.result.now) c.in_ok-why.why c.in_ok-why.ensures)
     (no_reason c.in_ok-why.why (sym c.is_some.ensures ∙ c.if-is_some.false))
-    c.selected_name-here.ensures (c.deref-4.ensures.value ∙ c.in_ok-numbers.ensures) c.of-saying.ensures.tells in
-    let adds = c.in_ok-note.ensures (c.of-saying.ensures.groups _ (ap (map active_value) c.deref-5.ensures.value ∙ c.in_ok-groups.ensures)) in
+    c.selected_name-here.ensures (c.requires.numbers ∙ ap numbers_of (sym says.value)) c.of-saying.ensures.tells in
+    let adds = c.in_ok-note.ensures (c.of-saying.ensures.groups _ (c.requires.groups ∙ ap groups_of (sym says.value))) in
     accepted profile _ c.args.self.now _ earlier past pair saying w before (record {
       limit = refl;
       marks = refl;
