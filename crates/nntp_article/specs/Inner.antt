@@ -6,3 +6,4 @@ pub mod Coded
 pub mod Ascending
 pub mod Misfit
 pub mod MisfitView
+pub mod Listed

@@ -9,7 +9,4 @@ pub mod session;
 pub use article::{
     Control, Head, Header, Headers, Missing, Parts, content, control, lines_say, missing,
 };
-pub use session::{
-    Misfit, Profile, Visible, groups_listed, is_article_number, is_generic_failure, numbers_listed,
-    overviews_listed,
-};
+pub use session::{Listed, Misfit, Profile, Visible, is_article_number, is_generic_failure};

@@ -1,12 +1,12 @@
 //! A session over one spool: what its machine shows whatever the spool, and the laws of its definitions
 //! (RFC 3977, sections 3.2.1, 5, 6 and 7.6).
 pub mod laws;
+mod listed;
 mod misfit;
 mod profile;
 mod visible;
 
+pub use listed::Listed;
 pub use misfit::Misfit;
 pub use profile::Profile;
-pub use visible::{
-    Visible, groups_listed, is_article_number, is_generic_failure, numbers_listed, overviews_listed,
-};
+pub use visible::{Visible, is_article_number, is_generic_failure};

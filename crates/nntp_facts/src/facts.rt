@@ -1,12 +1,11 @@
 //! What the accepted exchanges of sessions say of the spool.
-ghost use Rattle.std.specs.Prelude.{◌≡◌, ◌<◌, ◌^◌, true, false, List, [], map, IfOk, Err, slice_get};
+ghost use Rattle.std.specs.Prelude.{◌≡◌, ◌<◌, ◌^◌, true, false, List, [], IfOk, Err, slice_get};
 ghost use Rattle.nntp_pair.specs.Pairing.{Paired, asked_at};
 ghost use Rattle.nntp_article.specs.declared.session.profile.Profile.{Profile};
 ghost use Rattle.nntp_article.specs.Session.Limit.{profile_of};
 ghost use Rattle.nntp_article.specs.Session.Misfit.{misfit};
-ghost use Rattle.nntp_article.specs.Inner.Misfit.{numbers_of, groups_of, overviews_in};
+ghost use Rattle.nntp_article.specs.Inner.Listed.{lists, lists_of};
 ghost use Rattle.nntp_article.specs.Inner.MisfitView.{why_if};
-ghost use Rattle.nntp_wire.specs.Inner.View.{active_value, overview_value};
 ghost use Rattle.nntp_said.specs.Facts.{Fact};
 ghost use Rattle.nntp_theory.specs.Given.{is_mentioned};
 ghost use Rattle.nntp_pair.specs.Inner.Pairing.{lines_in};
@@ -26,11 +25,11 @@ use crate::points::Refusal;
 use crate::saying::Saying;
 use crate::shown_groups::{ShownGroup, ShownGroups};
 use crate::taken_groups::TakenGroups;
-use nntp_article::{Misfit, Profile, Visible, groups_listed, numbers_listed, overviews_listed};
+use nntp_article::{Listed, Misfit, Profile, Visible};
 use nntp_pair::Exchange;
 use nntp_said::Position;
 use nntp_theory::Noted;
-use nntp_wire::{ActiveLine, Limit, Marks, OverviewLine};
+use nntp_wire::{Limit, Marks};
 use std::alloc::{AllocError, Allocator, Global};
 use std::marker::Model;
 
@@ -165,27 +164,19 @@ impl<A: Allocator + Copy> Facts<A> {
         ensures { IfOk result (λ noted. (profile : Profile) (earlier : List (List Paired)) (past : List Paired) → HasNotedBehind profile self.old earlier past
             → IsNotedBehind profile earlier past exchange.now self.old self.new noted) }
     {
-        let answer = exchange.answer();
-        let numbers = numbers_listed(self.alloc, answer)?;
-        let groups = groups_listed(self.alloc, answer)?;
-        let overviews = overviews_listed(self.alloc, answer)?;
-        // All are lent, and so dropped at one exit alone: the check goes through the drops of each.
-        self.note_listing(exchange, &numbers, &groups, &overviews)
+        let listed = Listed::of(self.alloc, exchange.answer())?;
+        // It is lent, and so dropped at one exit alone: the check goes through each drop.
+        self.note_listing(exchange, &listed)
     }
 
-    /// Accepts the exchange as [`try_note`](Facts::try_note) does; `numbers`, `groups` and `overviews` are those that
-    /// its answer lists.
+    /// Accepts the exchange as [`try_note`](Facts::try_note) does; `listed` is what its answer lists.
     fn note_listing<'a>(
         &mut self,
         exchange: &Exchange<'a>,
-        numbers: &[u64],
-        groups: &[ActiveLine<'a>],
-        overviews: &[OverviewLine<'a>],
+        listed: &Listed<'a, A>,
     ) -> Result<Noted, AllocError>
         requires due { IsDue self.old exchange.now }
-        requires numbers { numbers.now ≡ numbers_of exchange.now.response }
-        requires groups { map active_value groups.now ≡ groups_of exchange.now.response }
-        requires overviews { map overview_value overviews.now ≡ overviews_in exchange.now.response }
+        requires listed { lists listed.now ≡ lists_of exchange.now.response }
         ensures { IfOk result (λ noted. (profile : Profile) (earlier : List (List Paired)) (past : List Paired) → HasNotedBehind profile self.old earlier past
             → IsNotedBehind profile earlier past exchange.now self.old self.new noted) }
     {
@@ -194,13 +185,14 @@ impl<A: Allocator + Copy> Facts<A> {
         let profile = self.profile();
         let why = self
             .visible
-            .misfit_as_read(profile, prompt, answer, numbers, groups, overviews)?;
+            .misfit_as_read(profile, prompt, answer, listed)?;
         if why.is_some() {
             return Ok(Noted::OutOfPlace);
         }
         let here = self.visible.selected_name();
+        let numbers = listed.numbers();
         let saying = Saying::of(self.marks, here, self.position, prompt, answer, numbers);
-        if !self.kept.note(&saying, groups)? {
+        if !self.kept.note(&saying, listed.groups())? {
             return Ok(Noted::Contradiction);
         }
         self.visible.advance(prompt, answer)?;

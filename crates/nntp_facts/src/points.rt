@@ -18,7 +18,7 @@ use crate::conflict::{Core, tell_all};
 use crate::kept::Kept;
 use crate::placed::Placed;
 use crate::point::Point;
-use nntp_article::numbers_listed;
+use nntp_article::Listed;
 use nntp_wire::{Limit, Marks};
 pub(crate) use statement::Statement;
 use std::alloc::{AllocError, Allocator, Global};
@@ -58,11 +58,11 @@ const KINDS: [Kind; 10] = [
     Kind::BodyOf,
 ];
 
-/// An answer, and the numbers that it lists.
+/// An answer, and what it lists.
 #[derive(Drop)]
 struct Listing<'a, A: Allocator> {
     answer: &'a Placed<'a>,
-    numbers: Vec<u64, A>,
+    listed: Listed<'a, A>,
 }
 
 /// A bad answer, and accepted ones with which it conflicts: all of them stand together but for the last one.
@@ -201,7 +201,7 @@ fn first_point<'s, A: Allocator + Copy>(
         → AreHeld profile all (record { profile = profile_of limit marks; kept = kept.now; last = listing_of last.now })
         → MatchOption point ⊥ (λ point. IsFirstPoint all (point_of point))) }
 {
-    let told = Statement::of(marks, last.answer, &last.numbers);
+    let told = Statement::of(marks, last.answer, last.listed.numbers());
     for kind in &KINDS {
         if let Some(point) = kept.point(limit, *kind, &told)? {
             return Ok(Some(point));
@@ -218,14 +218,14 @@ fn answer_or<'a>(answers: &'a [Placed<'a>], place: usize, other: &'a Placed<'a>)
 }
 
 impl<'a, A: Allocator + Copy> Listing<'a, A> {
-    /// Puts the numbers that an answer lists beside it.
+    /// Puts what an answer lists beside it.
     fn of(alloc: A, answer: &'a Placed<'a>) -> Result<Listing<'a, A>, AllocError>
         ensures numbers { IfOk result (λ listing. listing_of listing ≡ with_numbers (stands_of answer.now)) }
         ensures few { IfOk result (λ listing. lines_in (stands_of answer.now).response < 2 ^ 64) }
     {
         Ok(Listing {
             answer,
-            numbers: numbers_listed(alloc, answer.answer())?,
+            listed: Listed::of(alloc, answer.answer())?,
         })
     }
 }

@@ -1,14 +1,13 @@
 //! Whether a given spool explains a session.
-ghost use Rattle.std.specs.Prelude.{◌≡◌, ◌↔◌, IsTrue, IfOk, map};
+ghost use Rattle.std.specs.Prelude.{◌≡◌, ◌↔◌, IsTrue, IfOk};
 ghost use Rattle.nntp_pair.specs.Pairing.{asked_at};
 ghost use Rattle.nntp_article.specs.Session.Limit.{profile_of};
 ghost use Rattle.nntp_article.specs.Session.Machine.{MayAnswer, start};
 ghost use Rattle.nntp_article.specs.Session.Spool.{IsSpool};
-ghost use Rattle.nntp_article.specs.Inner.Misfit.{numbers_of, groups_of, overviews_in};
+ghost use Rattle.nntp_article.specs.Inner.Listed.{lists, lists_of};
 ghost use Rattle.nntp_said.specs.Inner.Asks.{state_at};
 ghost use Rattle.nntp_spool.specs.Inner.AskedCounts.{AreCounted};
 ghost use Rattle.nntp_spool.specs.Verifying.{IsVerified};
-ghost use Rattle.nntp_wire.specs.Inner.View.{active_value, overview_value};
 ghost use Rattle.nntp_wire.specs.Session.{taken};
 ghost use Rattle.nntp_wire.specs.declared.overviews.Overviews.TheVariants.{Opaque};
 
@@ -25,10 +24,10 @@ use crate::value::content::Content;
 use asked_counts::AskedCounts;
 use holding::hold;
 use last_group::LastGroup;
-use nntp_article::{Profile, Visible, groups_listed, numbers_listed, overviews_listed};
+use nntp_article::{Listed, Profile, Visible};
 use nntp_pair::{Exchange, Pairs, Step};
 use nntp_said::{Position, facts_of};
-use nntp_wire::{ActiveLine, Marks, OverviewLine};
+use nntp_wire::Marks;
 use std::alloc::{AllocError, Allocator};
 pub use verified::Verified;
 
@@ -124,18 +123,12 @@ fn may_answer<A: Allocator + Copy, S: Allocator>(
     ensures may { IfOk result (λ may. IsTrue may
         ↔ MayAnswer profile group.old (state_at group.old visible.now position) (asked_at exchange.now.place) exchange.now.response) }
 {
-    let answer = exchange.answer();
-    let numbers = numbers_listed(alloc, answer)?;
-    let groups = groups_listed(alloc, answer)?;
-    let overviews = overviews_listed(alloc, answer)?;
-    // All are lent, and so dropped at one exit alone: the check goes through the drops of each.
-    may_answer_listing(
-        profile, group, counts, visible, position, exchange, &numbers, &groups, &overviews,
-    )
+    let listed = Listed::of(alloc, exchange.answer())?;
+    // It is lent, and so dropped at one exit alone: the check goes through each drop.
+    may_answer_listing(profile, group, counts, visible, position, exchange, &listed)
 }
 
-/// Tells whether the spool permits the exchange, as [`may_answer`] does; `numbers`, `groups` and `overviews` are
-/// those that the answer lists.
+/// Tells whether the spool permits the exchange, as [`may_answer`] does; `listed` is what the answer lists.
 fn may_answer_listing<'a, A: Allocator + Copy, S: Allocator>(
     profile: Profile,
     group: &mut LastGroup<'_, S>,
@@ -143,15 +136,11 @@ fn may_answer_listing<'a, A: Allocator + Copy, S: Allocator>(
     visible: &Visible<A>,
     position: Position,
     exchange: &Exchange<'a>,
-    numbers: &[u64],
-    groups: &[ActiveLine<'a>],
-    overviews: &[OverviewLine<'a>],
+    listed: &Listed<'a, A>,
 ) -> Result<bool, AllocError>
     requires spool { IsSpool profile.limit group.old }
     requires counted { AreCounted group.old counts.old }
-    requires numbers { numbers.now ≡ numbers_of exchange.now.response }
-    requires groups { map active_value groups.now ≡ groups_of exchange.now.response }
-    requires overviews { map overview_value overviews.now ≡ overviews_in exchange.now.response }
+    requires listed { lists listed.now ≡ lists_of exchange.now.response }
     ensures spool { group.new ≡ group.old }
     ensures counted { IfOk result (λ _. AreCounted group.old counts.new) }
     ensures may { IfOk result (λ may. IsTrue may
@@ -159,11 +148,11 @@ fn may_answer_listing<'a, A: Allocator + Copy, S: Allocator>(
 {
     let prompt = exchange.prompt();
     let answer = exchange.answer();
-    let why = visible.misfit_as_read(profile, prompt, answer, numbers, groups, overviews)?;
+    let why = visible.misfit_as_read(profile, prompt, answer, listed)?;
     if visible.is_closed() || why.is_some() {
         return Ok(false);
     }
     let selected = visible.selected_name();
     let mut facts = facts_of(profile.marks, selected, position, prompt, answer);
-    hold(group, counts, numbers, groups, &mut facts)
+    hold(group, counts, listed.numbers(), listed.groups(), &mut facts)
 }

@@ -16,11 +16,9 @@ mod numbers;
 mod overviews;
 
 pub use codes::is_generic_failure;
-pub use groups::groups_listed;
 use marks::are_zeros;
 use nntp_wire::{Answer, Prompt, WaterMarks};
-pub use numbers::{is_article_number, numbers_listed};
-pub use overviews::overviews_listed;
+pub use numbers::is_article_number;
 use std::alloc::{AllocError, Allocator, Global};
 use std::collections::BTreeMap;
 use std::marker::Model;

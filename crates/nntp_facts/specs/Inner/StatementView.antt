@@ -4,7 +4,7 @@ use Rattle.nntp_theory.specs.Conflict.{Placed}
 use Rattle.nntp_facts.specs.declared.points.{Listing.{Listing}, Conflict.{Conflict}, Refusal.{Refusal}, statement.Statement.{Statement}}
 use Rattle.nntp_facts.specs.declared.points.{NumbersKind.{NumbersKind, TheVariants.{Number, Count, First}}, Kind.{Kind, TheVariants.{Step, Group, Numbers}}}
 use Rattle.nntp_facts.specs.{declared.points.Kind.TheVariants.{IdOf, PlaceOf, Article, HeadOf, BodyOf}, Inner.SayingView.{saying_of}, Standing.{stands_of}}
-use Rattle.nntp_article.specs.Session.Limit.{profile_of}
+use Rattle.nntp_article.specs.{Session.Limit.{profile_of}, Inner.Listed.{lists}}
 use Rattle.nntp_facts.specs.Inner.Points as points
 
 -- the rank of the points of a kind that are about numbers
@@ -26,7 +26,7 @@ rank_of BodyOf = 9
 
 -- an answer, and the numbers that it lists
 abbrev pub listing_of : {A : Type 0} → Listing A → Placed × List ℕ
-listing_of l = (stands_of l.answer.now, l.numbers.items)
+listing_of l = (stands_of l.answer.now, (lists l.listed).numbers)
 
 -- what an answer says, and the group of which it speaks
 abbrev pub statement_of : Statement → points.Statement

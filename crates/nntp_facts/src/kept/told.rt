@@ -17,7 +17,7 @@ ghost use Rattle.nntp_facts.specs.Standing.{stands_of};
 use crate::kept::Kept;
 use crate::placed::Placed;
 use crate::saying::Saying;
-use nntp_article::{groups_listed, numbers_listed};
+use nntp_article::Listed;
 use nntp_numbers::NumbersPart;
 use nntp_wire::{GroupName, Limit, Marks};
 use std::alloc::{AllocError, Allocator};
@@ -35,20 +35,19 @@ impl<A: Allocator + Copy> Kept<A> {
             → AreTold (profile_of limit marks) facts (told (profile_of limit marks) (stands_of answer.now)) self.new does) }
     {
         let response = answer.answer();
-        let numbers = numbers_listed(self.alloc, response)?;
-        let groups = groups_listed(self.alloc, response)?;
+        let listed = Listed::of(self.alloc, response)?;
         let saying = Saying::of(
             marks,
             answer.selected_name(),
             answer.position(),
             answer.prompt(),
             response,
-            &numbers,
+            listed.numbers(),
         );
         if !self.tell_group(limit, &saying, answer.selected())? {
             return Ok(false);
         }
-        self.note(&saying, &groups)
+        self.note(&saying, listed.groups())
     }
 
     /// Adds that there is the group of which the answer speaks, if it speaks of one and this stands

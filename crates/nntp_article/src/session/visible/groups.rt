@@ -2,15 +2,13 @@
 ghost use Rattle.std.specs.Prelude.{◌≡◌, IfOk, map, [], ◌∷◌};
 ghost use Rattle.nntp_wire.specs.Reason.{first};
 ghost use Rattle.nntp_wire.specs.Inner.View.{active_value};
-ghost use Rattle.nntp_wire.specs.Inner.AnswerView.{response};
 ghost use Rattle.nntp_article.specs.Session.Machine.{group_names};
 ghost use Rattle.nntp_article.specs.Session.Misfit.{active_marks_misfit, active_misfit, twice_misfit};
-ghost use Rattle.nntp_article.specs.Inner.Misfit.{groups_of};
 ghost use Rattle.nntp_article.specs.Inner.MisfitView.{why_if};
 
 use crate::session::misfit::Misfit;
 use crate::session::profile::Profile;
-use nntp_wire::{ActiveLine, Answer, Wildmat, matches_if_given};
+use nntp_wire::{ActiveLine, Wildmat, matches_if_given};
 use std::alloc::{AllocError, Allocator};
 use std::collections::BTreeSet;
 
@@ -45,28 +43,6 @@ fn active_misfit<'a>(
         return Some(Misfit::Unmatched(group.name.as_slice()));
     }
     None
-}
-
-/// Collects the groups that an answer lists: a 215 to LIST ACTIVE (RFC 3977, section 7.6.3). Another
-/// answer lists none.
-///
-/// # Errors
-///
-/// If memory is refused.
-pub fn groups_listed<'a, A: Allocator + Copy>(
-    alloc: A,
-    answer: &Answer<'a>,
-) -> Result<Vec<ActiveLine<'a>, A>, AllocError>
-    ensures { IfOk result (λ groups. map active_value groups.items ≡ groups_of (response answer.now)) }
-{
-    let mut groups = Vec::new(alloc);
-    let Answer::Active(block) = answer else {
-        return Ok(groups);
-    };
-    for group in block.groups() {
-        groups.push(group)?;
-    }
-    Ok(groups)
 }
 
 /// Why the listed groups don't fit the command, if they don't: the first that doesn't by itself, or

@@ -1,25 +1,23 @@
 //! Whether an answer fits what a session shows, and why not, a row of the machine's table at a time.
 ghost use Rattle.std.specs.Prelude.{◌≡◌, ℕ, List, map, IfOk, option_copied, false};
 ghost use Rattle.std.specs.Option.{option_map_or, option_or};
-ghost use Rattle.nntp_wire.specs.Inner.View.{active_value, asked, overview_value};
+ghost use Rattle.nntp_wire.specs.Inner.View.{active_value, asked};
 ghost use Rattle.nntp_wire.specs.Inner.AnswerView.{response};
 ghost use Rattle.nntp_wire.specs.Answer.{plain, sends, group_is, numbers_are, active_are};
 ghost use Rattle.nntp_wire.specs.Listing.{active_groups, listed_numbers};
 ghost use Rattle.nntp_article.specs.Session.Machine.{fits, is_same};
 ghost use Rattle.nntp_article.specs.Session.Misfit.{name_misfit, misfit};
-ghost use Rattle.nntp_article.specs.Inner.Misfit.{groups_of, numbers_of, overviews_in};
+ghost use Rattle.nntp_article.specs.Inner.Listed.{lists, lists_of};
 ghost use Rattle.nntp_article.specs.Inner.MisfitView.{why, why_if};
 
+use crate::session::listed::Listed;
 use crate::session::misfit::Misfit;
 use crate::session::profile::Profile;
 use crate::session::visible::Visible;
-use crate::session::visible::groups::{groups_listed, groups_misfit};
+use crate::session::visible::groups::groups_misfit;
 use crate::session::visible::heads::{head_misfit, is_same};
-use crate::session::visible::numbers::{numbers_listed, numbers_misfit};
-use crate::session::visible::overviews::overviews_listed;
-use nntp_wire::{
-    ActiveLine, Answer, Block, Command, OverviewLine, Prompt, WaterMarks, success_code,
-};
+use crate::session::visible::numbers::numbers_misfit;
+use nntp_wire::{ActiveLine, Answer, Block, Command, Prompt, WaterMarks, success_code};
 use std::alloc::{AllocError, Allocator};
 
 impl<A: Allocator + Copy> Visible<A> {
@@ -56,15 +54,13 @@ impl<A: Allocator + Copy> Visible<A> {
     ) -> Result<Option<Misfit<'a>>, AllocError>
         ensures { IfOk result (λ reason. why_if reason ≡ misfit profile self.now (asked prompt.now) (response answer.now)) }
     {
-        let numbers = numbers_listed(self.alloc, answer)?;
-        let groups = groups_listed(self.alloc, answer)?;
-        let overviews = overviews_listed(self.alloc, answer)?;
-        self.misfit_as_read(profile, prompt, answer, &numbers, &groups, &overviews)
+        let listed = Listed::of(self.alloc, answer)?;
+        self.misfit_as_read(profile, prompt, answer, &listed)
     }
 
-    /// Why the answer can't follow the prompt, as [`misfit`](Visible::misfit) tells, where the numbers,
-    /// the groups and the overviews that it lists were read before. Only the names of these groups, and
-    /// the numbers and ids of these overviews, need memory.
+    /// Why the answer can't follow the prompt, as [`misfit`](Visible::misfit) tells, where what it lists
+    /// was read before. Only the names of these groups, and the numbers and ids of these overviews, need
+    /// memory.
     ///
     /// # Errors
     ///
@@ -74,13 +70,9 @@ impl<A: Allocator + Copy> Visible<A> {
         profile: Profile,
         prompt: &Prompt<'_>,
         answer: &Answer<'a>,
-        numbers: &[u64],
-        groups: &[ActiveLine<'a>],
-        overviews: &[OverviewLine<'a>],
+        listed: &Listed<'a, A>,
     ) -> Result<Option<Misfit<'a>>, AllocError>
-        requires numbers { numbers.now ≡ numbers_of (response answer.now) }
-        requires groups { map active_value groups.now ≡ groups_of (response answer.now) }
-        requires overviews { map overview_value overviews.now ≡ overviews_in (response answer.now) }
+        requires listed { lists listed.now ≡ lists_of (response answer.now) }
         ensures { IfOk result (λ reason. why_if reason ≡ misfit profile self.now (asked prompt.now) (response answer.now)) }
     {
         match answer {
@@ -89,6 +81,7 @@ impl<A: Allocator + Copy> Visible<A> {
                 Ok(self.group_misfit(profile, prompt, *marks, name.as_slice()))
             }
             Answer::Numbers { marks, name, .. } => {
+                let numbers = listed.numbers();
                 Ok(self.numbers_misfit(profile, prompt, *marks, name.as_slice(), numbers))
             }
             Answer::Sent {
@@ -97,8 +90,8 @@ impl<A: Allocator + Copy> Visible<A> {
                 id,
                 block,
             } => Ok(self.sent_misfit(profile, prompt, *code, *number, id.as_slice(), block)),
-            Answer::Active(_) => self.active_misfit(profile, prompt, groups),
-            Answer::Overviews(_) => self.overviews_misfit(profile, prompt, overviews),
+            Answer::Active(_) => self.active_misfit(profile, prompt, listed.groups()),
+            Answer::Overviews(_) => { self.overviews_misfit(profile, prompt, listed.overviews()) }
         }
     }
 

@@ -1,19 +1,17 @@
 //! Article numbers of answers (RFC 3977, section 6.1).
-ghost use Rattle.std.specs.Prelude.{◌≡◌, ◌∷◌, [], is_some, map, None, IfOk};
+ghost use Rattle.std.specs.Prelude.{◌≡◌, ◌∷◌, [], is_some, map, None};
 ghost use Rattle.nntp_wire.specs.Inner.View.{target};
-ghost use Rattle.nntp_wire.specs.Inner.AnswerView.{response};
 ghost use Rattle.nntp_wire.specs.Reason.{first};
 ghost use Rattle.nntp_article.specs.Session.Machine.{is_article_number, is_in_range};
 ghost use Rattle.nntp_article.specs.Session.Misfit.{step_misfit, order_misfit, listed_misfit, selected_misfit, id_misfit, target_misfit};
-ghost use Rattle.nntp_article.specs.Inner.Misfit.{numbers_of};
 ghost use Rattle.nntp_article.specs.Inner.MisfitView.{why, why_if};
 
 use crate::session::misfit::Misfit;
 use crate::session::profile::Profile;
 use crate::session::visible::Visible;
 use crate::session::visible::heads::is_same;
-use nntp_wire::{Answer, Range, Which};
-use std::alloc::{AllocError, Allocator};
+use nntp_wire::{Range, Which};
+use std::alloc::Allocator;
 
 /// Whether the number is an article number, where `limit` is the greatest (RFC 3977, section 6).
 pub fn is_article_number(limit: u64, number: u64) -> bool
@@ -54,28 +52,6 @@ fn listed_misfit(limit: u64, range: Range, number: u64) -> Option<Misfit<'static
         return Some(Misfit::BeyondRange(number));
     }
     None
-}
-
-/// Collects the numbers that an answer lists: a 211 to LISTGROUP (RFC 3977, section 6.1.2). Another
-/// answer lists none.
-///
-/// # Errors
-///
-/// If memory is refused.
-pub fn numbers_listed<A: Allocator + Copy>(
-    alloc: A,
-    answer: &Answer<'_>,
-) -> Result<Vec<u64, A>, AllocError>
-    ensures { IfOk result (λ numbers. numbers.items ≡ numbers_of (response answer.now)) }
-{
-    let mut numbers = Vec::new(alloc);
-    let Answer::Numbers { block, .. } = answer else {
-        return Ok(numbers);
-    };
-    for number in block.numbers() {
-        numbers.push(number)?;
-    }
-    Ok(numbers)
 }
 
 /// Why the listed numbers don't fit the range that was asked for, if they don't: the first that isn't

@@ -4,43 +4,17 @@ ghost use Rattle.nntp_wire.specs.Answer.{overviews_are};
 ghost use Rattle.nntp_wire.specs.Command.{in_range};
 ghost use Rattle.nntp_wire.specs.Listing.{overviews_of};
 ghost use Rattle.nntp_wire.specs.Inner.View.{asked, overview_value, overviewed, target};
-ghost use Rattle.nntp_wire.specs.Inner.AnswerView.{response};
 ghost use Rattle.nntp_article.specs.Session.Machine.{overview_numbers, overview_ids, only, may_list};
 ghost use Rattle.nntp_article.specs.Session.Misfit.{misfit, overview_misfit, overviews_misfit, twice_misfit};
-ghost use Rattle.nntp_article.specs.Inner.Misfit.{overviews_in};
 ghost use Rattle.nntp_article.specs.Inner.MisfitView.{why, why_if};
 
 use crate::session::misfit::Misfit;
 use crate::session::profile::Profile;
 use crate::session::visible::Visible;
 use crate::session::visible::numbers::numbers_misfit;
-use nntp_wire::{
-    Answer, Command, OverviewKeyword, OverviewLine, Prompt, Range, Which, WhichArticles,
-};
+use nntp_wire::{Command, OverviewKeyword, OverviewLine, Prompt, Range, Which, WhichArticles};
 use std::alloc::{AllocError, Allocator};
 use std::collections::BTreeSet;
-
-/// Collects the overviews that an answer lists: a 224 to OVER or XOVER (RFC 3977, section 8.3). Another
-/// answer lists none.
-///
-/// # Errors
-///
-/// If memory is refused.
-pub fn overviews_listed<'a, A: Allocator + Copy>(
-    alloc: A,
-    answer: &Answer<'a>,
-) -> Result<Vec<OverviewLine<'a>, A>, AllocError>
-    ensures { IfOk result (λ overviews. map overview_value overviews.items ≡ overviews_in (response answer.now)) }
-{
-    let mut overviews = Vec::new(alloc);
-    let Answer::Overviews(block) = answer else {
-        return Ok(overviews);
-    };
-    for overview in block.overviews() {
-        overviews.push(overview)?;
-    }
-    Ok(overviews)
-}
 
 /// Collects the numbers of overviews.
 fn overview_numbers<A: Allocator + Copy>(

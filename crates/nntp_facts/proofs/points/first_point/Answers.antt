@@ -13,7 +13,7 @@ returns-in-Some g c profile all held =
     let t = statement_of c.of-told.result in
     let tells = subst (λ a. TellsAlone profile t (told profile a)) (ap (λ (p : Placed × List ℕ). p.0) held.listed)
     (c.of-told.ensures profile (ap (λ p. p.marks) (sym held.judged)) (subst (FitsThere profile) (sym (ap (λ (p : Placed × List ℕ). p.0) held.listed)) held.fits)
-    (c.deref.ensures.value ∙ ap (λ (p : Placed × List ℕ). p.1) held.listed ∙ ap (λ (p : Placed × List ℕ). numbers_of p.0.response) (sym held.listed))) in
+    (c.numbers.ensures ∙ ap (λ (p : Placed × List ℕ). p.1) held.listed ∙ ap (λ (p : Placed × List ℕ). numbers_of p.0.response) (sym held.listed))) in
     given_there (held.facts ++ told profile held.last) all _ i c.in_ok-point.field-0 c.in-Some.point held.whole c.in-Some.is (kind_ranked i _ c.loop-kind-test.true) before
     (c.in_ok-point.ensures profile held.facts (told profile held.last) (ap (λ p. p.limit) (sym held.judged)) (beside profile all here held t tells)
     (moved_before (held.facts ++ told profile held.last) all _ i held.whole (kind_ranked i _ c.loop-kind-test.true) before))
@@ -26,7 +26,7 @@ loop-kind-preserved g c profile all held =
     let t = statement_of c.of-told.result in
     let tells = subst (λ a. TellsAlone profile t (told profile a)) (ap (λ (p : Placed × List ℕ). p.0) held.listed)
     (c.of-told.ensures profile (ap (λ p. p.marks) (sym held.judged)) (subst (FitsThere profile) (sym (ap (λ (p : Placed × List ℕ). p.0) held.listed)) held.fits)
-    (c.deref.ensures.value ∙ ap (λ (p : Placed × List ℕ). p.1) held.listed ∙ ap (λ (p : Placed × List ℕ). numbers_of p.0.response) (sym held.listed))) in
+    (c.numbers.ensures ∙ ap (λ (p : Placed × List ℕ). p.1) held.listed ∙ ap (λ (p : Placed × List ℕ). numbers_of p.0.response) (sym held.listed))) in
     none_there (held.facts ++ told profile held.last) all _ i c.in_ok-point.field-0 held.whole c.in_default.is (kind_ranked i _ c.loop-kind-test.true) before
     (c.in_ok-point.ensures profile held.facts (told profile held.last) (ap (λ p. p.limit) (sym held.judged)) (beside profile all here held t tells)
     (moved_before (held.facts ++ told profile held.last) all _ i held.whole (kind_ranked i _ c.loop-kind-test.true) before))
@@ -39,5 +39,5 @@ returns g c profile all held =
     let t = statement_of c.of-told.result in
     let tells = subst (λ a. TellsAlone profile t (told profile a)) (ap (λ (p : Placed × List ℕ). p.0) held.listed)
     (c.of-told.ensures profile (ap (λ p. p.marks) (sym held.judged)) (subst (FitsThere profile) (sym (ap (λ (p : Placed × List ℕ). p.0) held.listed)) held.fits)
-    (c.deref.ensures.value ∙ ap (λ (p : Placed × List ℕ). p.1) held.listed ∙ ap (λ (p : Placed × List ℕ). numbers_of p.0.response) (sym held.listed))) in
+    (c.numbers.ensures ∙ ap (λ (p : Placed × List ℕ). p.1) held.listed ∙ ap (λ (p : Placed × List ℕ). numbers_of p.0.response) (sym held.listed))) in
     held.conflict (all_formed profile all here held t tells) (nowhere all i c.loop-kind-test.false before)

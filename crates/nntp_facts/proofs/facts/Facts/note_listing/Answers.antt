@@ -1,7 +1,7 @@
 use Rattle.std.proofs.{Common.{◌≡◌, true, false, Option, None, Some, is_some, refl, sym, ap, subst, ◌∙◌}, Math.Path.{ap₂}, lemmas.Bool.{true≢false}}
 use Rattle.std.specs.Prelude.{is_none}
 use Rattle.nntp_wire.specs.Inner.{View.{asked}, AnswerView.{response}}
-use Rattle.nntp_article.{specs.{Session.Machine.{visible_after}, Inner.Misfit.{numbers_of, groups_of}}, proofs.SessionLemmas.Misfits.{fits_by_reason}}
+use Rattle.nntp_article.{specs.{Session.Machine.{visible_after}, Inner.{Misfit.{numbers_of, groups_of}, Listed.{Lists}}}, proofs.SessionLemmas.Misfits.{fits_by_reason}}
 use Rattle.nntp_said.specs.Asks.{position_after}
 use Rattle.nntp_facts.{specs.Inner.{SayingView.{saying_of}, Noted.{profile_kept, HasNotedBehind}}, proofs.Keeping.NotedExchange.{Adds, unfit, weighed, refused}}
 use Rattle.nntp_facts.proofs.Keeping.NotedExchange.{accepted}
@@ -35,8 +35,8 @@ returns-then-not-branch g c profile earlier past stands =
     (c.profile-profile.ensures ∙ ap profile_kept (sym c.self.view_is))
     (fits_by_reason c.profile-profile.result c.self.inside.visible (asked c.prompt-prompt.result.now) (response c.answer-answer.result.now) c.in_ok-why.why c.in_ok-why.ensures)
     (no_reason c.in_ok-why.why (sym c.is_some.ensures ∙ c.if-is_some.false))
-    c.selected_name-here.ensures (c.requires.numbers ∙ ap numbers_of (sym says.value)) c.of-saying.ensures.tells in
-    let adds = c.in_ok-note.ensures (c.of-saying.ensures.groups _ (c.requires.groups ∙ ap groups_of (sym says.value))) in
+    c.selected_name-here.ensures (c.numbers-numbers.ensures ∙ ap (λ (l : Lists). l.numbers) c.requires.listed ∙ ap numbers_of (sym says.value)) c.of-saying.ensures.tells in
+    let adds = c.in_ok-note.ensures (c.of-saying.ensures.groups _ (c.groups.ensures ∙ ap (λ (l : Lists). l.groups) c.requires.listed ∙ ap groups_of (sym says.value))) in
     refused profile _ _ c.note.new.self earlier past pair saying is w before (subst (Adds c.self.inside.kept c.note.new.self saying) c.if-not-branch.true adds)
 
 pub returns : goal.returns
@@ -50,8 +50,8 @@ returns g c profile earlier past stands =
     (c.profile-profile.ensures ∙ ap profile_kept (sym c.self.view_is))
     (fits_by_reason c.profile-profile.result c.self.inside.visible (asked c.prompt-prompt.result.now) (response c.answer-answer.result.now) c.in_ok-why.why c.in_ok-why.ensures)
     (no_reason c.in_ok-why.why (sym c.is_some.ensures ∙ c.if-is_some.false))
-    c.selected_name-here.ensures (c.requires.numbers ∙ ap numbers_of (sym says.value)) c.of-saying.ensures.tells in
-    let adds = c.in_ok-note.ensures (c.of-saying.ensures.groups _ (c.requires.groups ∙ ap groups_of (sym says.value))) in
+    c.selected_name-here.ensures (c.numbers-numbers.ensures ∙ ap (λ (l : Lists). l.numbers) c.requires.listed ∙ ap numbers_of (sym says.value)) c.of-saying.ensures.tells in
+    let adds = c.in_ok-note.ensures (c.of-saying.ensures.groups _ (c.groups.ensures ∙ ap (λ (l : Lists). l.groups) c.requires.listed ∙ ap groups_of (sym says.value))) in
     accepted profile _ c.args.self.now _ earlier past pair saying w before (record {
       limit = refl;
       marks = refl;

@@ -1,6 +1,5 @@
-use Rattle.std.proofs.Common.{map, ap, sym, subst, ◌∙◌, refl}
-use Rattle.nntp_wire.specs.Inner.View.{active_value}
-use Rattle.nntp_article.specs.Session.{Limit.{profile_of}, Machine.{start}}
+use Rattle.std.proofs.Common.{ap, sym, subst, ◌∙◌, refl}
+use Rattle.nntp_article.specs.{Session.{Limit.{profile_of}, Machine.{start}}, Inner.Listed.{Lists}}
 use Rattle.nntp_said.specs.Facts.{group_of}
 use Rattle.nntp_theory.{specs.Conflict.{said, the_group}, proofs.OkResults.{if_ok}}
 use Rattle.nntp_facts.specs.{Inner.{Kept.{AreAdded}, Saying.{TellsThere}, SayingView.{saying_of}}, Standing.{stands_of}}
@@ -14,7 +13,7 @@ returns-then-not-branch g c facts kept together fit =
     let saying = saying_of c.of-saying.result in
     let own = said profile.marks a in
     let there = there_told profile a _ _ _ _ _ saying fit c.prompt.ensures c.answer-response.ensures.value c.position.ensures
-    c.selected_name.ensures.value (c.deref.ensures.value ∙ c.in_ok-numbers.ensures) c.of-saying.ensures.tells in
+    c.selected_name.ensures.value (c.numbers.ensures ∙ ap (λ (l : Lists). l.numbers) c.in_ok-listed.ensures) c.of-saying.ensures.tells in
     let group = c.in_ok-tell_group.ensures profile facts own refl kept together (subst (λ o. TellsThere o saying own) (sym c.selected.ensures) there) in
     group_refused profile a facts together c.tell_group.new.self
     (subst (λ does. AreAdded facts (the_group profile (group_of own)) c.args.self.now c.tell_group.new.self does)
@@ -27,9 +26,9 @@ returns g c = if_ok c.note.result (λ does adds facts kept together fit.
     let saying = saying_of c.of-saying.result in
     let own = said profile.marks a in
     let there = there_told profile a _ _ _ _ _ saying fit c.prompt.ensures c.answer-response.ensures.value c.position.ensures
-    c.selected_name.ensures.value (c.deref.ensures.value ∙ c.in_ok-numbers.ensures) c.of-saying.ensures.tells in
+    c.selected_name.ensures.value (c.numbers.ensures ∙ ap (λ (l : Lists). l.numbers) c.in_ok-listed.ensures) c.of-saying.ensures.tells in
     let group = subst (λ does. AreAdded facts (the_group profile (group_of own)) c.args.self.now c.tell_group.new.self does) c.if-not-branch.false
     (c.in_ok-tell_group.ensures profile facts own refl kept together (subst (λ o. TellsThere o saying own) (sym c.selected.ensures) there)) in
     let formed = c.answer-response.ensures.well_formed profile.marks (record start.visible { selected = a.selected }) a.position in
     answer_told profile a facts together c.tell_group.new.self c.note.new.self saying does group.0 group.1 formed c.answer-response.ensures.few_lines there
-    (adds (c.of-saying.ensures.groups _ (ap (map active_value) c.deref-2.ensures.value ∙ c.in_ok-groups.ensures)))) c.note.ensures
+    (adds (c.of-saying.ensures.groups _ (c.groups.ensures ∙ ap (λ (l : Lists). l.groups) c.in_ok-listed.ensures)))) c.note.ensures
