@@ -1,20 +1,21 @@
 //! What each kind of answer says of the spool (RFC 3977, sections 6 and 7.6.3).
-ghost use Rattle.std.specs.Prelude.{◌≡◌, ℕ};
+ghost use Rattle.std.specs.Prelude.{◌≡◌, ℕ, [], ◌∷◌};
 ghost use Rattle.nntp_wire.specs.declared.marks.Marks.{Marks};
 ghost use Rattle.nntp_wire.specs.Inner.View.{asked, request, target};
 ghost use Rattle.nntp_wire.specs.Inner.AnswerView.{response};
 ghost use Rattle.nntp_wire.specs.Answer.{to, sends};
 ghost use Rattle.nntp_wire.specs.Command.{retrieve};
+ghost use Rattle.nntp_wire.specs.Listing.{listed_numbers};
 ghost use Rattle.nntp_article.specs.Session.Machine.{Visible};
-ghost use Rattle.nntp_said.specs.Asks.{Estimates};
-ghost use Rattle.nntp_said.specs.Facts.{Asks, here, facts_of, facts_of_code};
-ghost use Rattle.nntp_said.specs.Inner.FactView.{fact_of};
+ghost use Rattle.nntp_said.specs.Asks.{Estimates, ListsIn};
+ghost use Rattle.nntp_said.specs.Facts.{Asks, IdAt, ThereIs, here, facts_of, facts_of_code};
+ghost use Rattle.nntp_said.specs.Inner.FactView.{ask_of, fact_of};
 
 use crate::fact::{Ask, Fact};
 use crate::position::Position;
 use crate::said_facts::SaidFacts;
 use nntp_wire::{
-    Answer, Block, Command, GroupName, Marks, MessageId, Prompt, WaterMarks, What, Which,
+    Answer, Block, Command, GroupName, Marks, MessageId, Prompt, Range, WaterMarks, What, Which,
 };
 
 /// Returns what an answer says where marks are read so, this group is selected, and the session
@@ -32,31 +33,18 @@ pub fn facts_of<'s>(
         (Prompt::To(command), Answer::Plain { code }) => {
             facts_of_code(selected, at, command, *code)
         }
-        (Prompt::To(Command::Group(_)), Answer::Group { marks, name }) => SaidFacts::two(
-            Fact::ThereIs(name),
-            of_marks(how, name, *marks),
-        ),
-        (Prompt::To(Command::ListGroup { range, .. }), Answer::Numbers { marks, name, block }) => {
-            SaidFacts::three(
-                Fact::ThereIs(name),
-                of_marks(how, name, *marks),
-                Fact::Asks(
-                    name.as_slice(),
-                    Ask::Lists {
-                        range: *range,
-                        block,
-                    },
-                ),
-            )
+        (Prompt::To(Command::Group(_)), Answer::Group { marks, name }) => {
+            facts_of_group(how, *marks, name)
         }
-        (Prompt::To(Command::Next), Answer::Sent { number, id, .. }) => SaidFacts::two(
-            Fact::Asks(selected, Ask::StepsUp(at, *number)),
-            Fact::IdAt(selected, *number, id),
-        ),
-        (Prompt::To(Command::Last), Answer::Sent { number, id, .. }) => SaidFacts::two(
-            Fact::Asks(selected, Ask::StepsDown(at, *number)),
-            Fact::IdAt(selected, *number, id),
-        ),
+        (Prompt::To(Command::ListGroup { range, .. }), Answer::Numbers { marks, name, block }) => {
+            facts_of_numbers(how, *marks, name, *range, block)
+        }
+        (Prompt::To(Command::Next), Answer::Sent { number, id, .. }) => {
+            facts_of_step(selected, Ask::StepsUp(at, *number), *number, id)
+        }
+        (Prompt::To(Command::Last), Answer::Sent { number, id, .. }) => {
+            facts_of_step(selected, Ask::StepsDown(at, *number), *number, id)
+        }
         (
             Prompt::To(Command::Retrieve { what, which }),
             Answer::Sent {
@@ -71,6 +59,42 @@ pub fn facts_of<'s>(
         }
         _ => SaidFacts::none(),
     }
+}
+
+/// Returns what a success of GROUP says.
+fn facts_of_group<'s>(how: Marks, marks: WaterMarks, name: &'s GroupName<'s>) -> SaidFacts<'s>
+    ensures { result ≡ ThereIs name.now ∷ Asks name.now (Estimates how marks) ∷ [] }
+{
+    SaidFacts::two(Fact::ThereIs(name), of_marks(how, name, marks))
+}
+
+/// Returns what a success of LISTGROUP says.
+fn facts_of_numbers<'s>(
+    how: Marks,
+    marks: WaterMarks,
+    name: &'s GroupName<'s>,
+    range: Range,
+    block: &'s Block<'s>,
+) -> SaidFacts<'s>
+    ensures { result ≡ ThereIs name.now ∷ Asks name.now (Estimates how marks) ∷ Asks name.now (ListsIn range (listed_numbers block.now)) ∷ [] }
+{
+    SaidFacts::three(
+        Fact::ThereIs(name),
+        of_marks(how, name, marks),
+        Fact::Asks(name.as_slice(), Ask::Lists { range, block }),
+    )
+}
+
+/// Returns what a success of NEXT or LAST says, which asks this of the numbers of the selected group.
+fn facts_of_step<'s>(
+    selected: &'s [u8],
+    ask: Ask<'s>,
+    number: u64,
+    id: &'s MessageId<'s>,
+) -> SaidFacts<'s>
+    ensures { result ≡ Asks selected.now (ask_of ask.entry) ∷ IdAt selected.now number id.now ∷ [] }
+{
+    SaidFacts::two(Fact::Asks(selected, ask), Fact::IdAt(selected, number, id))
 }
 
 /// Returns what the estimate and the water marks of a group say, where they are read so.
@@ -98,14 +122,19 @@ fn facts_of_code<'s>(
             },
             411,
         ) => SaidFacts::one(Fact::ThereIsNo(*word)),
-        (Command::Next | Command::Last, 420) => {
-            SaidFacts::one(Fact::Asks(selected, Ask::StandsNowhere(at)))
-        }
-        (Command::Next, 421) => SaidFacts::one(Fact::Asks(selected, Ask::IsTop(at))),
-        (Command::Last, 422) => SaidFacts::one(Fact::Asks(selected, Ask::IsBottom(at))),
+        (Command::Next | Command::Last, 420) => asks(selected, Ask::StandsNowhere(at)),
+        (Command::Next, 421) => asks(selected, Ask::IsTop(at)),
+        (Command::Last, 422) => asks(selected, Ask::IsBottom(at)),
         (Command::Retrieve { which, .. }, code) => facts_of_failure(selected, at, which, code),
         _ => SaidFacts::none(),
     }
+}
+
+/// Returns that this is asked of the numbers of the selected group, and nothing else.
+fn asks<'s>(selected: &'s [u8], ask: Ask<'s>) -> SaidFacts<'s>
+    ensures { result ≡ Asks selected.now (ask_of ask.entry) ∷ [] }
+{
+    SaidFacts::one(Fact::Asks(selected, ask))
 }
 
 /// Returns what a failure of ARTICLE, HEAD, BODY or STAT says.
@@ -119,10 +148,8 @@ fn facts_of_failure<'s>(
 {
     match (which, code) {
         (Which::Id(word), 430) => SaidFacts::one(Fact::NoArticle(*word)),
-        (Which::Number(Some(number)), 423) => {
-            SaidFacts::one(Fact::Asks(selected, Ask::Lacks(*number)))
-        }
-        (Which::Current, 420) => SaidFacts::one(Fact::Asks(selected, Ask::StandsNowhere(at))),
+        (Which::Number(Some(number)), 423) => { asks(selected, Ask::Lacks(*number)) }
+        (Which::Current, 420) => asks(selected, Ask::StandsNowhere(at)),
         _ => SaidFacts::none(),
     }
 }
