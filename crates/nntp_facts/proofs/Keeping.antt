@@ -4,6 +4,7 @@ pub mod CoresFound
 pub mod CountedGroups
 pub mod FactsOfOneGroup
 pub mod FactsOfParts
+pub mod FactsSaid
 pub mod FittingAnswers
 pub mod GroupReaders
 pub mod HeldAnswers

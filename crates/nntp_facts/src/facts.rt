@@ -22,7 +22,6 @@ use crate::facts_error::FactsError;
 use crate::kept::Kept;
 use crate::placed::Placed;
 use crate::points::Refusal;
-use crate::saying::Saying;
 use crate::shown_groups::{ShownGroup, ShownGroups};
 use crate::taken_groups::TakenGroups;
 use nntp_article::{Listed, Misfit, Profile, Visible};
@@ -191,8 +190,12 @@ impl<A: Allocator + Copy> Facts<A> {
         }
         let here = self.visible.selected_name();
         let numbers = listed.numbers();
-        let saying = Saying::of(self.marks, here, self.position, prompt, answer, numbers);
-        if !self.kept.note(&saying, listed.groups())? {
+        let groups = listed.groups();
+        let (how, at) = (self.marks, self.position);
+        if !self
+            .kept
+            .note_answer(how, here, at, prompt, answer, numbers, groups)?
+        {
             return Ok(Noted::Contradiction);
         }
         self.visible.advance(prompt, answer)?;

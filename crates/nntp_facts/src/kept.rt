@@ -21,6 +21,7 @@ ghost use Rattle.nntp_facts.specs.Inner.Readers.{shown_groups, shown_articles};
 ghost use Rattle.nntp_facts.specs.Inner.KeptSaying.{GroupJoins, JoinGroups, IsTextOf, IsThereAlready, MayBeSaid, IsArticleAdded};
 
 mod listed_groups;
+mod noted;
 mod points;
 mod told;
 

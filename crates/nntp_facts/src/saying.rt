@@ -142,13 +142,14 @@ impl<'s> Saying<'s> {
     }
 
     /// Returns what these facts say; `shown` are the numbers that their answer shows.
-    fn by(facts: SaidFacts<'s>, shown: &'s [u64]) -> Saying<'s>
+    pub(crate) fn by(mut facts: SaidFacts<'s>, shown: &'s [u64]) -> Saying<'s>
         ensures says { saying_of result ≡ saying_by shown.now nothing facts.entry }
         ensures small { HasSmall (saying_of result) }
     {
         let mut saying = NOTHING;
-        for fact in facts {
-            saying.add(fact, shown);
+        while let Some(fact) = facts.first() {
+            saying.add(*fact, shown);
+            facts.pass_first();
         }
         saying
     }
@@ -249,7 +250,7 @@ impl<'s> Saying<'s> {
 }
 
 /// Returns the numbers that an answer shows: the one that it gives, or those that it lists.
-fn numbers_shown<'s>(answer: &'s Answer<'s>, listed: &'s [u64]) -> &'s [u64]
+pub(crate) fn numbers_shown<'s>(answer: &'s Answer<'s>, listed: &'s [u64]) -> &'s [u64]
     ensures { result.now ≡ numbers_shown listed.now (response answer.now) }
 {
     match answer {

@@ -1,18 +1,18 @@
 -- Noting an exchange behind earlier sessions: when it is permitted behind those that were accepted, and what stands then.
 use Rattle.nntp_wire.specs.Answer.{Asked, Response}
-use Rattle.std.proofs.Common.{◌≡◌, ℕ, ◌+◌, ◌<◌, ◌^◌, ◌↔◌, Bool, false, true, IsTrue, List, [], ◌∷◌, ◌++◌, map, Option, None, Some, IfSome, refl, sym, ap, ap₂}
+use Rattle.std.proofs.Common.{◌≡◌, ◌+◌, ◌<◌, ◌^◌, ◌↔◌, Bool, false, true, IsTrue, List, [], ◌∷◌, ◌++◌, map, Option, None, Some, IfSome, refl, sym, ap, ap₂}
 use Rattle.std.{proofs.Common.{subst, ◌∙◌, arith, append_assoc, length-append}, specs.{Prelude.{IsFalse}, List.{AllByRecursion, list_any}}}
-use Rattle.nntp_article.specs.Session.{Limit.{profile_of}, Spool.{Name}, Machine.{Visible, start, fits, visible_after}}
-use Rattle.nntp_article.specs.{declared.session.profile.Profile.{Profile}, Inner.Misfit.{numbers_of}}
+use Rattle.nntp_article.specs.Session.{Limit.{profile_of}, Spool.{Name}, Machine.{start, fits, visible_after}}
+use Rattle.nntp_article.specs.{declared.session.profile.Profile.{Profile}}
 use Rattle.nntp_pair.specs.{Pairing.{Paired, asked_at, asked_of, responses_of}, Inner.Pairing.{IsSpelled, lines_in}}
-use Rattle.nntp_said.specs.{Asks.{position_after}, declared.position.Position.TheVariants.{Nowhere}, Facts.{Fact, here, facts_of}, Inner.Facts.{FitsAll}}
+use Rattle.nntp_said.specs.{Asks.{position_after}, declared.position.Position.TheVariants.{Nowhere}, Facts.{Fact, facts_of}, Inner.Facts.{FitsAll}}
 use Rattle.nntp_theory.specs.{Given.{facts_of_session, shows_group}, Inner.{Given.{size}, Together.{IsWellFormed, Together, Join}, Exchanged.{said_by}}}
 use Rattle.nntp_theory.specs.{Inner.Exchanged.{said_behind, AreFew}, Answered.{Answered, SomePermitsEach, facts_of_all}, Classes.{visible_from, position_from}}
 use Rattle.nntp_theory.specs.{Permitted.{exchanged, ArePermittedBehind}, declared.noted.Noted.TheVariants.{Consistent, OutOfPlace, Contradiction}}
 use Rattle.nntp_theory.proofs.{Members.{all_both, all_back, any_back}, Session.PairsGoOn.{MayFollow, of_these, permitted_next, facts_next, visible_next}}
 use Rattle.nntp_theory.proofs.{Session.PairsGoOn.{position_next, as_many, ends, with_pair}, Given.{SessionsByFacts.{stand_each}, SessionsGoOn.{facts_behind}}}
 use Rattle.nntp_theory.proofs.{Given.SessionsGoOn.{small_behind}, Together.WellFormed.{spelled_formed}}
-use Rattle.nntp_facts.specs.Inner.{Kept.{Kept, IsKept, AreAdded}, Saying.{Saying, IsSelectedShown, Tells, TellsHere}, Noted.{FactsKept, HasNotedBehind, IsDue}}
+use Rattle.nntp_facts.specs.Inner.{Kept.{Kept, IsKept, AreAdded}, Saying.{Saying, IsSelectedShown, Tells}, Noted.{FactsKept, HasNotedBehind, IsDue}}
 use Rattle.nntp_facts.{specs.Inner.Noted.{MayBeNoted, said_then, IsNotedBehind}, proofs.Keeping.SelectedGroupIsShown.{selected_shown}}
 
 -- ---- one exchange more
@@ -128,11 +128,10 @@ module _ (profile : Profile) (facts : FactsKept) (earlier : List (List Paired)) 
 
 -- ---- what is weighed
 
--- an exchange that may be noted, and what its answer says
-pub record Weighed (profile : Profile) (facts : FactsKept) (pair : Paired) (saying : Saying) : Type 0 where
+-- an exchange that may be noted, and what spells its answer
+pub record Weighed (profile : Profile) (facts : FactsKept) (pair : Paired) : Type 0 where
   pub may : MayBeNoted profile facts pair
   pub spelled : IsSpelled pair.place pair.initial pair.response
-  pub tells : (all : List Fact) → IsSelectedShown facts.visible all → Tells all saying (said_then profile facts pair)
 
 -- whether it fits is what was tested
 tested_it : (profile used : Profile) (facts : FactsKept) (pair : Paired) (asked : Asked) (response : Response) (does : Bool) → profile_of facts.limit facts.marks ≡ profile
@@ -153,22 +152,15 @@ unfit profile used facts old earlier past pair asked response does is s to by ju
 
 -- so it is, by what is said of the calls
 pub weighed : (profile used : Profile) (facts old : FactsKept) (pair : Paired) (asked : Asked)
-    (response : Response) (saying : Saying) (name : Name) (numbers : List ℕ) (does : Bool)
+    (response : Response) (does : Bool)
     → facts ≡ old → profile_of facts.limit facts.marks ≡ profile → IsDue old pair → pair.index < 2 ^ 63 → lines_in pair.response < 2 ^ 64 → IsSpelled pair.place pair.initial pair.response
     → asked ≡ asked_at pair.place → response ≡ pair.response → used ≡ profile_of facts.limit facts.marks → does ≡ fits used facts.visible asked response → does ≡ true
-    → name ≡ here facts.visible → numbers ≡ numbers_of response
-    → ((profile : Profile) (v : Visible) (all : List Fact) → IsTrue (fits profile v asked response) → IsSelectedShown v all → name ≡ here v → numbers ≡ numbers_of response
-    → TellsHere name all saying (facts_of facts.marks v facts.position asked response))
-    → Weighed profile facts pair saying
-weighed profile used facts old pair asked response saying name numbers does is profile_is due low few spelled to by judged tested fitting named listed tells =
+    → Weighed profile facts pair
+weighed profile used facts old pair asked response does is profile_is due low few spelled to by judged tested fitting =
     let fits_it = tested_it profile used facts pair asked response does profile_is to by judged tested ∙ fitting in
     record {
       may = record { due = subst (λ facts. IsDue facts pair) (sym is) due; low = low; few = few; fitting = fits_it };
       spelled = spelled;
-      tells = λ all shown.
-          subst (λ (profile : Profile). Tells all saying (said_then profile facts pair)) profile_is
-          (subst (Tells all saying) (ap₂ (λ asked response. facts_of facts.marks facts.visible facts.position asked response) to by)
-          (tells profile facts.visible all (ap₂ (λ asked response. fits profile facts.visible asked response) to by ∙ fits_it) shown named listed).tells);
     }
 
 -- ---- what is added
@@ -177,25 +169,32 @@ weighed profile used facts old pair asked response saying name numbers does is p
 abbrev pub Adds : Kept → Kept → Saying → Bool → Type 0
 Adds old new saying does = (facts more : List Fact) → IsKept facts old → Together facts → AllByRecursion IsWellFormed more → Tells facts saying more → AreAdded facts more old new does
 
+-- these facts are added behind those that show the selected group, if they join them
+abbrev pub AddsBehind : FactsKept → Kept → Bool → List Fact → Type 0
+AddsBehind facts new does more = (all : List Fact) → IsSelectedShown facts.visible all → IsKept all facts.kept → Together all → AllByRecursion IsWellFormed more
+    → AreAdded all more facts.kept new does
+
 -- so it is of what the answer says
-added_here : (profile : Profile) (facts : FactsKept) (kept : Kept) (earlier : List (List Paired)) (past : List Paired) (pair : Paired) (saying : Saying)
-    (does : Bool) → Weighed profile facts pair saying → HasNotedBehind profile facts earlier past
-    → Adds facts.kept kept saying does → AreAdded (said_behind profile.marks earlier past) (said_then profile facts pair) facts.kept kept does
-added_here profile facts kept earlier past pair saying does w s adds =
+added_here : (profile : Profile) (facts : FactsKept) (kept : Kept) (earlier : List (List Paired)) (past : List Paired) (pair : Paired) (asked : Asked) (response : Response)
+    (does : Bool) → Weighed profile facts pair → HasNotedBehind profile facts earlier past → asked ≡ asked_at pair.place → response ≡ pair.response
+    → AddsBehind facts kept does (facts_of facts.marks facts.visible facts.position asked response)
+    → AreAdded (said_behind profile.marks earlier past) (said_then profile facts pair) facts.kept kept does
+added_here profile facts kept earlier past pair asked response does w s to by adds =
+    let same : facts_of facts.marks facts.visible facts.position asked response ≡ said_then profile facts pair =
+    ap₂ (λ asked response. facts_of facts.marks facts.visible facts.position asked response) to by ∙ ap (λ (profile : Profile). said_then profile facts pair) s.profile_is in
     let formed = spelled_formed profile.marks facts.visible facts.position (asked_at pair.place) pair.response _ w.spelled.spells w.spelled.octets in
-    adds (said_behind profile.marks earlier past) (said_then profile facts pair) s.kept (stand_together profile facts earlier past s) formed
-    (w.tells (said_behind profile.marks earlier past) (shows_selected profile facts earlier past s))
+    subst (AddsBehind facts kept does) same adds (said_behind profile.marks earlier past) (shows_selected profile facts earlier past s) s.kept (stand_together profile facts earlier past s) formed
 
 -- the same facts, of which this is kept
 abbrev pub with_kept : FactsKept → Kept → FactsKept
 with_kept facts kept = record { limit = facts.limit; marks = facts.marks; count = facts.count; visible = facts.visible; position = facts.position; kept = kept; has_failed = facts.has_failed }
 
 -- where nothing is added, no spool permits it
-pub refused : (profile : Profile) (facts old : FactsKept) (kept : Kept) (earlier : List (List Paired)) (past : List Paired) (pair : Paired) (saying : Saying)
-    → facts ≡ old → Weighed profile facts pair saying → HasNotedBehind profile facts earlier past
-    → Adds facts.kept kept saying false → IsNotedBehind profile earlier past pair old (with_kept facts kept) Contradiction
-refused profile facts old kept earlier past pair saying is w s adds =
-    let added = added_here profile facts kept earlier past pair saying false w s adds in
+pub refused : (profile : Profile) (facts old : FactsKept) (kept : Kept) (earlier : List (List Paired)) (past : List Paired) (pair : Paired) (asked : Asked) (response : Response)
+    → facts ≡ old → Weighed profile facts pair → HasNotedBehind profile facts earlier past → asked ≡ asked_at pair.place → response ≡ pair.response
+    → AddsBehind facts kept false (facts_of facts.marks facts.visible facts.position asked response) → IsNotedBehind profile earlier past pair old (with_kept facts kept) Contradiction
+refused profile facts old kept earlier past pair asked response is w s to by adds =
+    let added = added_here profile facts kept earlier past pair asked response false w s to by adds in
     let noted = noted_contradiction profile facts earlier past s pair w.may added.0 in (
       subst (λ (f : FactsKept). IsTrue (fits profile f.visible (asked_at pair.place) pair.response)) is noted.0,
       noted.1,
@@ -203,9 +202,10 @@ refused profile facts old kept earlier past pair saying is w s adds =
     )
 
 -- and else it is accepted
-pub accepted : (profile : Profile) (facts old new : FactsKept) (earlier : List (List Paired)) (past : List Paired) (pair : Paired) (saying : Saying)
-    → Weighed profile facts pair saying → HasNotedBehind profile facts earlier past
-    → Moves facts new pair → Adds facts.kept new.kept saying true → IsNotedBehind profile earlier past pair old new Consistent
-accepted profile facts old new earlier past pair saying w s moves adds =
-    let added = added_here profile facts new.kept earlier past pair saying true w s adds in
+pub accepted : (profile : Profile) (facts old new : FactsKept) (earlier : List (List Paired)) (past : List Paired) (pair : Paired) (asked : Asked) (response : Response)
+    → Weighed profile facts pair → HasNotedBehind profile facts earlier past → asked ≡ asked_at pair.place → response ≡ pair.response
+    → Moves facts new pair → AddsBehind facts new.kept true (facts_of facts.marks facts.visible facts.position asked response)
+    → IsNotedBehind profile earlier past pair old new Consistent
+accepted profile facts old new earlier past pair asked response w s to by moves adds =
+    let added = added_here profile facts new.kept earlier past pair asked response true w s to by adds in
     noted_consistent profile facts earlier past s pair w.may old new moves added.0 added.1

@@ -125,3 +125,16 @@ module _ (v : Visible) (facts : List Fact) (is_shown : IsSelectedShown v facts) 
   answer_row profile at asked response listed small is may =
       subst (λ ns. Row (numbers_shown ns response) (facts_of profile.marks v at asked response)) (sym is)
       (said_row (subst (λ ns. (i : ℕ) → get_or ns i 0 < 2 ^ 64) is small) (rows.row profile v at asked response) may)
+
+-- what the facts of an answer that fits say, of which this is the group that is selected, tells them
+pub told_here : (how : Marks) (at : Position) (asked : Asked) (response : Response) (selected : Name) (listed shown : List ℕ) (more : List Fact)
+    → ((i : ℕ) → get_or listed i 0 < 2 ^ 64) → shown ≡ numbers_shown listed response → HasSmall (saying_by shown nothing more)
+    → ((v : Visible) → selected ≡ here v → more ≡ facts_of how v at asked response)
+    → (profile : Profile) (v : Visible) (facts : List Fact) → IsTrue (fits profile v asked response) → IsSelectedShown v facts → selected ≡ here v → listed ≡ numbers_of response
+    → TellsHere selected facts (saying_by shown nothing more) (facts_of how v at asked response)
+told_here how at asked response selected listed shown more fit shows small said profile v facts may is_shown here_is listed_is =
+    let same = said v here_is in
+    let made : saying_by shown nothing more ≡ saying_by (numbers_shown listed response) nothing (facts_of how v at asked response) = λ i. saying_by (shows i) nothing (same i) in
+    let told = answer_row v facts is_shown (record profile { marks = how }) at asked response listed fit listed_is may (subst HasSmall made small) in
+    subst (λ s. TellsHere selected facts s (facts_of how v at asked response)) (sym made)
+    (subst (λ name. TellsHere name facts (saying_by (numbers_shown listed response) nothing (facts_of how v at asked response)) (facts_of how v at asked response)) (sym here_is) told)

@@ -3,7 +3,7 @@ use Rattle.std.specs.Prelude.{is_none}
 use Rattle.nntp_wire.specs.Inner.{View.{asked}, AnswerView.{response}}
 use Rattle.nntp_article.{specs.{Session.Machine.{visible_after}, Inner.{Misfit.{numbers_of, groups_of}, Listed.{Lists}}}, proofs.SessionLemmas.Misfits.{fits_by_reason}}
 use Rattle.nntp_said.specs.Asks.{position_after}
-use Rattle.nntp_facts.{specs.Inner.{SayingView.{saying_of}, Noted.{profile_kept, HasNotedBehind}}, proofs.Keeping.NotedExchange.{Adds, unfit, weighed, refused}}
+use Rattle.nntp_facts.{specs.Inner.{Kept.{AreAdded}, Noted.{profile_kept, HasNotedBehind}}, proofs.Keeping.NotedExchange.{unfit, weighed, refused}}
 use Rattle.nntp_facts.proofs.Keeping.NotedExchange.{accepted}
 use Rattle.nntp_facts.proofs.facts.Facts.note_listing.Goals as goal
 
@@ -30,14 +30,15 @@ returns-then-not-branch g c profile earlier past stands =
     let says = c.answer-answer.ensures in
     let is = c.self.view_is in
     let before = subst (λ facts. HasNotedBehind profile facts earlier past) (sym is) stands in
-    let saying = saying_of c.of-saying.result in
-    let w = weighed profile _ _ _ pair _ _ saying _ _ _ is before.profile_is c.requires.due says.low_index says.few_lines says.is_spelled c.prompt-prompt.ensures says.value
-    (c.profile-profile.ensures ∙ ap profile_kept (sym c.self.view_is))
-    (fits_by_reason c.profile-profile.result c.self.inside.visible (asked c.prompt-prompt.result.now) (response c.answer-answer.result.now) c.in_ok-why.why c.in_ok-why.ensures)
-    (no_reason c.in_ok-why.why (sym c.is_some.ensures ∙ c.if-is_some.false))
-    c.selected_name-here.ensures (c.numbers-numbers.ensures ∙ ap (λ (l : Lists). l.numbers) c.requires.listed ∙ ap numbers_of (sym says.value)) c.of-saying.ensures.tells in
-    let adds = c.in_ok-note.ensures (c.of-saying.ensures.groups _ (c.groups.ensures ∙ ap (λ (l : Lists). l.groups) c.requires.listed ∙ ap groups_of (sym says.value))) in
-    refused profile _ _ c.note.new.self earlier past pair saying is w before (subst (Adds c.self.inside.kept c.note.new.self saying) c.if-not-branch.true adds)
+    let fits_so = fits_by_reason c.profile-profile.result c.self.inside.visible (asked c.prompt-prompt.result.now) (response c.answer-answer.result.now) c.in_ok-why.why c.in_ok-why.ensures in
+    let does = no_reason c.in_ok-why.why (sym c.is_some.ensures ∙ c.if-is_some.false) in
+    let w = weighed profile _ _ _ pair _ _ _ is before.profile_is c.requires.due says.low_index says.few_lines says.is_spelled c.prompt-prompt.ensures says.value
+    (c.profile-profile.ensures ∙ ap profile_kept (sym is)) fits_so does in
+    refused profile _ _ c.note_answer.new.self earlier past pair _ _ is w before c.prompt-prompt.ensures says.value (λ all shown kept together formed.
+    subst (AreAdded all _ c.self.inside.kept c.note_answer.new.self) c.if-not-branch.true
+    (c.in_ok-note_answer.ensures c.profile-profile.result c.self.inside.visible all (sym fits_so ∙ does) shown c.selected_name-here.ensures
+    (c.numbers-numbers.ensures ∙ ap (λ (l : Lists). l.numbers) c.requires.listed ∙ ap numbers_of (sym says.value))
+    (c.groups-groups.ensures ∙ ap (λ (l : Lists). l.groups) c.requires.listed ∙ ap groups_of (sym says.value)) kept together formed))
 
 pub returns : goal.returns
 returns g c profile earlier past stands =
@@ -45,18 +46,19 @@ returns g c profile earlier past stands =
     let says = c.answer-answer.ensures in
     let is = c.self.view_is in
     let before = subst (λ facts. HasNotedBehind profile facts earlier past) (sym is) stands in
-    let saying = saying_of c.of-saying.result in
-    let w = weighed profile _ _ _ pair _ _ saying _ _ _ is before.profile_is c.requires.due says.low_index says.few_lines says.is_spelled c.prompt-prompt.ensures says.value
-    (c.profile-profile.ensures ∙ ap profile_kept (sym c.self.view_is))
-    (fits_by_reason c.profile-profile.result c.self.inside.visible (asked c.prompt-prompt.result.now) (response c.answer-answer.result.now) c.in_ok-why.why c.in_ok-why.ensures)
-    (no_reason c.in_ok-why.why (sym c.is_some.ensures ∙ c.if-is_some.false))
-    c.selected_name-here.ensures (c.numbers-numbers.ensures ∙ ap (λ (l : Lists). l.numbers) c.requires.listed ∙ ap numbers_of (sym says.value)) c.of-saying.ensures.tells in
-    let adds = c.in_ok-note.ensures (c.of-saying.ensures.groups _ (c.groups.ensures ∙ ap (λ (l : Lists). l.groups) c.requires.listed ∙ ap groups_of (sym says.value))) in
-    accepted profile _ c.args.self.now _ earlier past pair saying w before (record {
+    let fits_so = fits_by_reason c.profile-profile.result c.self.inside.visible (asked c.prompt-prompt.result.now) (response c.answer-answer.result.now) c.in_ok-why.why c.in_ok-why.ensures in
+    let does = no_reason c.in_ok-why.why (sym c.is_some.ensures ∙ c.if-is_some.false) in
+    let w = weighed profile _ _ _ pair _ _ _ is before.profile_is c.requires.due says.low_index says.few_lines says.is_spelled c.prompt-prompt.ensures says.value
+    (c.profile-profile.ensures ∙ ap profile_kept (sym is)) fits_so does in
+    accepted profile _ c.args.self.now _ earlier past pair _ _ w before c.prompt-prompt.ensures says.value (record {
       limit = refl;
       marks = refl;
       has_failed = refl;
       count = refl;
       visible = c.in_ok-advance.ensures.ok ∙ ap₂ (λ asked response. visible_after c.self.inside.visible asked response) c.prompt-prompt.ensures says.value;
       position = c.after-self-inside.ensures ∙ ap₂ (λ asked response. position_after c.self.inside.position asked response) c.prompt-prompt.ensures says.value;
-    }) (subst (Adds c.self.inside.kept c.note.new.self saying) c.if-not-branch.false adds)
+    }) (λ all shown kept together formed.
+    subst (AreAdded all _ c.self.inside.kept c.note_answer.new.self) c.if-not-branch.false
+    (c.in_ok-note_answer.ensures c.profile-profile.result c.self.inside.visible all (sym fits_so ∙ does) shown c.selected_name-here.ensures
+    (c.numbers-numbers.ensures ∙ ap (λ (l : Lists). l.numbers) c.requires.listed ∙ ap numbers_of (sym says.value))
+    (c.groups-groups.ensures ∙ ap (λ (l : Lists). l.groups) c.requires.listed ∙ ap groups_of (sym says.value)) kept together formed))

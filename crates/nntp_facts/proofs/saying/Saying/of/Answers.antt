@@ -2,19 +2,15 @@ use Rattle.std.proofs.Common.{Some, ap, refl, subst, sym, ◌∙◌}
 use Rattle.nntp_article.specs.{declared.session.profile.Profile.{Profile}, Session.Machine.{Visible, start}}
 use Rattle.nntp_wire.specs.Inner.{View.{asked}, AnswerView.{response}}
 use Rattle.nntp_said.specs.Facts.{facts_of}
-use Rattle.nntp_facts.{specs.Inner.Saying.{AreListed, HasSmall, TellsHere, nothing, numbers_shown, saying_by}, proofs.Keeping.SayingRows.{answer_row}}
+use Rattle.nntp_facts.{specs.Inner.Saying.{AreListed, HasSmall, TellsHere, nothing, saying_by}, proofs.Keeping.SayingRows.{told_here}}
 use Rattle.nntp_facts.proofs.Keeping.SayingRows.{groups_said}
 use Rattle.nntp_facts.proofs.saying.Saying.of.Goals as goal
 
 pub returns-clause-tells : goal.returns-clause-tells
 returns-clause-tells c profile v facts may is_shown here listed =
-    let q = asked c.args.prompt.now in
-    let r = response c.args.answer.now in
-    let more = facts_of c.args.how v c.args.at q r in
-    let made = c.by.ensures.says ∙ (λ i. saying_by (c.numbers_shown.ensures i) nothing (c.facts_of-facts.ensures v here i)) in
-    let told = answer_row v facts is_shown (record profile { marks = c.args.how }) c.args.at q r c.args.numbers.now (λ i. (c.type_inv.numbers i).fits) listed may
-    (subst HasSmall made c.by.ensures.small) in
-    subst (λ s. TellsHere c.args.selected.now facts s more) (sym made) (subst (λ name. TellsHere name facts (saying_by (numbers_shown c.args.numbers.now r) nothing more) more) (sym here) told)
+    subst (λ s. TellsHere c.args.selected.now facts s (facts_of c.args.how v c.args.at (asked c.args.prompt.now) (response c.args.answer.now))) (sym c.by.ensures.says)
+    (told_here c.args.how c.args.at (asked c.args.prompt.now) (response c.args.answer.now) c.args.selected.now c.args.numbers.now c.numbers_shown.result.now _
+    (λ i. (c.type_inv.numbers i).fits) c.numbers_shown.ensures (subst HasSmall c.by.ensures.says c.by.ensures.small) c.facts_of-facts.ensures profile v facts may is_shown here listed)
 
 pub returns-clause-groups : goal.returns-clause-groups
 returns-clause-groups c groups e =
