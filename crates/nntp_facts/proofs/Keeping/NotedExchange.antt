@@ -2,8 +2,7 @@
 use Rattle.nntp_wire.specs.Answer.{Asked, Response}
 use Rattle.std.proofs.Common.{◌≡◌, ◌+◌, ◌<◌, ◌^◌, ◌↔◌, Bool, false, true, IsTrue, List, [], ◌∷◌, ◌++◌, map, Option, None, Some, IfSome, refl, sym, ap, ap₂}
 use Rattle.std.{proofs.Common.{subst, ◌∙◌, arith, append_assoc, length-append}, specs.{Prelude.{IsFalse}, List.{AllByRecursion, list_any}}}
-use Rattle.nntp_article.specs.Session.{Limit.{profile_of}, Spool.{Name}, Machine.{start, fits, visible_after}}
-use Rattle.nntp_article.specs.{declared.session.profile.Profile.{Profile}}
+use Rattle.nntp_article.specs.{Session.{Limit.{profile_of}, Spool.{Name}, Machine.{start, fits, visible_after}}, declared.session.profile.Profile.{Profile}}
 use Rattle.nntp_pair.specs.{Pairing.{Paired, asked_at, asked_of, responses_of}, Inner.Pairing.{IsSpelled, lines_in}}
 use Rattle.nntp_said.specs.{Asks.{position_after}, declared.position.Position.TheVariants.{Nowhere}, Facts.{Fact, facts_of}, Inner.Facts.{FitsAll}}
 use Rattle.nntp_theory.specs.{Given.{facts_of_session, shows_group}, Inner.{Given.{size}, Together.{IsWellFormed, Together, Join}, Exchanged.{said_by}}}
@@ -12,8 +11,8 @@ use Rattle.nntp_theory.specs.{Permitted.{exchanged, ArePermittedBehind}, declare
 use Rattle.nntp_theory.proofs.{Members.{all_both, all_back, any_back}, Session.PairsGoOn.{MayFollow, of_these, permitted_next, facts_next, visible_next}}
 use Rattle.nntp_theory.proofs.{Session.PairsGoOn.{position_next, as_many, ends, with_pair}, Given.{SessionsByFacts.{stand_each}, SessionsGoOn.{facts_behind}}}
 use Rattle.nntp_theory.proofs.{Given.SessionsGoOn.{small_behind}, Together.WellFormed.{spelled_formed}}
-use Rattle.nntp_facts.specs.Inner.{Kept.{Kept, IsKept, AreAdded}, Saying.{Saying, IsSelectedShown, Tells}, Noted.{FactsKept, HasNotedBehind, IsDue}}
-use Rattle.nntp_facts.{specs.Inner.Noted.{MayBeNoted, said_then, IsNotedBehind}, proofs.Keeping.SelectedGroupIsShown.{selected_shown}}
+use Rattle.nntp_facts.specs.Inner.{Kept.{Kept, IsKept, AreAdded}, Saying.{Saying, IsSelectedShown, Tells}, Noted.{FactsKept, HasNotedBehind, IsDue, MayBeNoted}}
+use Rattle.nntp_facts.{specs.Inner.Noted.{said_then, IsNotedBehind}, proofs.Keeping.SelectedGroupIsShown.{selected_shown}}
 
 -- ---- one exchange more
 

@@ -1,10 +1,10 @@
 use Rattle.std.proofs.{Common.{◌≡◌, true, false, Option, None, Some, is_some, refl, sym, ap, subst, ◌∙◌}, Math.Path.{ap₂}, lemmas.Bool.{true≢false}}
 use Rattle.std.specs.Prelude.{is_none}
 use Rattle.nntp_wire.specs.Inner.{View.{asked}, AnswerView.{response}}
-use Rattle.nntp_article.{specs.{Session.Machine.{visible_after}, Inner.{Misfit.{numbers_of, groups_of}, Listed.{Lists}}}, proofs.SessionLemmas.Misfits.{fits_by_reason}}
+use Rattle.nntp_article.specs.{Session.Machine.{visible_after}, Inner.{Misfit.{numbers_of, groups_of}, Listed.{Lists}}}
+use Rattle.nntp_article.proofs.SessionLemmas.Misfits.{fits_by_reason}
 use Rattle.nntp_said.specs.Asks.{position_after}
-use Rattle.nntp_facts.{specs.Inner.{Kept.{AreAdded}, Noted.{profile_kept, HasNotedBehind}}, proofs.Keeping.NotedExchange.{unfit, weighed, refused}}
-use Rattle.nntp_facts.proofs.Keeping.NotedExchange.{accepted}
+use Rattle.nntp_facts.{specs.Inner.{Kept.{AreAdded}, Noted.{profile_kept, HasNotedBehind}}, proofs.Keeping.NotedExchange.{unfit, weighed, refused, accepted}}
 use Rattle.nntp_facts.proofs.facts.Facts.note_listing.Goals as goal
 
 -- where there is a reason, it isn't none

@@ -1,8 +1,8 @@
 use Rattle.std.proofs.{Common.{true, not, map, ap, subst, sym, ◌∙◌}, lemmas.Result.{IfOk-weaker}}
 use Rattle.nntp_wire.specs.Inner.{View.{active_value, asked}, AnswerView.{response}}
 use Rattle.nntp_said.specs.{Facts.{facts_of}, Inner.FactView.{fact_of}}
-use Rattle.nntp_facts.specs.Inner.{Kept.{AreAdded}, Saying.{AreListed, HasSmall, TellsHere, nothing, saying_by}}
-use Rattle.nntp_facts.proofs.Keeping.{FactsSaid.{no_first, none_added}, SayingRows.{groups_said, told_here}}
+use Rattle.nntp_facts.{specs.Inner.{Kept.{AreAdded}, Saying.{AreListed, HasSmall, TellsHere, nothing, saying_by}}, proofs.Keeping.FactsSaid.{no_first}}
+use Rattle.nntp_facts.proofs.Keeping.{FactsSaid.{none_added}, SayingRows.{groups_said, told_here}}
 use Rattle.nntp_facts.proofs.kept.Kept.note_answer.Goals as goal
 
 pub returns-then-is_none : goal.returns-then-is_none

@@ -2,8 +2,7 @@ use Rattle.std.proofs.Common.{Some, ap, refl, subst, sym, ◌∙◌}
 use Rattle.nntp_article.specs.{declared.session.profile.Profile.{Profile}, Session.Machine.{Visible, start}}
 use Rattle.nntp_wire.specs.Inner.{View.{asked}, AnswerView.{response}}
 use Rattle.nntp_said.specs.Facts.{facts_of}
-use Rattle.nntp_facts.{specs.Inner.Saying.{AreListed, HasSmall, TellsHere, nothing, saying_by}, proofs.Keeping.SayingRows.{told_here}}
-use Rattle.nntp_facts.proofs.Keeping.SayingRows.{groups_said}
+use Rattle.nntp_facts.{specs.Inner.Saying.{AreListed, HasSmall, TellsHere, nothing, saying_by}, proofs.Keeping.SayingRows.{told_here, groups_said}}
 use Rattle.nntp_facts.proofs.saying.Saying.of.Goals as goal
 
 pub returns-clause-tells : goal.returns-clause-tells
