@@ -10,8 +10,8 @@ ghost use Rattle.nntp_article.specs.Inner.Misfit.{groups_of, numbers_of};
 ghost use Rattle.nntp_said.specs.Facts.{Fact as FactValue, Asks, IdAt as IdIs, here, facts_of, group_of};
 ghost use Rattle.nntp_said.specs.Inner.FactView.{ask_of, fact_of};
 ghost use Rattle.nntp_facts.specs.Inner.Saying.{AreListed, HasSmall, IsSelectedShown, TellsHere, TellsThere, begun, nothing, numbers_shown, saying_by};
-ghost use Rattle.nntp_facts.specs.Inner.Saying.{saying_with};
-ghost use Rattle.nntp_said.specs.Asks.{Bounds};
+ghost use Rattle.nntp_facts.specs.Inner.Saying.{saying_with, with_ask};
+ghost use Rattle.nntp_said.specs.Asks.{Bounds, Has};
 ghost use Rattle.nntp_numbers.specs.Inner.Part.{Says};
 ghost use Rattle.nntp_numbers.specs.Inner.PartView.{said};
 ghost use Rattle.nntp_facts.specs.Inner.SayingView.{id_at, of_group, saying_of};
@@ -66,6 +66,15 @@ impl<'s> GroupPart<'s> {
             numbers: NumbersPart::nothing(),
             id: None,
         }
+    }
+
+    /// Says of the group of this name that the number is there, which `shown` shows.
+    fn of_number(name: &'s [u8], number: u64, shown: &'s [u64]) -> GroupPart<'s>
+        ensures { of_group result ≡ with_ask shown.now (Has number) (begun None name.now) }
+    {
+        let mut group = GroupPart::nothing(name);
+        group.numbers.list(number, number, shown);
+        group
     }
 }
 
@@ -148,32 +157,35 @@ impl<'s> Saying<'s> {
     {
         let mut saying = NOTHING;
         while let Some(fact) = facts.first() {
-            saying.add(*fact, shown);
+            saying.add(fact, shown);
             facts.pass_first();
         }
         saying
     }
 
     /// Says a fact too; `shown` are the numbers that its answer shows.
-    fn add(&mut self, fact: Fact<'s>, shown: &'s [u64])
-        ensures says { saying_of self.new ≡ saying_with shown.now (fact_of fact.entry) (saying_of self.old) }
+    fn add(&mut self, fact: &Fact<'s>, shown: &'s [u64])
+        ensures says { saying_of self.new ≡ saying_with shown.now (fact_of fact.now) (saying_of self.old) }
         ensures small { HasSmall (saying_of self.old) → HasSmall (saying_of self.new) }
     {
         match fact {
-            Fact::ThereIs(name) => self.there_is = Some(name),
-            Fact::ThereIsNo(name) => self.there_is_no = Some(name),
-            Fact::Asks(name, ask) => self.add_ask(name, ask, shown),
-            Fact::IdAt(name, number, id) => self.add_id(name, number, id, shown),
+            Fact::ThereIs(name) => self.there_is = Some(*name),
+            Fact::ThereIsNo(name) => self.there_is_no = Some(*name),
+            Fact::Asks(name, ask) => self.add_ask(*name, *ask, shown),
+            Fact::IdAt(name, number, id) => self.add_id(*name, *number, *id, shown),
             Fact::TextIs { what, id, block } => {
                 self.article = Some(ArticlePart::Sends {
                     id: id.as_str(),
-                    what,
-                    block,
+                    what: *what,
+                    block: *block,
                 });
             }
-            Fact::NoArticle(id) => self.article = Some(ArticlePart::Lacks(id)),
+            Fact::NoArticle(id) => self.article = Some(ArticlePart::Lacks(*id)),
             Fact::GroupsAre { wildmat, block } => {
-                self.groups = Some(ActivePart { wildmat, block });
+                self.groups = Some(ActivePart {
+                    wildmat: *wildmat,
+                    block: *block,
+                });
             }
         }
     }
@@ -181,17 +193,10 @@ impl<'s> Saying<'s> {
     /// Says this too of the numbers of the group.
     fn add_ask(&mut self, name: &'s [u8], ask: Ask<'s>, shown: &'s [u64])
         ensures says { saying_of self.new ≡ saying_with shown.now (Asks name.now (ask_of ask.entry)) (saying_of self.old) }
-        ensures small { HasSmall (saying_of self.new) }
+        ensures small { HasSmall (saying_of self.old) → HasSmall (saying_of self.new) }
     {
-        let group = match self.group.take() {
-            Some(group) => group,
-            None => GroupPart::nothing(name),
-        };
-        self.group = Some(GroupPart {
-            name: group.name,
-            numbers: group.numbers.with(ask, shown),
-            id: group.id,
-        });
+        let group = self.group.get_or_insert_with(|| GroupPart::nothing(name));
+        group.numbers.say(ask, shown);
     }
 
     /// Says too that the number of the group has the id, and that this has an article.
@@ -199,16 +204,11 @@ impl<'s> Saying<'s> {
         ensures says { saying_of self.new ≡ saying_with shown.now (IdIs name.now number id.now) (saying_of self.old) }
         ensures small { HasSmall (saying_of self.old) → HasSmall (saying_of self.new) }
     {
-        let (name, numbers) = match self.group.take() {
-            Some(group) => (group.name, group.numbers),
-            None => (name, NumbersPart::nothing().listing(number, number, shown)),
-        };
         let id = id.as_str();
-        self.group = Some(GroupPart {
-            name,
-            numbers,
-            id: Some(IdAt { number, id }),
-        });
+        let group = self
+            .group
+            .get_or_insert_with(|| GroupPart::of_number(name, number, shown));
+        group.id = Some(IdAt { number, id });
         if self.article.is_none() {
             self.article = Some(ArticlePart::Exists(id));
         }

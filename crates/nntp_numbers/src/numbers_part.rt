@@ -7,7 +7,7 @@ ghost use Rattle.nntp_theory.specs.Conflict.{widest};
 ghost use Rattle.nntp_said.specs.Asks.{Estimates, Bounds};
 ghost use Rattle.nntp_said.specs.Inner.FactView.{ask_of};
 ghost use Rattle.nntp_numbers.specs.Inner.Part.{Says, only_has};
-ghost use Rattle.nntp_numbers.specs.Inner.PartOf.{IsSmall, impossible, listing, none_above, none_below, nothing_said, part_with, standing_at, standing_nowhere};
+ghost use Rattle.nntp_numbers.specs.Inner.PartOf.{IsSmall, listing, none_above, none_below, nothing_said, part_with, standing_at, standing_nowhere};
 ghost use Rattle.nntp_numbers.specs.Inner.PartOf.{stepping_down, stepping_up};
 ghost use Rattle.nntp_numbers.specs.Inner.PartView.{said};
 ghost use Rattle.nntp_numbers.specs.Inner.Summary.{AreBounded};
@@ -86,7 +86,9 @@ impl<'s> NumbersPart<'s> {
         ensures says { Says (said result) (Estimates how marks ∷ []) }
         ensures bounded { AreBounded (Estimates how marks ∷ []) }
     {
-        NumbersPart::nothing().with_marks(how, marks)
+        let mut part = NumbersPart::nothing();
+        part.say_marks(how, marks);
+        part
     }
 
     /// Says what holds of the numbers of each group: they are within the widest marks.
@@ -114,154 +116,127 @@ impl<'s> NumbersPart<'s> {
     }
 
     /// Says this too; `shown` are the numbers that its answer shows.
-    pub fn with(self, ask: Ask<'_>, shown: &'s [u64]) -> NumbersPart<'s>
-        ensures says { said result ≡ part_with shown.now (ask_of ask.entry) (said self.entry) }
-        ensures small { IsSmall (said result) }
+    pub fn say(&mut self, ask: Ask<'_>, shown: &'s [u64])
+        ensures says { said self.new ≡ part_with shown.now (ask_of ask.entry) (said self.old) }
+        ensures small { IsSmall (said self.old) → IsSmall (said self.new) }
     {
         match ask {
-            Ask::Estimates { how, marks } => self.with_marks(how, marks),
-            Ask::Bounds { low, high } => NumbersPart { low, high, ..self },
+            Ask::Estimates { how, marks } => self.say_marks(how, marks),
+            Ask::Bounds { low, high } => {
+                self.low = low;
+                self.high = high;
+            }
             Ask::Lists { range, .. } => {
-                self.listing(range.first, range.last.unwrap_or(u64::MAX), shown)
+                self.list(range.first, range.last.unwrap_or(u64::MAX), shown);
             }
-            Ask::Lacks(number) => self.listing(number, number, &[]),
+            Ask::Lacks(number) => self.list(number, number, &[]),
             Ask::StandsAt(at, number) => {
-                self.listing(number, number, shown).stands_at(at, number)
+                self.list(number, number, shown);
+                self.stand_at(at, number);
             }
-            Ask::StandsNowhere(at) => self.stands_nowhere(at),
-            Ask::StepsUp(at, number) => self.listing(number, number, shown).steps_up(at, number),
+            Ask::StandsNowhere(at) => self.stand_nowhere(at),
+            Ask::StepsUp(at, number) => {
+                self.list(number, number, shown);
+                self.step_up(at, number);
+            }
             Ask::StepsDown(at, number) => {
-                self.listing(number, number, shown).steps_down(at, number)
+                self.list(number, number, shown);
+                self.step_down(at, number);
             }
-            Ask::IsTop(at) => self.is_top(at),
-            Ask::IsBottom(at) => self.is_bottom(at),
+            Ask::IsTop(at) => self.end_above(at),
+            Ask::IsBottom(at) => self.end_below(at),
         }
     }
 
     /// Says too that there are at most so many numbers, between the marks, which are read so.
-    fn with_marks(self, how: Marks, marks: WaterMarks) -> NumbersPart<'s>
-        ensures { said result ≡ part_with [] (Estimates how marks) (said self.entry) }
+    fn say_marks(&mut self, how: Marks, marks: WaterMarks)
+        ensures says { said self.new ≡ part_with [] (Estimates how marks) (said self.old) }
+        ensures small { IsSmall (said self.old) → IsSmall (said self.new) }
     {
-        NumbersPart {
-            low: marks.low,
-            high: marks.high,
-            estimate: Some(marks.estimate),
-            ends: Ends::of_marks(how, marks),
-            ..self
-        }
+        self.low = marks.low;
+        self.high = marks.high;
+        self.estimate = Some(marks.estimate);
+        self.ends = Ends::of_marks(how, marks);
     }
 
     /// Says too that from the first number to the last one these are there, and no others.
-    pub fn listing(self, first: u64, last: u64, numbers: &'s [u64]) -> NumbersPart<'s>
-        ensures { said result ≡ listing first last numbers.now (said self.entry) }
+    pub fn list(&mut self, first: u64, last: u64, numbers: &'s [u64])
+        ensures says { said self.new ≡ listing first last numbers.now (said self.old) }
+        ensures small { IsSmall (said self.old) → IsSmall (said self.new) }
     {
-        NumbersPart {
-            first,
-            last,
-            numbers,
-            ..self
-        }
-    }
-
-    /// Says too that this can't be.
-    fn impossible(self) -> NumbersPart<'s>
-        ensures { said result ≡ impossible (said self.entry) }
-    {
-        NumbersPart {
-            is_possible: false,
-            ..self
-        }
+        self.first = first;
+        self.last = last;
+        self.numbers = numbers;
     }
 
     /// Says too that the number at the position is this.
-    fn stands_at(self, at: Position, number: u64) -> NumbersPart<'s>
-        ensures { said result ≡ standing_at at number (said self.entry) }
+    fn stand_at(&mut self, at: Position, number: u64)
+        ensures says { said self.new ≡ standing_at at number (said self.old) }
+        ensures small { IsSmall (said self.old) → IsSmall (said self.new) }
     {
         match at {
-            Position::Nowhere => self.impossible(),
-            Position::First => NumbersPart {
-                low: number,
-                ..self
-            },
-            Position::Known(current) => NumbersPart {
-                is_possible: current == number,
-                ..self
-            },
+            Position::Nowhere => self.is_possible = false,
+            Position::First => self.low = number,
+            Position::Known(current) => self.is_possible = current == number,
         }
     }
 
     /// Says too that there is no number at the position.
-    fn stands_nowhere(self, at: Position) -> NumbersPart<'s>
-        ensures { said result ≡ standing_nowhere at (said self.entry) }
+    fn stand_nowhere(&mut self, at: Position)
+        ensures says { said self.new ≡ standing_nowhere at (said self.old) }
+        ensures small { IsSmall (said self.old) → IsSmall (said self.new) }
     {
         match at {
-            Position::Nowhere => self,
-            Position::First => self.listing(0, u64::MAX, &[]),
-            Position::Known(_) => self.impossible(),
+            Position::Nowhere => {}
+            Position::First => self.list(0, u64::MAX, &[]),
+            Position::Known(_) => self.is_possible = false,
         }
     }
 
     /// Says too that the next number above the position is this.
-    fn steps_up(self, at: Position, number: u64) -> NumbersPart<'s>
-        ensures { said result ≡ stepping_up at number (said self.entry) }
+    fn step_up(&mut self, at: Position, number: u64)
+        ensures says { said self.new ≡ stepping_up at number (said self.old) }
+        ensures small { IsSmall (said self.old) → IsSmall (said self.new) }
     {
         match at {
-            Position::First => NumbersPart {
-                demand: Demand::SecondIs(number),
-                ..self
-            },
-            Position::Known(current) if current < number => NumbersPart {
-                first: current + 1,
-                ..self
-            },
-            _ => self.impossible(),
+            Position::First => self.demand = Demand::SecondIs(number),
+            Position::Known(current) if current < number => self.first = current + 1,
+            _ => self.is_possible = false,
         }
     }
 
     /// Says too that the next number below the position is this.
-    fn steps_down(self, at: Position, number: u64) -> NumbersPart<'s>
-        ensures { said result ≡ stepping_down at number (said self.entry) }
+    fn step_down(&mut self, at: Position, number: u64)
+        ensures says { said self.new ≡ stepping_down at number (said self.old) }
+        ensures small { IsSmall (said self.old) → IsSmall (said self.new) }
     {
         match at {
-            Position::Known(current) if number < current => NumbersPart {
-                last: current - 1,
-                ..self
-            },
-            _ => self.impossible(),
+            Position::Known(current) if number < current => self.last = current - 1,
+            _ => self.is_possible = false,
         }
     }
 
     /// Says too that no number is above the position.
-    fn is_top(self, at: Position) -> NumbersPart<'s>
-        ensures { said result ≡ none_above at (said self.entry) }
+    fn end_above(&mut self, at: Position)
+        ensures says { said self.new ≡ none_above at (said self.old) }
+        ensures small { IsSmall (said self.old) → IsSmall (said self.new) }
     {
         match at {
-            Position::Nowhere => self.impossible(),
-            Position::First => NumbersPart {
-                demand: Demand::OnlyOne,
-                ..self
-            },
-            Position::Known(current) => NumbersPart {
-                high: current,
-                ..self
-            },
+            Position::Nowhere => self.is_possible = false,
+            Position::First => self.demand = Demand::OnlyOne,
+            Position::Known(current) => self.high = current,
         }
     }
 
     /// Says too that no number is below the position.
-    fn is_bottom(self, at: Position) -> NumbersPart<'s>
-        ensures { said result ≡ none_below at (said self.entry) }
+    fn end_below(&mut self, at: Position)
+        ensures says { said self.new ≡ none_below at (said self.old) }
+        ensures small { IsSmall (said self.old) → IsSmall (said self.new) }
     {
         match at {
-            Position::Nowhere => self.impossible(),
-            Position::First => NumbersPart {
-                demand: Demand::NotEmpty,
-                ..self
-            },
-            Position::Known(current) => NumbersPart {
-                low: current,
-                ..self
-            },
+            Position::Nowhere => self.is_possible = false,
+            Position::First => self.demand = Demand::NotEmpty,
+            Position::Known(current) => self.low = current,
         }
     }
 }
