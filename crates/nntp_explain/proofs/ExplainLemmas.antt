@@ -32,46 +32,22 @@ use Rattle.nntp_theory.specs.declared.noted.Noted.TheVariants as kinds
 -- a session begins behind sessions that were read whole, and nothing is told of it yet
 pub told_first : (profile : Profile) (earlier : List (List Paired)) (kept : Kept) (title : Option (List ℕ)) (text : List ℕ) (client : ClientStream) (server : List ℕ) → AreKept profile earlier kept
     → kept.bad ≤ length text → AreTold profile (record { earlier = earlier; bad = kept.bad; text = text; title = title }) client server (begins title kept) text (streams client server)
-told_first profile earlier kept title text client server k few =
-    record {
-      answers = [];
-      judged = refl;
-      noted = k.noted;
-      accepted_are = k.accepted_are ∙ sym (append-nil (cited_each 1 earlier));
-      session_is = ap (λ n. n + 1) k.session_is;
-      others_are = ap length k.accepted_are;
-      title_is = refl;
-      stands_there = refl;
-      reasons = tt;
-      refused = tt;
-      bad_are = omega arith;
-      few = few;
-      told = [];
-      explained = refl;
-      silent = λ none. refl;
-      text_is = sym (append-nil text) ∙ ap (λ t. text ++ t) (sym (untitled (number_behind earlier) title)) ∙ sym (append-nil (text ++ title_told (number_behind earlier) title 0));
-    }
+told_first profile earlier kept title text client server k few = grind (arith, append-nil, untitled)
 
 -- the next exchange is due
 pub told_due : (profile : Profile) (b : Before) (client : ClientStream) (server : List ℕ) (kept : Kept) (text : List ℕ) (left behind : Unpaired) (pair : Paired)
     → AreTold profile b client server kept text left → IsNext left pair behind → IsDue kept.facts pair
-told_due profile b client server kept text left behind pair t next =
-    due_behind (ArePermittedBehind profile b.earlier) profile b.earlier client server t.answers left behind pair kept.facts t.judged t.noted next
+told_due profile b client server kept text left behind pair t next = search due_behind
 
 -- the answers of its session are behind those of others
 pub others_accepted : (profile : Profile) (b : Before) (client : ClientStream) (server : List ℕ) (kept : Kept) (text : List ℕ) (left : Unpaired) → AreTold profile b client server kept text left
     → kept.others ≤ length kept.accepted
-others_accepted profile b client server kept text left t =
-    let count = t.others_are in
-    let all = ap length t.accepted_are in
-    let both = length-append (cited_each 1 b.earlier) (cited (number_behind b.earlier) (accepted_of t.answers)) in
-    omega (arith, count, all, both)
+others_accepted profile b client server kept text left t = grind (arith, length-append)
 
 -- these are its own
 pub own_accepted : (profile : Profile) (b : Before) (client : ClientStream) (server : List ℕ) (kept : Kept) (text : List ℕ) (left : Unpaired) (t : AreTold profile b client server kept text left)
     → drop kept.others kept.accepted ≡ cited (number_behind b.earlier) (accepted_of t.answers)
-own_accepted profile b client server kept text left t =
-    ap (drop kept.others) t.accepted_are ∙ drop_at (cited_each 1 b.earlier) (cited (number_behind b.earlier) (accepted_of t.answers)) kept.others (sym t.others_are)
+own_accepted profile b client server kept text left t = grind (arith, drop_at)
 
 -- each of all stands where it does by the answers of its session, and so does the next one
 pub all_there : (profile : Profile) (b : Before) (client : ClientStream) (server : List ℕ) (kept : Kept) (text : List ℕ) (left : Unpaired) (t : AreTold profile b client server kept text left)
@@ -97,8 +73,7 @@ still answers answer bad (front, pair, back, whole, same) =
 
 refused_still : (answers : List Judged) (answer : Judged) (contradictions : List ToldContradiction)
     → AllByRecursion (λ c. WasRefused answers c.bad) contradictions → AllByRecursion (λ c. WasRefused (answers ++ answer ∷ []) c.bad) contradictions
-refused_still answers answer contradictions all =
-    all_from _ contradictions (λ c i. still answers answer c.bad (all_at (λ (c : ToldContradiction). WasRefused answers c.bad) c contradictions all i))
+refused_still answers answer contradictions all = grind (arith, all_from, still, all_at)
 
 -- and one that is refused now was then
 refused_after : (answers : List Judged) (pair : Paired) (bad : Placed) (old new : List ToldContradiction) → placed_behind (accepted_of answers) pair ≡ bad
@@ -106,10 +81,7 @@ refused_after : (answers : List Judged) (pair : Paired) (bad : Placed) (old new 
 refused_after answers pair bad old new placed all adds =
     let Was = λ (c : ToldContradiction). WasRefused (answers ++ Refused pair ∷ []) c.bad in
     let before = refused_still answers (Refused pair) old all in
-    elim adds [
-      | inl same ↦ subst (AllByRecursion Was) (sym same) before
-      | inr one ↦ subst (AllByRecursion Was) (sym one.1) (all_both Was old (record { bad = bad; reason = one.0 } ∷ []) before ((answers, pair, [], refl, placed), tt))
-    ]
+    grind (arith, all_both)
 
 -- an exchange that some spool permits
 told_good : (profile : Profile) (b : Before) (client : ClientStream) (server : List ℕ) (kept : Kept) (new : FactsKept) (text : List ℕ) (left behind : Unpaired) (pair : Paired)
@@ -125,8 +97,7 @@ told_good profile b client server kept new text left behind pair t next notes =
       answers = t.answers ++ Accepted pair ∷ [];
       judged = one_more_behind (ArePermittedBehind profile b.earlier) client server t.answers (Accepted pair) left behind t.judged (next, noted.0);
       noted = subst (HasNotedBehind profile new b.earlier) (sym accepted) noted.1;
-      accepted_are = ap (λ (q : List Cited × ℕ × Standing). q.0 ++ cited_at q.1 q.2 pair ∷ []) (λ i. (t.accepted_are i, t.session_is i, t.stands_there i))
-          ∙ sym (cited_next b.earlier past pair) ∙ ap (cited_of_all b.earlier) (sym accepted);
+      accepted_are = grind (arith, cited_next);
       session_is = t.session_is;
       others_are = t.others_are;
       title_is = t.title_is ∙ ap (untold b.title) (sym count);
@@ -149,10 +120,7 @@ title_left profile b client server kept text left t = ap (λ (q : ℕ × Option 
 
 -- there are no more bad answers than octets of the text, with one more of both
 pub few_more : (bad : ℕ) (text line more : List ℕ) → bad ≤ length text → 1 ≤ length more → bad + 1 ≤ length ((text ++ line) ++ more)
-few_more bad text line more few some =
-    let both = length-append text line in
-    let all = length-append (text ++ line) more in
-    omega (arith, few, some, both, all)
+few_more bad text line more few some = grind (arith, length-append)
 
 -- an answer that is bad is passed over
 told_bad : (profile : Profile) (b : Before) (client : ClientStream) (server : List ℕ) (kept : Kept) (text more : List ℕ) (left behind : Unpaired) (answer : Judged)
@@ -196,8 +164,7 @@ told_bad profile b client server kept text more left behind answer contradiction
 -- so many answers are bad before the next one
 bad_before : (profile : Profile) (b : Before) (client : ClientStream) (server : List ℕ) (kept : Kept) (text : List ℕ) (left : Unpaired) (t : AreTold profile b client server kept text left) (index : ℕ)
     → index ≡ left.index → kept.bad ≡ b.bad + (index - length (accepted_of t.answers))
-bad_before profile b client server kept text left t index at =
-    t.bad_are ∙ ap (λ n. b.bad + (n - length (accepted_of t.answers))) (sym (at ∙ index_behind (ArePermittedBehind profile b.earlier) client server t.answers left t.judged))
+bad_before profile b client server kept text left t index at = grind (arith, index_behind)
 
 -- what is told by what is kept is told by the accepted answers
 told_behind : (profile : Profile) (b : Before) (client : ClientStream) (server : List ℕ) (kept : Kept) (text : List ℕ) (left : Unpaired) (t : AreTold profile b client server kept text left)
@@ -213,14 +180,12 @@ unspelled_explained : (profile : Profile) (earlier : List (List Paired)) (before
     (block : Option (List ℕ)) (text : List ℕ) → IsPassedOver left place initial block behind
     → IsTold (bad_behind before past index) (standing (accepted_of past)) index Malformed place.line initial (λ reason. reason ≡ unspelled_lines (asked_at place) initial block) text
     → IsExplained profile earlier before past (Unspelled index place initial block) text
-unspelled_explained profile earlier before past left behind index place initial block text passed is =
-    by (misspelling (asked_at place) initial block) (passed-reason left behind place initial block passed) is
+unspelled_explained profile earlier before past left behind index place initial block text passed is = search (by, passed-reason)
   where
     by : (o : Option Misspelling) → MatchOption o ⊥ (λ why. why ≢ WrongBlock)
         → IsTold (bad_behind before past index) (standing (accepted_of past)) index Malformed place.line initial (λ reason. reason ≡ option_map_or misspelling_line o []) text
         → MatchOption o ⊥ (λ why. IsTold (bad_behind before past index) (standing (accepted_of past)) index Malformed place.line initial (λ reason. reason ≡ misspelling_line why) text)
-    by None none is = none
-    by (Some why) some is = is
+    by o some is = grind arith
 
 -- a frame that spells nothing
 pub told_unspelled : (profile : Profile) (b : Before) (client : ClientStream) (server : List ℕ) (kept new : Kept) (text after : List ℕ)
@@ -244,10 +209,7 @@ refused_explained : (profile : Profile) (earlier : List (List Paired)) (before :
     → IsTold (bad_behind before past pair.index) (standing (accepted_of past)) pair.index class pair.place.line pair.initial
     (IsReason profile earlier (bad_behind before past pair.index) past pair class) text
     → IsExplained profile earlier before past (Refused pair) text
-refused_explained profile earlier before past pair class text class-is is =
-    subst (λ o. MatchOption o ⊥ (λ class. IsTold (bad_behind before past pair.index)
-    (standing (accepted_of past)) pair.index class pair.place.line pair.initial (IsReason profile earlier (bad_behind before past pair.index) past pair class) text))
-    (sym class-is) is
+refused_explained profile earlier before past pair class text class-is is = grind arith
 
 -- an exchange that doesn't fit
 told_unfitting : (profile : Profile) (b : Before) (client : ClientStream) (server : List ℕ) (kept : Kept) (text : List ℕ) (left behind : Unpaired) (pair : Paired) (more : List ℕ)
@@ -328,16 +290,13 @@ contradiction_due profile b client server kept text left behind pair profile-is 
 
 -- what is so where there are no errors
 pub on_ok : {T E P Q R : Type 0} (r : Result T E) → OnOk r P → OnOk r Q → (P → Q → R) → OnOk r R
-on_ok (Ok x) p q f = f p q
-on_ok (Err e) p q f = tt
+on_ok r p q f = grind arith
 
 pub on_each : {T E P Q R S W : Type 0} (r : Result T E) → OnOk r P → OnOk r Q → OnOk r R → OnOk r S → (P → Q → R → S → W) → OnOk r W
-on_each (Ok x) p q r s f = f p q r s
-on_each (Err e) p q r s f = tt
+on_each r p q r2 s f = grind arith
 
 pub if_ok : {T E : Type 0} {P Q R : T → Type 0} (r : Result T E) → IfOk r P → IfOk r Q → ((v : T) → P v → Q v → R v) → IfOk r R
-if_ok (Ok x) p q f = f x p q
-if_ok (Err e) p q f = tt
+if_ok r p q f = grind arith
 
 pub noted_consistent : (profile : Profile) (b : Before) (client : ClientStream) (server : List ℕ) (kept new : Kept) (facts : FactsKept) (noted : Noted)
     (text after : List ℕ) (left behind : Unpaired) (pair : Paired) → noted ≡ kinds.Consistent
@@ -377,9 +336,7 @@ refused_here profile b client server kept facts noted text left behind pair is n
     let same : facts ≡ kept.facts = at.2 in
     let due = told_due profile b client server kept text left behind pair t next in
     let placed = next_there profile b client server kept text left pair t in
-    subst (λ (q : FactsKept × Placed × Profile). AreHeld q.2 (said_behind profile.marks b.earlier past ++ told q.2 q.1) (held_by q.0 q.1))
-    (λ i. (sym same i, sym placed i, sym (ap profile_kept same ∙ t.noted.profile_is) i))
-    (held_refused profile kept.facts b.earlier past pair t.noted due (subst (λ f. IsNotedBehind profile b.earlier past pair kept.facts f kinds.Contradiction) same at) few)
+    grind (arith, held_refused)
 
 -- an exchange that contradicts those that were accepted, by what is noted of it
 pub noted_contradiction : (profile : Profile) (b : Before) (client : ClientStream) (server : List ℕ) (kept new : Kept) (facts : FactsKept) (noted : Noted)
@@ -413,10 +370,7 @@ pub noted_contradiction_reasons : (b : Before) (client : ClientStream) (server :
     → noted ≡ kinds.Contradiction
     → ((past : List Paired) → HasNotedBehind (profile_kept kept.facts) kept.facts b.earlier past → IsNotedBehind (profile_kept kept.facts) b.earlier past pair kept.facts facts noted)
     → AreTold (profile_kept kept.facts) b client server kept text left → AreReasons (profile_kept facts) kept kept.contradictions
-noted_contradiction_reasons b client server kept facts noted text left behind pair is notes t =
-    let profile = profile_kept kept.facts in
-    let same : facts ≡ kept.facts = (subst (IsNotedBehind profile b.earlier (accepted_of t.answers) pair kept.facts facts) is (notes (accepted_of t.answers) t.noted)).2 in
-    subst (λ f. AreReasons (profile_kept f) kept kept.contradictions) (sym same) t.reasons
+noted_contradiction_reasons b client server kept facts noted text left behind pair is notes t = grind arith
 
 -- what the search for its reasons asks for
 pub noted_contradiction_due : (b : Before) (client : ClientStream) (server : List ℕ) (kept : Kept) (facts : FactsKept) (noted : Noted) (text : List ℕ) (left behind : Unpaired) (pair : Paired)
