@@ -1,13 +1,13 @@
 -- One answer more, and what is told of it.
-use Rattle.std.proofs.Common.{◌≡◌, ◌∙◌, sym, subst, refl, ap, ℕ, ◌+◌, ◌-◌, ◌≤◌, Bool, true, false, List, [], ◌∷◌, ◌++◌, Option, Some, length, arith}
-use Rattle.std.{proofs.Common.{append_assoc, append-nil, length-append}, specs.{Prelude.{nat_lt, cond, codes, decimal}, Option.{option_map}}}
+use Rattle.std.proofs.Common.{◌≡◌, ◌∙◌, sym, subst, refl, ap, ℕ, ◌+◌, ◌-◌, ◌≤◌, Bool, List, [], ◌∷◌, ◌++◌, Option, Some, length, arith, append_assoc}
+use Rattle.std.{proofs.Common.{append-nil, length-append}, specs.Prelude.{nat_lt, cond, codes}}
 use Rattle.nntp_article.specs.declared.session.profile.Profile.{Profile}
 use Rattle.nntp_pair.specs.{Pairing.{Paired}, declared.class.Class.{Class}}
 use Rattle.nntp_theory.{specs.Reading.{Judged, Accepted, Refused, Unspelled, accepted_of, accepted_with}, proofs.Reading.JudgedSession.{accepted_one_more}}
 use Rattle.nntp_facts.specs.{declared.{standing.Standing.{Standing}, placed.Placed.{Placed as Cited}}, Standing.{standing_from, standing_after}}
 use Rattle.nntp_explain.specs.{Explaining.{front_lines, place_lines, IsTold, IsExplained, AreExplained, count_bad}, Inner.ExplainingView.{GoesOn}}
 use Rattle.nntp_explain.specs.{Reasons.{answer_at, rest_line}, Standing.{cited_at, cited_from}}
-use Rattle.nntp_printing.specs.{BadAnswer.{bad_lines, class_word, command_line, shown}, Printing.{escaped}}
+use Rattle.nntp_printing.specs.BadAnswer.{bad_lines}
 
 -- ---- the accepted answers
 

@@ -1,8 +1,7 @@
 -- An answer that closes the connection is never refused.
-use Rattle.std.proofs.Common.{◌≡◌, ◌⊎◌, ◌∙◌, ◌==◌, ◌||◌, ℕ, Bool, true, false, IsTrue, List, [], ◌∷◌, ◌++◌, None, Some, append-nil, arith, inl, inr, map, refl}
-use Rattle.std.{proofs.{Common.{sym, ap, subst}, lemmas.Bool.{true≢false, Decides.{nat_tests}}}, specs.List.{AllByRecursion}}
-use Rattle.nntp_wire.specs.{Answer.{Asked, Response, greeting, to, plain}, Session.{closes}, Command.{Request, mode_reader, quit, list_group, retrieve, by_id}}
-use Rattle.nntp_wire.specs.Command.{by_number, current}
+use Rattle.std.proofs.Common.{◌≡◌, ◌⊎◌, ◌∙◌, ◌==◌, ◌||◌, ℕ, Bool, true, false, IsTrue, List, [], ◌∷◌, ◌++◌, append-nil, arith, map, refl, sym, ap, subst}
+use Rattle.std.{proofs.lemmas.Bool.{true≢false, Decides.{nat_tests}}, specs.List.{AllByRecursion}}
+use Rattle.nntp_wire.specs.{Answer.{Asked, Response, greeting, to, plain}, Session.{closes}, Command.{Request, mode_reader, quit}}
 use Rattle.nntp_article.specs.{declared.session.profile.Profile.{Profile}, Session.Machine.{Visible, fits, start}}
 use Rattle.nntp_pair.specs.Pairing.{Paired, asked_at}
 use Rattle.nntp_said.specs.{declared.position.Position.{Position}, Facts.{Holds, facts_of, facts_of_code}}

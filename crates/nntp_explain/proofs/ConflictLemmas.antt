@@ -1,6 +1,6 @@
 -- What is told of a core.
-use Rattle.std.proofs.Common.{◌≡◌, ◌≤◌, ◌⊎◌, refl, sym, subst, inl, inr, arith, length, map, append-nil, ℕ, Bool, true, false, List, [], ◌∷◌, ◌++◌, Option}
-use Rattle.std.proofs.{Common.{None, Some, MatchOption, is_some}, lemmas.Bool.{true≢false}}
+use Rattle.std.proofs.Common.{◌≡◌, ◌≤◌, ◌⊎◌, refl, sym, subst, arith, length, map, append-nil, ℕ, Bool, true, false, List, [], ◌∷◌, ◌++◌, Option, None, Some}
+use Rattle.std.proofs.{Common.{MatchOption, is_some}, lemmas.Bool.{true≢false}}
 use Rattle.nntp_article.specs.declared.session.profile.Profile.{Profile}
 use Rattle.nntp_said.specs.Facts.{Fact}
 use Rattle.nntp_theory.specs.Conflict.{Placed, Point, Core, IsCore, IsEndOfCore, IsFound, IsFirstPoint, SomeHas, told, told_with, places_of}

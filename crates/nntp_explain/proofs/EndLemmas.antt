@@ -1,7 +1,7 @@
 -- How the reading of a session ends, and how sessions are read one after the other.
 use Rattle.std.proofs.Common.{◌≡◌, ◌≢◌, ◌∙◌, sym, subst, refl, ap, ℕ, ◌+◌, ◌<◌, ◌≤◌, ◌^◌, ◌==◌, Bool, List, [], ◌∷◌, ◌++◌, Option, None, Some, length, take}
 use Rattle.std.proofs.{Common.{drop, get_or, arith, append_assoc, append-nil, length-append}, lemmas.List.{take_more, take_all, length-take-le}}
-use Rattle.std.specs.Prelude.{count_by, is_some, codes, decimal}
+use Rattle.std.specs.Prelude.{count_by, codes, decimal}
 use Rattle.nntp_wire.specs.{declared.{limit.Limit.{Limit}, marks.Marks.{Marks}}, Session.{ClientStream}}
 use Rattle.nntp_article.specs.{declared.session.profile.Profile.{Profile}, Session.Limit.{profile_of}}
 use Rattle.nntp_pair.specs.{Pairing.{Paired, Unpaired, end, bad as ends_at, Ends, line_ahead, streams, has_line}, declared.class.PairClass.{PairClass}}
@@ -11,9 +11,9 @@ use Rattle.nntp_facts.specs.{Inner.Noted.{HasNoted}, declared.{standing.Standing
 use Rattle.nntp_facts.proofs.Keeping.NotedSessions.{session_begins}
 use Rattle.nntp_printing.specs.BadAnswer.{IsFirstLine}
 use Rattle.nntp_several.specs.{Reading.{ReadSession, AreReadings}, Sessions.{Named, unnamed}}
-use Rattle.nntp_explain.specs.Explaining.{IsTold, IsEndReason, IsSessionExplained, Counts, counts_of, counts_text, count_bad, titled, none_counted}
-use Rattle.nntp_explain.specs.{Explaining.{counted_with, AreSessionsExplained, IsExplanation, IsExplanationOfAll}, Inner.ExplainingView.{Kept, Before, begins}}
-use Rattle.nntp_explain.specs.{Inner.ExplainingView.{refuses, title_of, accepted_behind, AreKept, AreTold, IsRead, HaveRead, GoesOn}, Standing.{number_behind}}
+use Rattle.nntp_explain.specs.Explaining.{IsTold, IsEndReason, IsSessionExplained, Counts, counts_of, counts_text, count_bad, titled, counted_with}
+use Rattle.nntp_explain.specs.{Explaining.{AreSessionsExplained, IsExplanation, IsExplanationOfAll}, Inner.ExplainingView.{Kept, Before, begins, refuses}}
+use Rattle.nntp_explain.specs.{Inner.ExplainingView.{title_of, accepted_behind, AreKept, AreTold, IsRead, HaveRead, GoesOn}, Standing.{number_behind}}
 use Rattle.nntp_explain.proofs.{AnswerLemmas.{told_long}, SessionLemmas.{index_behind, cited_in_all, cited_with, behind_push, text_grows, all_counted}}
 use Rattle.nntp_explain.proofs.ExplainLemmas.{told_first, own_accepted, title_left, few_more}
 

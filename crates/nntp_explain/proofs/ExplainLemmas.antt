@@ -1,9 +1,8 @@
 -- How an explanation goes through the answers of two streams, behind those of earlier sessions.
-use Rattle.std.proofs.Common.{◌≡◌, ◌≢◌, ◌∙◌, sym, subst, refl, ap, ℕ, ◌+◌, ◌-◌, ◌≤◌, List, [], ◌∷◌, ◌++◌, Option, None, Some, MatchOption, length, map, drop}
-use Rattle.std.proofs.{Common.{arith, append-nil, append_assoc, length-append, inl, inr, Bool, true, false, Result, Ok, Err}, lemmas.List.{drop_at}}
-use Rattle.std.specs.{Prelude.{OnOk, IfOk}, List.{AllByRecursion}, Option.{option_map_or}}
-use Rattle.nntp_wire.specs.{Answer.{Asked}, Misspelling.{misspelling}, declared.misspelling.Misspelling.{Misspelling, TheVariants.{WrongBlock}}}
-use Rattle.nntp_wire.specs.Session.{ClientStream}
+use Rattle.std.proofs.Common.{◌≡◌, ◌≢◌, ◌∙◌, sym, subst, refl, ap, ℕ, ◌+◌, ◌-◌, ◌≤◌, List, [], ◌∷◌, ◌++◌, Option, Some, MatchOption, length, map, drop, arith}
+use Rattle.std.{proofs.{Common.{append-nil, append_assoc, length-append, inl, inr, Bool, true, false, Result}, lemmas.List.{drop_at}}, specs.Prelude.{OnOk}}
+use Rattle.std.specs.{Prelude.{IfOk}, List.{AllByRecursion}, Option.{option_map_or}}
+use Rattle.nntp_wire.specs.{Answer.{Asked}, declared.misspelling.Misspelling.{Misspelling, TheVariants.{WrongBlock}}, Session.{ClientStream}}
 use Rattle.nntp_article.specs.{declared.session.profile.Profile.{Profile}, Session.{Machine.{Visible}, Misfit.{misfit}}}
 use Rattle.nntp_pair.specs.{Pairing.{Paired, Unpaired, IsNext, IsPassedOver, asked_at, streams, Place}, declared.class.Class.{Class, TheVariants.{Malformed}}}
 use Rattle.nntp_pair.{specs.declared.class.Class.TheVariants.{OutOfPlace, Contradiction}, proofs.PassedLemmas.{passed-reason}}
@@ -11,8 +10,8 @@ use Rattle.nntp_theory.specs.{Conflict.{Placed, placed_behind, SomeHas, told_wit
 use Rattle.nntp_theory.specs.{Permitted.{ArePermittedBehind}, Reading.{Judged, Accepted, Refused, Unspelled, accepted_of, accepted_with, class_behind}}
 use Rattle.nntp_theory.{specs.{Reading.{IsJudged}, declared.noted.Noted.{Noted}}, proofs.Members.{all_at, all_both, all_from, in_contains}}
 use Rattle.nntp_theory.proofs.Reading.JudgedSession.{accepted_one_more}
-use Rattle.nntp_facts.specs.Inner.{Noted.{FactsKept, HasNotedBehind, IsNotedBehind, IsDue, profile_kept}, Points.{AreHeld, held_by}}
-use Rattle.nntp_facts.specs.{declared.{standing.Standing.{Standing}, placed.Placed.{Placed as Cited}}, Standing.{nowhere, standing, standing_after, stands_of}}
+use Rattle.nntp_facts.specs.{Inner.Noted.{FactsKept, HasNotedBehind, IsNotedBehind, IsDue, profile_kept}, declared.standing.Standing.{Standing}}
+use Rattle.nntp_facts.specs.{declared.placed.Placed.{Placed as Cited}, Standing.{nowhere, standing, standing_after, stands_of}}
 use Rattle.nntp_facts.proofs.Reading.{NotedAsJudged.{unfit_refused, contradiction_refused}, Standings.{standing_push, stands_behind}}
 use Rattle.nntp_facts.proofs.Keeping.RefusedAnswers.{held_refused}
 use Rattle.nntp_said.specs.Facts.{Fact}
@@ -22,9 +21,9 @@ use Rattle.nntp_explain.specs.Explaining.{IsTold, IsConflictOf, IsReason, IsExpl
 use Rattle.nntp_explain.specs.{Explaining.{bad_behind}, Inner.{Explaining.{ToldContradiction}, ExplainingView.{AddsReason, HasReason, IsRefused, TellsNext}}}
 use Rattle.nntp_explain.specs.Inner.ExplainingView.{Kept, Before, begins, cited_here, placed_here, keeps, refuses, title_of, title_told, untold, unfitting_told}
 use Rattle.nntp_explain.specs.{Inner.ExplainingView.{AreKept, AreReasons, AreTold, Contradicts, Fits, GoesOn, unspelled_lines}, Reasons.{unfitting_lines}}
-use Rattle.nntp_explain.specs.{Reasons.{misspelling_line}, Standing.{cited, cited_at, cited_each, number_behind, cited_of_all}}
-use Rattle.nntp_explain.proofs.{ReasonsGoOn.{reason_still}, AnswerLemmas.{explained_push, good_push, bad_push, told_as, told_long}}
-use Rattle.nntp_explain.proofs.SessionLemmas.{one_more_behind, index_behind, due_behind, all_stand, cited_next, untitled, told_once, text_grows}
+use Rattle.nntp_explain.{specs.{Reasons.{misspelling_line}, Standing.{cited, number_behind, cited_of_all}}, proofs.ReasonsGoOn.{reason_still}}
+use Rattle.nntp_explain.proofs.{AnswerLemmas.{explained_push, good_push, bad_push, told_as, told_long}, SessionLemmas.{one_more_behind, index_behind}}
+use Rattle.nntp_explain.proofs.SessionLemmas.{due_behind, all_stand, cited_next, untitled, told_once, text_grows}
 use Rattle.nntp_theory.specs.declared.noted.Noted.TheVariants as kinds
 
 -- ---- how it goes on

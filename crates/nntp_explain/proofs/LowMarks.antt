@@ -3,9 +3,8 @@ use Rattle.std.proofs.Common.{◌≡◌, ◌⊎◌, ◌∙◌, inl, inr, sym, ap
 use Rattle.std.{proofs.{Common.{Some, MatchOption, length}, lemmas.Bool.Decides.{nat_tests}}, specs.{Prelude.{◌&&◌, if◌then◌else◌}, Option.{option_map}}}
 use Rattle.std.specs.{FinMap.{FinMap, get, insert, get-insert, get-empty}, Ordering.{nat_cmp, eq_by_cmp}, Cmp.Lexicographic.{slice_cmp, same_text}}
 use Rattle.std.specs.Cmp.Lexicographic.{nat_list_cmp_total, texts_ties, bytes_decides}
-use Rattle.nntp_wire.specs.Answer.{Asked, Response, group_is, numbers_are, sends, active_are, plain, overviews_are}
-use Rattle.nntp_wire.specs.declared.water_marks.WaterMarks.{WaterMarks}
-use Rattle.nntp_article.specs.{Session.{Spool.{Name}, Machine.{Visible, visible_after, selects, are_zeros, is_same, start}}, Inner.Misfit.{IsAbove}}
+use Rattle.nntp_wire.specs.{Answer.{Asked, Response}, declared.water_marks.WaterMarks.{WaterMarks}}
+use Rattle.nntp_article.specs.{Session.{Spool.{Name}, Machine.{Visible, visible_after, selects, is_same, start}}, Inner.Misfit.{IsAbove}}
 use Rattle.nntp_pair.specs.Pairing.{Paired, asked_at, asked_of, responses_of}
 use Rattle.nntp_theory.specs.Classes.{visible_from}
 use Rattle.nntp_facts.specs.{declared.standing.Standing.{Standing}, Standing.{nowhere, standing_after}}

@@ -1,15 +1,14 @@
 -- The reason of a contradiction stays what it is behind further accepted answers.
-use Rattle.std.proofs.Common.{◌≡◌, ◌∙◌, ◌<◌, ◌-◌, ℕ, List, [], ◌∷◌, ◌++◌, Option, None, Some, MatchOption, Result, Ok, Err, length, codes, refl, sym, ap, subst}
-use Rattle.std.{proofs.{Common.{arith, map}, lemmas.List.{length-map, map-append}}, specs.{Prelude.{⊤, OnOk, if◌then◌else◌}, List.{AllByRecursion, flat_map}}}
-use Rattle.std.specs.{Option.{option_and_then, option_map_or, option_or}, Result.{is_ok}}
+use Rattle.std.proofs.Common.{◌≡◌, ◌∙◌, ◌<◌, ℕ, List, [], ◌∷◌, ◌++◌, Option, None, Some, MatchOption, Result, length, refl, sym, ap, subst, arith, map}
+use Rattle.std.{proofs.lemmas.List.{length-map, map-append}, specs.{Prelude.{⊤, OnOk, if◌then◌else◌}, List.{AllByRecursion, flat_map}, Option.{option_map_or}}}
+use Rattle.std.specs.Result.{is_ok}
 use Rattle.nntp_article.specs.declared.session.profile.Profile.{Profile}
 use Rattle.nntp_wire.specs.declared.marks.Marks.{Marks}
-use Rattle.nntp_pair.specs.Pairing.{asked_at}
 use Rattle.nntp_facts.specs.{declared.placed.Placed.{Placed as Cited}, Standing.{stands_of}}
 use Rattle.nntp_theory.specs.Conflict.{Placed, Point, Core, IsCore, IsEndOfCore, IsFound, IsFirstPoint, below, places_of, told_with}
 use Rattle.nntp_theory.proofs.{CoresGoOn.{in_front_of, AreThere, told_still, core_goes_on, places_there, bound_there}, Members.{all_back}}
-use Rattle.nntp_explain.specs.{Explaining.{IsConflictOf}, Reasons.{about_line, because_lines, answer_text, rest_line}, Says.{conflict_lines, difference}}
-use Rattle.nntp_explain.{specs.Says.{first_part, part_at, part_sent, reason_lines, said_lines, told_line}, proofs.ConflictLemmas.{some_found}}
+use Rattle.nntp_explain.specs.{Explaining.{IsConflictOf}, Reasons.{rest_line}, Says.{conflict_lines, first_part, reason_lines}}
+use Rattle.nntp_explain.proofs.ConflictLemmas.{some_found}
 
 module _ (here : ℕ) (how : Marks) (point : Point) (answers more : List Cited) where
   -- the head or body that the first of them sends

@@ -1,12 +1,12 @@
 -- One session behind others: its answers as they are judged and cited, its title, and what is counted of it.
-use Rattle.std.proofs.Common.{◌≡◌, ◌∙◌, sym, subst, refl, ap, ℕ, zero, suc, ◌+◌, false, List, [], ◌∷◌, ◌++◌, Option, None, Some, length, map, add-one, arith}
-use Rattle.std.{proofs.{Common.{append_assoc, append-nil, ap₂, length-append}, lemmas.List.{map-append}}, specs.{List.{flat_map}, Option.{option_map_or}}}
+use Rattle.std.proofs.Common.{◌≡◌, ◌∙◌, sym, refl, ap, ℕ, suc, ◌+◌, List, [], ◌∷◌, ◌++◌, Option, None, length, map, add-one, arith, append_assoc, append-nil}
+use Rattle.std.{proofs.{Common.{length-append}, lemmas.List.{map-append}}, specs.{List.{flat_map}, Option.{option_map_or}}}
 use Rattle.nntp_article.specs.{declared.session.profile.Profile.{Profile}, Session.Machine.{Visible, start, visible_after}}
-use Rattle.nntp_pair.specs.Pairing.{Paired, Unpaired, IsNext, Ending, end, bad as ends_at, asked_at, asked_of, responses_of, streams}
-use Rattle.nntp_theory.specs.{Conflict.{Placed, placed_from, placed_of}, Reading.{Judged, accepted_of, IsJudged, AreJudged}}
+use Rattle.nntp_pair.specs.Pairing.{Paired, Unpaired, IsNext, Ending, asked_at, asked_of, responses_of, streams}
+use Rattle.nntp_theory.specs.{Conflict.{placed_from, placed_of}, Reading.{Judged, accepted_of, IsJudged, AreJudged}}
 use Rattle.nntp_theory.proofs.Reading.JudgedAnswers.{accepted_behind as all_behind, judged_push, judged_count, accepted_few, visible_behind, accepted_open}
-use Rattle.nntp_facts.specs.{Inner.Noted.{FactsKept, HasNotedBehind, IsDue}, declared.standing.Standing.{Standing}, Standing.{nowhere, standing}}
-use Rattle.nntp_facts.{specs.Standing.{standing_after, stands_of}, proofs.Reading.Standings.{name_after, position_next}}
+use Rattle.nntp_facts.specs.{Inner.Noted.{FactsKept, HasNotedBehind, IsDue}, declared.standing.Standing.{Standing}, Standing.{standing, standing_after}}
+use Rattle.nntp_facts.{specs.Standing.{stands_of}, proofs.Reading.Standings.{name_after, position_next}}
 use Rattle.nntp_several.specs.{Conflict.{placed_of_all}, Reading.{ReadSession}}
 use Rattle.nntp_printing.specs.Title.{title_line}
 use Rattle.nntp_explain.specs.{Explaining.{counts_behind}, Inner.ExplainingView.{untold, title_told, accepted_behind}, Standing.{cited, cited_at, cited_from}}

@@ -1,4 +1,4 @@
-use Rattle.std.{proofs.Common.{◌∙◌, sym, ap, subst}, specs.{Prelude.{count_by, is_some, drop}, Option.{option_copied}}}
+use Rattle.std.{proofs.Common.{◌∙◌, sym, ap, subst}, specs.{Prelude.{count_by, drop}, Option.{option_copied}}}
 use Rattle.nntp_article.specs.declared.session.profile.Profile.{Profile}
 use Rattle.nntp_wire.specs.Inner.View.{asked}
 use Rattle.nntp_pair.specs.Pairing.{Unpaired, line_ahead, streams, has_line}
