@@ -196,9 +196,7 @@ pub told_unspelled : (profile : Profile) (b : Before) (client : ClientStream) (s
 told_unspelled profile b client server kept new text after left behind index asked place initial block new-is asked-is (more, after-is, told) t at passed =
     let here = subst (λ asked. IsTold kept.bad kept.stands index Malformed place.line initial (λ reason. reason ≡ unspelled_lines asked initial block) more) asked-is told in
     subst (λ (q : Kept × List ℕ). AreTold profile b client server q.0 q.1 behind) (λ i. (sym new-is i, sym after-is i))
-    (told_bad profile b client server kept text more left behind (Unspelled index place initial block) kept.contradictions t (at, passed) refl
-    (unspelled_explained profile b.earlier b.bad t.answers left behind index place initial block more passed
-    (told_behind profile b client server kept text left t index at Malformed place.line initial (λ reason. reason ≡ unspelled_lines (asked_at place) initial block) more here))
+    (told_bad profile b client server kept text more left behind (Unspelled index place initial block) kept.contradictions t (at, passed) refl (search (unspelled_explained, told_behind))
     (told_long kept.bad kept.stands index Malformed place.line initial (λ reason. reason ≡ unspelled_lines asked initial block) more told)
     t.reasons (refused_still t.answers (Unspelled index place initial block) kept.contradictions t.refused))
 
@@ -264,9 +262,7 @@ told_contradiction profile b client server kept text left behind pair more contr
     (IsReason profile b.earlier (bad_behind b.bad t.answers pair.index) t.answers pair Contradiction) more
     (λ reason is. subst (λ (q : ℕ × ℕ × Profile × Placed × List Cited).
     IsContradiction (are_looked_for q.0 (length q.4)) (WasRefused t.answers q.3) q.1 q.2 facts q.3 q.4 reason)
-    (λ i. (before i, t.session_is i, t.noted.profile_is i, placed i, t.accepted_are i))
-    (told_before (are_looked_for kept.bad (length kept.accepted)) (HasReason kept bad) (WasRefused t.answers bad) kept.session (profile_kept kept.facts) facts bad kept.accepted
-    reason told is))
+    (λ i. (before i, t.session_is i, t.noted.profile_is i, placed i, t.accepted_are i)) (search told_before))
     (told_behind profile b client server kept text left t pair.index next.index Contradiction pair.place.line pair.initial _ more is)))
     (told_long kept.bad kept.stands pair.index Contradiction pair.place.line pair.initial (TellsNext kept facts bad) more is)
     reasons (refused_after t.answers pair bad kept.contradictions contradictions (sym placed) t.refused adds)
@@ -319,9 +315,7 @@ noted_out_of_place profile b client server kept new facts noted text after left 
     subst (λ (q : Kept × List ℕ). AreTold profile b client server q.0 q.1 behind)
     (λ i. (sym (new-is ∙ ap (λ facts. refuses (record kept { facts = facts })) same) i, sym after-is i))
     (told_unfitting profile b client server kept text left behind pair more t next
-    (λ past h. subst (λ f. IsNotedBehind profile b.earlier past pair kept.facts f kinds.OutOfPlace) same (at past h))
-    (subst (λ (f : FactsKept). IsTold kept.bad kept.stands pair.index OutOfPlace pair.place.line pair.initial
-    (λ reason. reason ≡ unfitting_told (record kept { facts = f }) pair) more) same told))
+    (λ past h. subst (λ f. IsNotedBehind profile b.earlier past pair kept.facts f kinds.OutOfPlace) same (at past h)) (grind arith))
 
 -- what all that was accepted says refuses it
 refused_here : (profile : Profile) (b : Before) (client : ClientStream) (server : List ℕ) (kept : Kept) (facts : FactsKept) (noted : Noted) (text : List ℕ)

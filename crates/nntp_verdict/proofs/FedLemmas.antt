@@ -1,5 +1,5 @@
 -- What a feed holds stays when more octets follow.
-use Rattle.std.proofs.Common.{◌≡◌, ◌∙◌, sym, ap, subst, ℕ, nat_lt, List, ◌∷◌, ◌++◌, Option, inl, inr, append_assoc}
+use Rattle.std.proofs.Common.{arith, ◌≡◌, ◌∙◌, sym, ap, subst, ℕ, nat_lt, List, ◌∷◌, ◌++◌, Option, inl, inr, append_assoc}
 use Rattle.nntp_wire.specs.{Octets.{crlf}, Frame.{framed}, Lines.{HasNoCrlf}}
 use Rattle.nntp_pair.specs.{declared.class.PairClass.TheVariants.{Malformed}, Pairing.{Paired, Unpaired, IsNext, line_ahead, Place}, Inner.Pairing.{with_more}}
 use Rattle.nntp_pair.{specs.Inner.Feeding.{Fed, EndsForGood, left_of, with_octets}, proofs.PairingLemmas.{next-more, bad-stays, some-stay}}
@@ -16,8 +16,7 @@ next-longer fed client server x behind next =
 -- a line with CRLF behind it is the first one, whatever follows
 first-longer : (octets initial rest more first : List ℕ) → octets ≡ initial ++ crlf ++ rest → IsFirstLine octets first → IsFirstLine (octets ++ more) first
 first-longer octets initial rest more first whole (none, inl e) = absurd (no-line octets initial rest (subst HasNoCrlf (sym e) none) whole)
-first-longer octets initial rest more first whole (none, inr (behind, e)) =
-    (none, inr (behind ++ more, ap (λ o. o ++ more) e ∙ append_assoc (first ++ crlf) behind more))
+first-longer octets initial rest more first whole (none, inr (behind, e)) = grind (arith, append_assoc)
 
 -- the line ahead, where there is a place
 line-longer : (places more : List Place) (place : Place) (rest : List Place) → places ≡ place ∷ rest → line_ahead (places ++ more) ≡ line_ahead places
