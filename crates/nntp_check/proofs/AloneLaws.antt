@@ -8,8 +8,7 @@ use Rattle.nntp_check.specs.{Capture.{Captured, sessions_of}, Report.{names_of, 
 
 -- of one session no name is told
 unnamed-report : (names : List (List ℕ)) (verdict : Judgement) → report_of false names (verdict_of_one verdict) ≡ report_of false [] (verdict_of_one verdict)
-unnamed-report names (consistent L answers) = refl
-unnamed-report names (bad answer class command reply) = refl
+unnamed-report names verdict = refl
 
 -- and the answer is the same
 one-answer : (verdict : Judgement) → is_consistent_of_all (verdict_of_one verdict) ≡ is_consistent verdict

@@ -1,7 +1,7 @@
 -- Octets begin a capture, or a piece of theirs is bad whatever follows.
 use Rattle.std.proofs.Common.{◌≡◌, ◌≢◌, ◌⊎◌, ◌∙◌, ℕ, ◌+◌, ◌-◌, ◌<◌, ◌≤◌, true, false, List, [], ◌∷◌, ◌++◌, Option, Some, None, length, take, drop, inl, inr}
-use Rattle.std.proofs.{Common.{refl, sym, ap, append_assoc, arith, length-append, length-take, flat_map}, lemmas.Bool.{cases_Bool, cases_eq, cases_lt}}
-use Rattle.std.{proofs.lemmas.{Bool.{and_from, and_parts, true≢false}, List.{take-append-drop}}, specs.{List.{list_all}, Char.{is_ascii_digit}}}
+use Rattle.std.proofs.{Common.{refl, sym, ap, append_assoc, arith, length-append, length-take}, lemmas.Bool.{cases_Bool, cases_eq, cases_lt, and_from}}
+use Rattle.std.{proofs.lemmas.{Bool.{and_parts, true≢false}, List.{take-append-drop}}, specs.{List.{list_all}, Char.{is_ascii_digit}}}
 use Rattle.nntp_check.specs.Capture.{Part, word_of, spelled, count_of, BeginsNoPiece, Begins, BeginsCapture, IsBadPieceForGood}
 use Rattle.nntp_check.{specs.declared.source.Source.{Source, TheVariants.{Client, Server, Spool, Session}}, proofs.CaptureLemmas.{one_word, spelled-append}}
 use Rattle.nntp_check.proofs.{CaptureLemmas.{counted}, CaptureLaws.{HasEnd, has-end}, ReadingLemmas.{front-nil, counted-few, digits-then}}
@@ -41,22 +41,17 @@ first-other (b ∷ line) = elim (cases_Bool (is_ascii_digit b)) [
 no-fewer : (ds es more after : List ℕ) → list_all is_ascii_digit ds ≡ true → ds ++ more ≡ es ++ 10 ∷ after → length ds ≤ length es
 no-fewer [] es more after each e = omega arith
 no-fewer (d ∷ ds) [] more after each e = let is : d ≡ 10 = cc in absurd (true≢false (sym each ∙ ap (λ x. list_all is_ascii_digit (x ∷ ds)) is))
-no-fewer (d ∷ ds) (c ∷ es) more after each e =
-    let behind : ds ++ more ≡ es ++ 10 ∷ after = cc in
-    let fewer = no-fewer ds es more after (and_parts (is_ascii_digit d) (list_all is_ascii_digit ds) each).1 behind in
-    omega arith
+no-fewer (d ∷ ds) (c ∷ es) more after each e = grind (arith, and_parts, no-fewer ds es more after)
 
 -- the line behind the word, of a piece that these octets begin
 line-of : (s : Source) (octets line more : List ℕ) (p : Part) (after : List ℕ) → octets ≡ word_of s ++ line → octets ++ more ≡ spelled p ++ after → line ++ more ≡ p.digits ++ 10 ∷ (p.octets ++ after)
-line-of s octets line more p after is e =
-    (one_word s p.source (line ++ more) (p.digits ++ 10 ∷ (p.octets ++ after)) (sym (append_assoc (word_of s) line more) ∙ ap (λ t. t ++ more) (sym is) ∙ e ∙ spelled-append p after)).1
+line-of s octets line more p after is e = grind (arith, one_word, append_assoc, spelled-append)
 
 -- more than 10 digits begin no first line
 many-digits : (s : Source) (octets line : List ℕ) → octets ≡ word_of s ++ line → list_all is_ascii_digit line ≡ true → 10 < length line → NeverBegins octets
 many-digits s octets line is each many more p after piece e =
     let fewer = no-fewer line p.digits more (p.octets ++ after) each (line-of s octets line more p after is e) in
-    let few = counted-few p.digits (length p.octets) piece in
-    omega arith
+    grind (arith, counted-few)
 
 -- nor do digits with another octet than LF behind them
 other-octet : (s : Source) (octets ds : List ℕ) (c : ℕ) (rest : List ℕ) → octets ≡ word_of s ++ (ds ++ c ∷ rest)
@@ -116,28 +111,17 @@ begun-or-never octets none = by (fork (word_of Client) octets) (fork (word_of Se
     by client server (inr (inl (line, e))) session = behind-word Spool octets line e none
     by client server spool (inl (more, e)) = inl (complete-word octets more Session e)
     by client server spool (inr (inl (line, e))) = behind-word Session octets line e none
-    by (inr (inr client)) (inr (inr server)) (inr (inr spool)) (inr (inr session)) = inr (λ more p after piece e. never more p.source (p.digits ++ 10 ∷ (p.octets ++ after)) (e
-        ∙ spelled-append p after))
+    by (inr (inr client)) (inr (inr server)) (inr (inr spool)) (inr (inr session)) = grind (arith, never, spelled-append)
       where
         never : (more : List ℕ) (s : Source) (line : List ℕ) → octets ++ more ≢ word_of s ++ line
-        never more Client line = client more line
-        never more Server line = server more line
-        never more Spool line = spool more line
-        never more Session line = session more line
+        never more s line = grind arith
 
 -- a capture is begun, or a piece is bad for good
 pub begun-or-bad : (octets : List ℕ) → BeginsCapture octets ⊎ ((number : ℕ) × IsBadPieceForGood octets number)
 begun-or-bad octets = by (has-end (length octets) octets (omega arith))
   where
     never-bad : (parts : List Part) (rest : List ℕ) → Begins octets parts rest → rest ≢ [] → NeverBegins rest → IsBadPieceForGood octets (length parts + 1)
-    never-bad parts rest pieces some never more = record {
-      parts = parts;
-      rest = rest ++ more;
-      pieces = record { whole = ap (λ t. t ++ more) pieces.whole ∙ append_assoc (flat_map spelled parts) rest more; each = pieces.each };
-      some = λ e. some (front-nil rest more e).0;
-      none = never more;
-      place = refl;
-    }
+    never-bad parts rest pieces some never more = grind (arith, append_assoc, front-nil)
 
     by : HasEnd octets → BeginsCapture octets ⊎ ((number : ℕ) × IsBadPieceForGood octets number)
     by (parts, rest, pieces, inl end) = inl (completed-whole octets parts rest pieces.whole pieces.each end)

@@ -76,8 +76,7 @@ pub completed : (came : List ℕ) (parts : List Part) (octets : List ℕ) → ca
 completed came parts octets is each (more, p, piece, whole) = (
   more,
   of-pieces (came ++ more) (parts ++ p ∷ []) (record {
-    whole = ap (λ t. t ++ more) is ∙ append_assoc (flat_map spelled parts) octets more ∙ ap (λ t. flat_map spelled parts ++ t) whole ∙ sym (flat_map-snoc spelled parts p)
-        ∙ sym (append-nil (flat_map spelled (parts ++ p ∷ [])));
+    whole = grind (arith, append_assoc, flat_map-snoc, append-nil);
     each = each-snoc parts p each piece;
   }),
 )

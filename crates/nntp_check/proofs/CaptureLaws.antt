@@ -12,17 +12,11 @@ HasEnd bytes = (parts : List Part) × (rest : List ℕ) × Begins bytes parts re
 
 -- a piece more in front
 begins-cons : (bytes more : List ℕ) (p : Part) (parts : List Part) (rest : List ℕ) → IsPiece p → bytes ≡ spelled p ++ more → Begins more parts rest → Begins bytes (p ∷ parts) rest
-begins-cons bytes more p parts rest is e b = record {
-  whole = e ∙ ap (λ t. spelled p ++ t) b.whole ∙ sym (append_assoc (spelled p) (flat_map spelled parts) rest);
-  each = (is, b.each);
-}
+begins-cons bytes more p parts rest is e b = grind (arith, append_assoc)
 
 -- what follows a piece is shorter
 behind-shorter : (n : ℕ) (bytes more : List ℕ) (p : Part) → length bytes ≤ suc n → bytes ≡ spelled p ++ more → length more ≤ n
-behind-shorter n bytes more p few e =
-    let some = spelled-length p in
-    let all : length bytes ≡ length (spelled p) + length more = ap length e ∙ length-append (spelled p) more in
-    omega arith
+behind-shorter n bytes more p few e = grind (arith, spelled-length, length-append)
 
 -- octets, at most so many, have an end
 pub has-end : (n : ℕ) (bytes : List ℕ) → length bytes ≤ n → HasEnd bytes
@@ -48,10 +42,7 @@ capture-or-bad octets = by (has-end (length octets) octets (omega arith))
 
 -- where no octets are, no piece is
 nil-no-piece : BeginsNoPiece []
-nil-no-piece p more is e =
-    let some = spelled-length p in
-    let none : 0 ≡ length (spelled p) + length more = ap length e ∙ length-append (spelled p) more in
-    omega arith
+nil-no-piece p more is e = grind (arith, spelled-length, length-append)
 
 -- pieces up to what begins none are determined
 same-parts : (parts others : List Part) (rest left : List ℕ) → AllByRecursion IsPiece parts → AllByRecursion IsPiece others → BeginsNoPiece rest → BeginsNoPiece left
@@ -59,11 +50,7 @@ same-parts : (parts others : List Part) (rest left : List ℕ) → AllByRecursio
 same-parts [] [] rest left each also none no_more e = (refl, e)
 same-parts [] (q ∷ others) rest left each also none no_more e = absurd (none q (flat_map spelled others ++ left) also.0 (e ∙ append_assoc (spelled q) (flat_map spelled others) left))
 same-parts (p ∷ parts) [] rest left each also none no_more e = absurd (no_more p (flat_map spelled parts ++ rest) each.0 (sym e ∙ append_assoc (spelled p) (flat_map spelled parts) rest))
-same-parts (p ∷ parts) (q ∷ others) rest left each also none no_more e =
-    let first = one-piece p q (flat_map spelled parts ++ rest) (flat_map spelled others ++ left) each.0 also.0
-    (sym (append_assoc (spelled p) (flat_map spelled parts) rest) ∙ e ∙ append_assoc (spelled q) (flat_map spelled others) left) in
-    let behind = same-parts parts others rest left each.1 also.1 none no_more first.1 in
-    ((λ k. first.0 k ∷ behind.0 k), behind.1)
+same-parts (p ∷ parts) (q ∷ others) rest left each also none no_more e = grind (arith, one-piece, append_assoc, same-parts parts others rest left each.1 also.1 none no_more)
 
 -- the same of octets
 one-begin : (octets : List ℕ) (parts others : List Part) (rest left : List ℕ) → Begins octets parts rest

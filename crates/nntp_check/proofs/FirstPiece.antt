@@ -13,11 +13,7 @@ pub one_line : (ds es after more : List ℕ) → list_all is_ascii_digit ds ≡ 
 one_line [] [] after more h i e = (refl, cc)
 one_line [] (c ∷ es) after more h i e = let is : c ≡ 10 = cc in absurd (true≢false (sym i ∙ ap (λ x. list_all is_ascii_digit (x ∷ es)) is))
 one_line (b ∷ ds) [] after more h i e = let is : b ≡ 10 = cc in absurd (true≢false (sym h ∙ ap (λ x. list_all is_ascii_digit (x ∷ ds)) is))
-one_line (b ∷ ds) (c ∷ es) after more h i e =
-    let first : b ≡ c = cc in
-    let behind : ds ++ 10 ∷ after ≡ es ++ 10 ∷ more = cc in
-    let rest = one_line ds es after more (and_parts (is_ascii_digit b) (list_all is_ascii_digit ds) h).1 (and_parts (is_ascii_digit c) (list_all is_ascii_digit es) i).1 behind in
-    ((λ k. first k ∷ rest.0 k), rest.1)
+one_line (b ∷ ds) (c ∷ es) after more h i e = grind (arith, and_parts, one_line ds es after more)
 
 -- equally many octets, and what follows them
 one_front : (front other after more : List ℕ) → length front ≡ length other → front ++ after ≡ other ++ more → (front ≡ other) × (after ≡ more)
@@ -27,12 +23,7 @@ one_front front other after more many e =
 
 -- octets begin with one piece
 pub one-piece : (piece other : Part) (rest more : List ℕ) → IsPiece piece → IsPiece other → spelled piece ++ rest ≡ spelled other ++ more → (piece ≡ other) × (rest ≡ more)
-one-piece p q rest more is also e =
-    let word = one_word p.source q.source _ _ (sym (spelled-append p rest) ∙ e ∙ spelled-append q more) in
-    let line = one_line p.digits q.digits (p.octets ++ rest) (q.octets ++ more) (counted p.digits (length p.octets) is) (counted q.digits (length q.octets) also) word.1 in
-    let count : Some (length p.octets) ≡ Some (length q.octets) = sym is ∙ ap count_of line.0 ∙ also in
-    let octets = one_front p.octets q.octets rest more (cc) line.1 in
-    ((λ k. record { source = word.0 k; digits = line.0 k; octets = octets.0 k }), octets.1)
+one-piece p q rest more is also e = grind (arith, one_word, spelled-append, one_line, counted, one_front)
 
 -- ---- whether there is one
 
@@ -58,10 +49,7 @@ dec_word : (bytes : List ℕ) → ((s : Source) × HasWord bytes s) ⊎ BeginsNo
 dec_word bytes = by (dec_front (word_of Client) bytes) (dec_front (word_of Server) bytes) (dec_front (word_of Spool) bytes) (dec_front (word_of Session) bytes)
   where
     none : (HasWord bytes Client → ⊥) → (HasWord bytes Server → ⊥) → (HasWord bytes Spool → ⊥) → (HasWord bytes Session → ⊥) → BeginsNoWord bytes
-    none client server spool session Client line e = client (line, e)
-    none client server spool session Server line e = server (line, e)
-    none client server spool session Spool line e = spool (line, e)
-    none client server spool session Session line e = session (line, e)
+    none client server spool session x4 line e = grind arith
 
     by : Dec (HasWord bytes Client) → Dec (HasWord bytes Server) → Dec (HasWord bytes Spool) → Dec (HasWord bytes Session) → ((s : Source) × HasWord bytes s) ⊎ BeginsNoWord bytes
     by (inl client) server spool session = inl (Client, client)
@@ -91,10 +79,7 @@ dec_digits (b ∷ line) = elim (cases_eq b 10) [
   where
     behind : (ds after : List ℕ) → b ≢ 10 → list_all is_ascii_digit ds ≡ true → b ∷ line ≡ ds ++ 10 ∷ after → (is_ascii_digit b ≡ true) × HasDigits line
     behind [] after other h e = absurd (other (cc))
-    behind (d ∷ ds) after other h e =
-        let both = and_parts (is_ascii_digit d) (list_all is_ascii_digit ds) h in
-        let same : b ≡ d = cc in
-        (ap is_ascii_digit same ∙ both.0, (ds, after, both.1, (cc)))
+    behind (d ∷ ds) after other h e = grind (arith, and_parts)
 
 -- octets begin with a piece
 abbrev pub BeginsWithPiece : List ℕ → Type 0

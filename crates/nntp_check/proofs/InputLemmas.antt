@@ -1,8 +1,7 @@
 -- What a run has read, read by read.
-use Rattle.std.proofs.Common.{◌≡◌, ◌||◌, Bool, true, false, ◌≢◌, ◌∙◌, ℕ, ◌+◌, ◌<◌, ◌≤◌, List, [], ◌∷◌, ◌++◌, Option, Some, None, ◌^◌, length, take, drop, inl}
-use Rattle.std.proofs.{Common.{inr, refl, sym, ap, subst, append_assoc, arith, length-append}, Math.{Bool.{or-false}, Seq.{take-append_seam}}}
-use Rattle.std.proofs.{lemmas.{Bool.{true≢false}, List.{append-nil, take-append-drop, take-take}}, KnownBytes.{Consumes-trans}}
-use Rattle.std.specs.Io.KnownBytes.{Consumes, Keeps, IsAtEnd}
+use Rattle.std.proofs.Common.{◌≡◌, ◌||◌, Bool, true, false, ◌≢◌, ◌∙◌, ℕ, ◌+◌, ◌<◌, ◌≤◌, List, [], ◌∷◌, ◌++◌, Option, ◌^◌, length, take, drop, inl, inr, refl}
+use Rattle.std.proofs.{Common.{sym, ap, subst, append_assoc, arith, length-append}, Math.{Bool.{or-false}, Seq.{take-append_seam}}, lemmas.Bool.{true≢false}}
+use Rattle.std.{proofs.{lemmas.List.{append-nil, take-append-drop, take-take}, KnownBytes.{Consumes-trans}}, specs.Io.KnownBytes.{Consumes, Keeps, IsAtEnd}}
 use Rattle.nntp_check.specs.{Capture.{Held, BeginsCapture, IsBadPiece}, Inner.{CaptureReading.{HasBadFront}, Sinks.{StopsWithin, BothStand, PassesOn}}}
 use Rattle.nntp_check.specs.{Run.{ReadsFront, ReadsMore, ReadsBadPiece, IsInputFault}, declared.capture_reader.CaptureReader.{CaptureReader}}
 use Rattle.nntp_check.specs.declared.run_fault.RunFault.{RunFault}
@@ -37,8 +36,7 @@ bad-within : (before old after : Option (List ℕ)) (most piece : ℕ) (octets g
     → length got ≤ 2 ^ 16 → HasBadFront octets fitting piece
     → ReadsBadPiece (record { before = before; after = after; most = most }) piece
 bad-within before old after most piece octets got fitting rest read gave cut few near h =
-    let all : octets ++ got ≡ (octets ++ h.front) ++ (h.rest ++ rest) =
-    ap (λ t. octets ++ t) (cut ∙ ap (λ t. t ++ rest) h.cut ∙ append_assoc h.front h.rest rest) ∙ sym (append_assoc octets h.front (h.rest ++ rest)) in
+    let all : octets ++ got ≡ (octets ++ h.front) ++ (h.rest ++ rest) = grind (arith, append_assoc) in
     let many : length fitting ≡ length h.front + length h.rest = ap length h.cut ∙ length-append h.front h.rest in
     let front : length (octets ++ h.front) ≡ length octets + length h.front = length-append octets h.front in
     let behind : length (h.rest ++ rest) ≡ length h.rest + length rest = length-append h.rest rest in
@@ -57,8 +55,7 @@ pub stops-bad : (before old after : Option (List ℕ)) (most : ℕ) (octets got 
     → Consumes before old octets → Consumes old after got → got ≡ fitting ++ rest → length octets + length fitting ≤ most
     → length got ≤ 2 ^ 16 → BeginsCapture octets
     → StopsWithin octets fitting fault → IsInputFault (record { before = before; after = after; most = most }) fault
-stops-bad before old after most octets got fitting rest (faults.Capture piece) read gave cut few near begun stops = bad-within before old after most piece octets got fitting rest read gave cut few
-    near stops
+stops-bad before old after most octets got fitting rest (faults.Capture piece) read gave cut few near begun stops = search bad-within
 stops-bad before old after most octets got fitting rest faults.Memory read gave cut few near begun stops = record {
   front = octets;
   last = got;
@@ -67,27 +64,16 @@ stops-bad before old after most octets got fitting rest faults.Memory read gave 
   begun = begun;
   near = near;
 }
-stops-bad before old after most octets got fitting rest faults.Read read gave cut few near begun stops = absurd stops
-stops-bad before old after most octets got fitting rest faults.TooLong read gave cut few near begun stops = absurd stops
-stops-bad before old after most octets got fitting rest (faults.Spool fault) read gave cut few near begun stops = absurd stops
-stops-bad before old after most octets got fitting rest faults.Write read gave cut few near begun stops = absurd stops
+stops-bad before old after most octets got fitting rest fault read gave cut few near begun stops = search
 
 -- a read that fails leaves what was read
 Consumes-kept : (before old after : Option (List ℕ)) (octets : List ℕ) → Consumes before old octets → Keeps old after → Consumes before after octets
-Consumes-kept None old after octets read kept = tt
-Consumes-kept (Some xs) None after octets read kept = absurd read
-Consumes-kept (Some xs) (Some ys) None octets read kept = absurd kept
-Consumes-kept (Some xs) (Some ys) (Some zs) octets read kept = read ∙ ap (λ (t : List ℕ). octets ++ t) (sym kept)
+Consumes-kept before old after octets read kept = grind arith
 
 -- which begins a capture then
 pub read-fails : (before old after : Option (List ℕ)) (most : ℕ) (octets : List ℕ) → Consumes before old octets → Keeps old after
     → length octets ≤ most → BeginsCapture octets → ReadsFront (record { before = before; after = after; most = most })
-read-fails before old after most octets read kept few begun = record {
-  octets = octets;
-  consumed = Consumes-kept before old after octets read kept;
-  few = few;
-  begun = begun;
-}
+read-fails before old after most octets read kept few begun = search Consumes-kept
 
 -- no failed read is a reason
 pub stops-unread : (octets fitting : List ℕ) (fault : RunFault) → StopsWithin octets fitting fault → fault ≢ faults.Read

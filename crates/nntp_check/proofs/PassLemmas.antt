@@ -1,23 +1,16 @@
 -- How octets of a capture are passed on to a sink.
-use Rattle.std.proofs.Common.{◌≡◌, ◌∙◌, ℕ, ◌+◌, ◌<◌, ◌≤◌, ◌^◌, List, [], ◌++◌, length, sym, ap, subst, append_assoc, arith, length-append, flat_map}
+use Rattle.std.proofs.Common.{◌≡◌, ◌∙◌, ℕ, ◌+◌, ◌<◌, ◌≤◌, ◌^◌, List, ◌++◌, length, sym, ap, subst, append_assoc, arith, length-append, flat_map}
 use Rattle.std.proofs.lemmas.List.{append-nil}
-use Rattle.nntp_check.specs.{Capture.{Held, Part, spelled, captured_by, IsBadPiece}, Inner.CaptureReading.{IsAt, HasRead, HasBadFront, Reads, captured}}
-use Rattle.nntp_check.specs.{Inner.Sinks.{HasRoom, Takes, BothStand, PassesOn, StopsWithin}, declared.capture_reader.CaptureReader.{CaptureReader}}
-use Rattle.nntp_check.{specs.declared.{capture_reader.{Passage.{Passage}, Place.{Place}}, run_fault.RunFault.{RunFault}}, proofs.HoldingLemmas.{last_octets}}
-use Rattle.nntp_check.proofs.{HoldingLemmas.{captured-few}, ReadingLemmas.{flat_map-append}}
-use Rattle.nntp_check.specs.declared.capture_reader.Place.TheVariants as places
+use Rattle.nntp_check.specs.{Capture.{Held, Part, spelled}, Inner.{CaptureReading.{IsAt, HasRead, HasBadFront, Reads}, Sinks.{HasRoom, Takes, BothStand}}}
+use Rattle.nntp_check.specs.{Inner.Sinks.{PassesOn, StopsWithin}, declared.capture_reader.{CaptureReader.{CaptureReader}, Passage.{Passage}, Place.{Place}}}
+use Rattle.nntp_check.{specs.declared.run_fault.RunFault.{RunFault}, proofs.{HoldingLemmas.{last_octets, captured-few}, ReadingLemmas.{flat_map-append}}}
 use Rattle.nntp_check.specs.declared.run_fault.RunFault.TheVariants as faults
 
 -- ---- streams are shorter than their capture
 
 -- what came of a piece that has begun
 begun-few : (place : Place) (octets : List ℕ) (begun : List Part) → IsAt place octets begun → length (flat_map spelled begun) ≤ length octets
-begun-few places.Start octets begun at = rw at.1 (omega arith)
-begun-few places.LetterS octets begun at = rw at.1 (omega arith)
-begun-few places.LettersSe octets begun at = rw at.1 (omega arith)
-begun-few (places.Word source rest) octets begun at = rw at.1 (omega arith)
-begun-few (places.Digits source many value) octets begun at = rw at.1 (omega arith)
-begun-few (places.Octets source left) octets begun at = rw (at.begun_is, at.whole) (simp append-nil (omega arith))
+begun-few place octets begun at = grind (arith, append-nil)
 
 -- both streams of the session that goes on have no more octets than came
 streams-few : (reader : CaptureReader) (came : List ℕ) (held : Held) → HasRead reader came held → length held.last.session.client.octets + length held.last.session.server ≤ length came
@@ -25,19 +18,14 @@ streams-few reader came held r =
     let h = r.come in
     let begun = begun-few reader.place h.octets h.begun h.at in
     let few = captured-few (h.parts ++ h.begun) in
-    let same : last_octets (captured reader held) ≡ last_octets (captured_by (h.parts ++ h.begun)) = ap last_octets h.captured_is in
-    let whole : length came ≡ length (flat_map spelled h.parts) + length h.octets = ap length h.whole ∙ length-append (flat_map spelled h.parts) h.octets in
-    let all : length (flat_map spelled (h.parts ++ h.begun)) ≡ length (flat_map spelled h.parts) + length (flat_map spelled h.begun) =
-    ap length (flat_map-append spelled h.parts h.begun) ∙ length-append (flat_map spelled h.parts) (flat_map spelled h.begun) in
-    omega arith
+    grind (arith, last_octets, length-append, flat_map-append)
 
 -- so a sink has room for a front of what fits
 pub has-room : (reader : CaptureReader) (Stands : Held → Type 0) (came octets front rest : List ℕ)
     → BothStand reader Stands came → length came + length octets < 2 ^ 64 → octets ≡ front ++ rest → HasRoom Stands front
 has-room reader Stands came octets front rest both few cut =
     let streams = streams-few reader came both.0 both.1 in
-    let all : length octets ≡ length front + length rest = ap length cut ∙ length-append front rest in
-    (both.0, both.2, omega arith)
+    grind (arith, length-append)
 
 -- ---- octets that are passed on
 
@@ -52,11 +40,7 @@ passed-on before after Stood Stands passage octets front rest cut reads takes = 
 
 -- nothing was passed on yet
 pub passed-none : (reader : CaptureReader) (Stands : Held → Type 0) (octets : List ℕ) → PassesOn reader reader Stands Stands octets octets
-passed-none reader Stands octets = record {
-  front = [];
-  cut = λ k. octets;
-  stands = λ came both. subst (BothStand reader Stands) (sym (append-nil came)) both;
-}
+passed-none reader Stands octets = grind (arith, append-nil)
 
 -- one after the other
 pub passed-more : (before between after : CaptureReader) (Stood Standing Stands : Held → Type 0)
@@ -80,18 +64,9 @@ left-room before after Stood Stands octets rest came p both few =
 
 -- a front that is bad behind some is bad behind all
 pub bad-behind : (came octets front rest : List ℕ) (piece : ℕ) → octets ≡ front ++ rest → HasBadFront (came ++ front) rest piece → HasBadFront came octets piece
-bad-behind came octets front rest piece cut bad = record {
-  front = front ++ bad.front;
-  rest = bad.rest;
-  cut = cut ∙ ap (λ t. front ++ t) bad.cut ∙ sym (append_assoc front bad.front bad.rest);
-  bad = λ more. subst (λ (octets : List ℕ). IsBadPiece (octets ++ more) piece) (append_assoc came front bad.front) (bad.bad more);
-}
+bad-behind came octets front rest piece cut bad = grind (arith, append_assoc)
 
 -- and so is why no more is passed on
 pub stops-behind : (came octets front rest : List ℕ) (fault : RunFault) → octets ≡ front ++ rest → StopsWithin (came ++ front) rest fault → StopsWithin came octets fault
 stops-behind came octets front rest (faults.Capture piece) cut bad = bad-behind came octets front rest piece cut bad
-stops-behind came octets front rest faults.Memory cut bad = bad
-stops-behind came octets front rest faults.Read cut bad = bad
-stops-behind came octets front rest faults.TooLong cut bad = bad
-stops-behind came octets front rest (faults.Spool fault) cut bad = bad
-stops-behind came octets front rest faults.Write cut bad = bad
+stops-behind came octets front rest fault cut bad = search

@@ -44,16 +44,7 @@ at-octets fed text shown named class p ends index at of is more =
 -- where there is room for octets, none but want of memory keeps a feed from taking them
 pub untaken-memory : (error : PairError) (side : Side) (octets : List ℕ) (before after : Fed) (text : List ℕ) (session : Recorded) → IsShown before text session
     → length session.client.octets + length session.server + length octets < 2 ^ 64 → IsUntaken error side octets before after → error ≡ errors.Memory
-untaken-memory errors.Memory side octets before after text session p room is = refl
-untaken-memory errors.Failed side octets before after text session p room is = absurd (true≢false (sym is.0 ∙ p.works))
-untaken-memory errors.TooLong Client octets before after text session p room is =
-    let count : before.counts.client ≡ length session.client.octets = p.fed_is.client_came in
-    let many : 2 ^ 64 ≤ before.counts.client + length octets = is.1 in
-    absurd (omega arith)
-untaken-memory errors.TooLong Server octets before after text session p room is =
-    let count : before.counts.server ≡ length session.server = p.fed_is.server_came in
-    let many : 2 ^ 64 ≤ before.counts.server + length octets = is.1 in
-    absurd (omega arith)
+untaken-memory error side octets before after text session p room is = grind (arith, true≢false)
 
 -- octets that are taken are behind those that came
 pub shown-more : (before after : Fed) (side : Side) (octets text : List ℕ) (session : Recorded) → IsTaken side octets before after → IsShown before text session
@@ -69,40 +60,22 @@ shown-more before after side octets text session taken p = record {
 
 -- the title of a session has more than one octet
 title-length : (number : ℕ) (name : List ℕ) → 8 ≤ length (title_line number name)
-title-length number [] = simp length-append (omega arith)
-title-length number (octet ∷ name) = simp length-append (omega arith)
+title-length number name = grind (arith, length-append)
 
 -- so a report is longer than there are sessions
 report-long : (number : ℕ) (shown : List ShownSession) → length shown + length shown ≤ length (shown_report true number shown)
 report-long number [] = omega arith
-report-long number (s ∷ shown) =
-    let behind = report-long (number + 1) shown in
-    let title = title-length number s.name in
-    let all : length (shown_report true number (s ∷ shown)) ≡ length (title_line number s.name ++ session_text s) + length (shown_report true (number + 1) shown) =
-    length-append (title_line number s.name ++ session_text s) (shown_report true (number + 1) shown) in
-    let first = length-append (title_line number s.name) (session_text s) in
-    omega arith
+report-long number (s ∷ shown) = grind (arith, title-length, length-append, report-long (number + 1) shown)
 
 -- and the number of the next one fits
 pub many-fits : (many : ℕ) (text : List ℕ) (answered : Bool) (sessions : List Named) → AreReported many text answered sessions → length text < 2 ^ 64 → many + 1 < 2 ^ 64
-many-fits many text answered sessions h small =
-    let long = report-long 1 h.shown in
-    let same : length text ≡ length (shown_report true 1 h.shown) = ap length h.text_is in
-    let is = h.many_is in
-    omega arith
+many-fits many text answered sessions h small = grind (arith, report-long)
 
 -- the report on one session more
 report-snoc : (number : ℕ) (shown : List ShownSession) (s : ShownSession)
     → shown_report true number (shown ++ s ∷ []) ≡ shown_report true number shown ++ (title_line (length shown + number) s.name ++ session_text s)
-report-snoc number [] s =
-    let place : number ≡ 0 + number = omega arith in
-    append-nil (title_line number s.name ++ session_text s) ∙ ap (λ n. title_line n s.name ++ session_text s) place
-report-snoc number (x ∷ shown) s =
-    let first = title_line number x.name ++ session_text x in
-    let rest = shown_report true (number + 1) shown in
-    let place : length shown + (number + 1) ≡ length (x ∷ shown) + number = omega arith in
-    ap (λ t. first ++ t) (report-snoc (number + 1) shown s) ∙ sym (append_assoc first rest (title_line (length shown + (number + 1)) s.name ++ session_text s))
-    ∙ ap (λ n. (first ++ rest) ++ (title_line n s.name ++ session_text s)) place
+report-snoc number [] s = grind (arith, append-nil)
+report-snoc number (x ∷ shown) s = grind (arith, append_assoc, report-snoc (number + 1) shown s)
 
 -- sessions as they are shown, and one more
 shown-snoc : (sessions : List Named) (shown : List ShownSession) (named : Named) (s : ShownSession) → AreShown sessions shown → IsShownAs named s → AreShown (sessions ++ named ∷ []) (shown ++ s ∷ [])
@@ -115,39 +88,16 @@ shown-snoc (n ∷ sessions) (x ∷ shown) named s are is = (are.0, shown-snoc se
 pub session-ended : (many : ℕ) (before : List ℕ) (were : Bool) (sessions : List Named) (named : Named) (text : List ℕ) (answered : Bool) → AreReported many before were sessions
     → IsShownWhole named text answered
     → AreReported (many + 1) ((before ++ title_line (many + 1) named.name) ++ text) (were && answered) (sessions ++ named ∷ [])
-session-ended many before were sessions named text answered h last =
-    let s = last.shown in
-    let number : many + 1 ≡ length h.shown + 1 = ap (λ n. n + 1) h.many_is in
-    record {
-      shown = h.shown ++ s ∷ [];
-      are_shown = shown-snoc sessions h.shown named s h.are_shown last.is_shown;
-      many_is = number ∙ sym (length-append h.shown (s ∷ []));
-      text_is = append_assoc before (title_line (many + 1) named.name) text
-          ∙ ap (λ t. t ++ (title_line (many + 1) named.name ++ text)) h.text_is
-          ∙ ap (λ n. shown_report true 1 h.shown ++ (title_line n named.name ++ text)) number
-          ∙ ap (λ t. shown_report true 1 h.shown ++ (title_line (length h.shown + 1) named.name ++ t)) last.text_is
-          ∙ ap (λ name. shown_report true 1 h.shown ++ (title_line (length h.shown + 1) name ++ session_text s)) (sym last.is_shown.0)
-          ∙ sym (report-snoc 1 h.shown s);
-      answered_is = ap (λ b. b && answered) h.answered_is ∙ ap (λ b. are_answered h.shown && b) last.answered_is ∙ answered-snoc h.shown s;
-    }
+session-ended many before were sessions named text answered h last = grind (arith, shown-snoc, length-append, append_assoc, report-snoc, answered-snoc)
   where
     answered-snoc : (shown : List ShownSession) (s : ShownSession) → (are_answered shown && is_end s.ending) ≡ are_answered (shown ++ s ∷ [])
-    answered-snoc shown s = by (is_end s.ending) ∙ sym (list_all-append (λ (x : ShownSession). is_end x.ending) shown (s ∷ []))
-      where
-        by : (b : Bool) → (are_answered shown && b) ≡ (are_answered shown && (b && true))
-        by true = refl
-        by false = refl
+    answered-snoc shown s = grind (arith, list_all-append)
 
 -- ---- the report on all of them
 
 -- of several
 pub several-reported : (c : Captured) (many : ℕ) (text : List ℕ) (answered : Bool) → AreReported many text answered (sessions_of c.held) → c.is_several ≡ true → ShowReports c text answered
-several-reported c many text answered h several = record {
-  shown = h.shown;
-  are_shown = h.are_shown;
-  text_is = h.text_is ∙ ap (λ b. shown_report b 1 h.shown) (sym several);
-  answer_is = h.answered_is;
-}
+several-reported c many text answered h several = grind arith
 
 -- of the only one
 pub one-reported : (c : Captured) (text : List ℕ) (answered : Bool) → IsAlone c → c.is_several ≡ false → IsShownWhole c.held.last text answered → ShowReports c text answered
@@ -161,5 +111,4 @@ one-reported c text answered alone one last =
     }
   where
     and-nothing : (b : Bool) → b ≡ (b && true)
-    and-nothing true = refl
-    and-nothing false = refl
+    and-nothing b = grind arith

@@ -1,13 +1,13 @@
 -- One answer more, and what is told of it.
-use Rattle.std.proofs.Common.{◌≡◌, ◌∙◌, sym, subst, refl, ap, ℕ, ◌+◌, ◌-◌, ◌≤◌, Bool, true, false, List, [], ◌∷◌, ◌++◌, Option, Some, length, arith}
-use Rattle.std.{proofs.Common.{append_assoc, append-nil, length-append}, specs.{Prelude.{nat_lt, cond, codes, decimal}, Option.{option_map}}}
+use Rattle.std.proofs.Common.{◌≡◌, ◌∙◌, sym, subst, refl, ap, ℕ, ◌+◌, ◌-◌, ◌≤◌, Bool, List, [], ◌∷◌, ◌++◌, Option, Some, length, arith, append_assoc}
+use Rattle.std.{proofs.Common.{append-nil, length-append}, specs.Prelude.{nat_lt, cond, codes}}
 use Rattle.nntp_article.specs.declared.session.profile.Profile.{Profile}
 use Rattle.nntp_pair.specs.{Pairing.{Paired}, declared.class.Class.{Class}}
 use Rattle.nntp_theory.{specs.Reading.{Judged, Accepted, Refused, Unspelled, accepted_of, accepted_with}, proofs.Reading.JudgedSession.{accepted_one_more}}
 use Rattle.nntp_facts.specs.{declared.{standing.Standing.{Standing}, placed.Placed.{Placed as Cited}}, Standing.{standing_from, standing_after}}
 use Rattle.nntp_explain.specs.{Explaining.{front_lines, place_lines, IsTold, IsExplained, AreExplained, count_bad}, Inner.ExplainingView.{GoesOn}}
 use Rattle.nntp_explain.specs.{Reasons.{answer_at, rest_line}, Standing.{cited_at, cited_from}}
-use Rattle.nntp_printing.specs.{BadAnswer.{bad_lines, class_word, command_line, shown}, Printing.{escaped}}
+use Rattle.nntp_printing.specs.BadAnswer.{bad_lines}
 
 -- ---- the accepted answers
 
@@ -32,68 +32,44 @@ pub explained_push : (profile : Profile) (earlier : List (List Paired)) (before 
     → AreExplained profile earlier before past (answers ++ answer ∷ []) (text ++ more)
 explained_push profile earlier before past [] answer text more none is =
     (more, [], ap (λ t. t ++ more) none ∙ sym (append-nil more), subst (λ p. IsExplained profile earlier before p answer more) (append-nil past) is, refl)
-explained_push profile earlier before past (first ∷ answers) answer text more (front, back, whole, head, tail) is = (
-  front,
-  back ++ more,
-  ap (λ t. t ++ more) whole ∙ append_assoc front back more,
-  head,
-  explained_push profile earlier before (past ++ first ∷ []) answers answer back more tail
-      (subst (λ p. IsExplained profile earlier before p answer more) (sym (append_assoc past (first ∷ []) answers)) is),
-)
+explained_push profile earlier before past (first ∷ answers) answer text more (front, back, whole, head, tail) is =
+    grind (arith, append_assoc, explained_push profile earlier before (past ++ first ∷ []) answers answer back more tail)
 
 -- an accepted one adds nothing that is bad
 pub good_push : (answers : List Judged) (pair : Paired) → count_bad (answers ++ Accepted pair ∷ []) ≡ count_bad answers
-good_push answers pair =
-    let accepted = ap length (accepted_one_more answers (Accepted pair)) in
-    omega (arith, accepted, length-append (accepted_of answers) (pair ∷ []), length-append answers (Accepted pair ∷ []), few_accepted answers)
+good_push answers pair = grind (arith, accepted_one_more, length-append, few_accepted)
 
 -- any other is bad
 pub bad_push : (answers : List Judged) (answer : Judged) → accepted_with (accepted_of answers) answer ≡ accepted_of answers → count_bad (answers ++ answer ∷ []) ≡ count_bad answers + 1
-bad_push answers answer same =
-    let accepted = ap length (accepted_one_more answers answer ∙ same) in
-    omega (arith, accepted, length-append answers (answer ∷ []), few_accepted answers)
+bad_push answers answer same = grind (arith, accepted_one_more, length-append, few_accepted)
 
 -- ---- what is told of a bad answer
 
 -- with another reason that follows from the one that is told
 reason_follows : (b : Bool) (P Q N : Type 0) → (P → Q) → cond b P N → cond b Q N
-reason_follows true P Q N f h = f h
-reason_follows false P Q N f h = h
+reason_follows b P Q N f h = grind arith
 
 pub told_as : (before : ℕ) (stands : Standing) (index : ℕ) (class : Class) (line : Option (List ℕ)) (initial : List ℕ) (P Q : List ℕ → Type 0) (text : List ℕ)
     → ((reason : List ℕ) → P reason → Q reason) → IsTold before stands index class line initial P text → IsTold before stands index class line initial Q text
-told_as before stands index class line initial P Q text f (reason, whole, is) =
-    (reason, whole, reason_follows (nat_lt before 100) (P reason) (Q reason) (reason ≡ []) (f reason) is)
+told_as before stands index class line initial P Q text f (reason, whole, is) = search reason_follows
 
 -- behind its lines a reason
 pub told_reason : (before : ℕ) (stands : Standing) (index : ℕ) (class : Class) (line : Option (List ℕ)) (initial : List ℕ) (Reason : List ℕ → Type 0) (old new reason : List ℕ) (is_told : Bool)
     → is_told ≡ nat_lt before 100 → new ≡ (old ++ front_lines index class line initial ++ place_lines before stands) ++ reason → cond is_told (Reason reason) (reason ≡ [])
     → GoesOn (IsTold before stands index class line initial Reason) old new
-told_reason before stands index class line initial Reason old new reason is_told told-is whole is =
-    let bad = front_lines index class line initial in
-    let place = place_lines before stands in (
-      bad ++ place ++ reason,
-      whole ∙ ap (λ t. t ++ reason) (append_assoc old bad place) ∙ append_assoc old (bad ++ place) reason,
-      (reason, refl, subst (λ b. cond b (Reason reason) (reason ≡ [])) told-is is),
-    )
+told_reason before stands index class line initial Reason old new reason is_told told-is whole is = grind (arith, append_assoc)
 
 some : (x : ℕ) (xs : List ℕ) → 1 ≤ length (x ∷ xs)
 some x xs = omega arith
 
 -- its lines are some
 pub bad_long : (index : ℕ) (class : Class) (line : Option (List ℕ)) (initial : List ℕ) → 1 ≤ length (bad_lines index class line initial)
-bad_long index class line initial =
-    some 98 (codes "ad answer " ++ decimal index ++ codes " " ++ class_word class ++ codes "\n" ++ command_line line ++ codes "answer " ++ escaped initial ++ codes "\n")
+bad_long index class line initial = search some
 
 -- and so is what is told of it
 pub told_long : (before : ℕ) (stands : Standing) (index : ℕ) (class : Class) (line : Option (List ℕ)) (initial : List ℕ) (Reason : List ℕ → Type 0) (text : List ℕ)
     → IsTold before stands index class line initial Reason text → 1 ≤ length text
-told_long before stands index class line initial Reason text (reason, whole, is) =
-    let lines = bad_long index class (option_map shown line) (shown initial) in
-    let all = ap length whole in
-    let both = length-append (front_lines index class line initial ++ place_lines before stands) reason in
-    let first = length-append (front_lines index class line initial) (place_lines before stands) in
-    omega (arith, lines, all, both, first)
+told_long before stands index class line initial Reason text (reason, whole, is) = grind (arith, bad_long, length-append)
 
 -- ---- the line of further reasons
 

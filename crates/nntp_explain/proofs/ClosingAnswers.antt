@@ -1,8 +1,7 @@
 -- An answer that closes the connection is never refused.
-use Rattle.std.proofs.Common.{◌≡◌, ◌⊎◌, ◌∙◌, ◌==◌, ◌||◌, ℕ, Bool, true, false, IsTrue, List, [], ◌∷◌, ◌++◌, None, Some, append-nil, arith, inl, inr, map, refl}
-use Rattle.std.{proofs.{Common.{sym, ap, subst}, lemmas.Bool.{true≢false, Decides.{nat_tests}}}, specs.List.{AllByRecursion}}
-use Rattle.nntp_wire.specs.{Answer.{Asked, Response, greeting, to, plain}, Session.{closes}, Command.{Request, mode_reader, quit, list_group, retrieve, by_id}}
-use Rattle.nntp_wire.specs.Command.{by_number, current}
+use Rattle.std.proofs.Common.{◌≡◌, ◌⊎◌, ◌∙◌, ◌==◌, ◌||◌, ℕ, Bool, true, false, IsTrue, List, [], ◌∷◌, ◌++◌, append-nil, arith, map, refl, sym, ap, subst}
+use Rattle.std.{proofs.lemmas.Bool.{true≢false, Decides.{nat_tests}}, specs.List.{AllByRecursion}}
+use Rattle.nntp_wire.specs.{Answer.{Asked, Response, greeting, to, plain}, Session.{closes}, Command.{Request, mode_reader, quit}}
 use Rattle.nntp_article.specs.{declared.session.profile.Profile.{Profile}, Session.Machine.{Visible, fits, start}}
 use Rattle.nntp_pair.specs.Pairing.{Paired, asked_at}
 use Rattle.nntp_said.specs.{declared.position.Position.{Position}, Facts.{Holds, facts_of, facts_of_code}}
@@ -19,43 +18,23 @@ this : (code a : ℕ) → (code == a) ≡ true → code ≡ a
 this code a e = grind (arith, nat_tests)
 
 either : (code a b : ℕ) → (code == a || code == b) ≡ true → (code ≡ a) ⊎ (code ≡ b)
-either code a b e = by (code == a) refl e where
-  by : (t : Bool) → (code == a) ≡ t → (t || code == b) ≡ true → (code ≡ a) ⊎ (code ≡ b)
-  by true same e = inl (this code a same)
-  by false other e = inr (this code b e)
+either code a b e = grind (arith, this)
 
 -- 400 says nothing
 nothing_said : (seen : Visible) (at : Position) (command : Request) → facts_of_code seen at command 400 ≡ []
-nothing_said seen at (list_group None range) = refl
-nothing_said seen at (list_group (Some word) range) = refl
-nothing_said seen at (retrieve what (by_id word)) = refl
-nothing_said seen at (retrieve what (by_number None)) = refl
-nothing_said seen at (retrieve what (by_number (Some n))) = refl
-nothing_said seen at (retrieve what current) = refl
-nothing_said seen at command = refl
+nothing_said seen at command = grind arith
 
 module _ (profile : Profile) (v seen : Visible) (at : Position) where
   by_code : (asked : Asked) (code other : ℕ) → code ≡ other → IsHarmless profile v seen at asked (plain other) → IsHarmless profile v seen at asked (plain code)
   by_code asked code other is h = subst (λ code. IsHarmless profile v seen at asked (plain code)) (sym is) h
 
   harmless : (asked : Asked) (response : Response) → closes asked response ≡ true → IsHarmless profile v seen at asked response
-  harmless greeting (plain code) e = elim (either code 400 502 e) [
-    | inl is ↦ by_code greeting code 400 is (refl, refl)
-    | inr is ↦ by_code greeting code 502 is (refl, refl)
-  ]
-  harmless (to mode_reader) (plain code) e = elim (either code 400 502 e) [
-    | inl is ↦ by_code (to mode_reader) code 400 is (refl, refl)
-    | inr is ↦ by_code (to mode_reader) code 502 is (refl, refl)
-  ]
-  harmless (to quit) (plain code) e = elim (either code 400 205 e) [
-    | inl is ↦ by_code (to quit) code 400 is (refl, refl)
-    | inr is ↦ by_code (to quit) code 205 is (refl, refl)
-  ]
+  harmless greeting (plain code) e = grind (arith, either, by_code)
+  harmless (to mode_reader) (plain code) e = grind (arith, either, by_code)
+  harmless (to quit) (plain code) e = grind (arith, either, by_code)
   harmless (to command) (plain code) e = by_code (to command) code 400 (this code 400 e) (refl, nothing_said seen at command)
   harmless greeting response e = absurd (true≢false (sym e))
-  harmless (to mode_reader) response e = absurd (true≢false (sym e))
-  harmless (to quit) response e = absurd (true≢false (sym e))
-  harmless (to command) response e = absurd (true≢false (sym e))
+  harmless asked response e = cc
 
 -- so some spool permits it
 module _ (profile : Profile) (facts : FactsKept) (earlier : List (List Paired)) (past : List Paired) (pair : Paired) (s : HasNotedBehind profile facts earlier past) (due : IsDue facts pair) where

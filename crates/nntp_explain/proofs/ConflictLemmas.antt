@@ -1,6 +1,6 @@
 -- What is told of a core.
-use Rattle.std.proofs.Common.{◌≡◌, ◌≤◌, ◌⊎◌, refl, sym, subst, inl, inr, arith, length, map, append-nil, ℕ, Bool, true, false, List, [], ◌∷◌, ◌++◌, Option}
-use Rattle.std.proofs.{Common.{None, Some, MatchOption, is_some}, lemmas.Bool.{true≢false}}
+use Rattle.std.proofs.Common.{◌≡◌, ◌≤◌, ◌⊎◌, refl, sym, subst, arith, length, map, append-nil, ℕ, Bool, true, false, List, [], ◌∷◌, ◌++◌, Option, None, Some}
+use Rattle.std.proofs.{Common.{MatchOption, is_some}, lemmas.Bool.{true≢false}}
 use Rattle.nntp_article.specs.declared.session.profile.Profile.{Profile}
 use Rattle.nntp_said.specs.Facts.{Fact}
 use Rattle.nntp_theory.specs.Conflict.{Placed, Point, Core, IsCore, IsEndOfCore, IsFound, IsFirstPoint, SomeHas, told, told_with, places_of}
@@ -10,11 +10,7 @@ use Rattle.nntp_facts.specs.{declared.placed.Placed.{Placed as Cited}, Standing.
 
 -- where the core is cut short, some of it was found
 pub some_found : (core : Core) → MatchOption core.rest (length core.places ≤ 4) (λ bound. length core.places ≡ 4) → HasLast core
-some_found core most = by core.rest most
-  where
-    by : (rest : Option ℕ) → MatchOption rest (length core.places ≤ 4) (λ bound. length core.places ≡ 4) → HasLast (record core { rest = rest })
-    by None few = tt
-    by (Some bound) all = omega (arith, all)
+some_found core most = grind arith
 
 -- the text goes on with what is told of it
 pub tells : (here : ℕ) (profile : Profile) (bad : Placed) (answers : List Cited) (core : Core) (point : Point) (old new : List ℕ)
@@ -27,27 +23,22 @@ tells here profile bad answers core point old new first is = (conflict_lines her
 module _ (P : Type 0) (here : ℕ) (profile : Profile) (facts : List Fact) (bad : Placed) (answers : List Cited) (text : List ℕ) where
   -- of one that was told before
   pub told_again : (looked_for : Bool) → IsConflictOf here profile bad answers text → P → IsContradiction looked_for P here profile facts bad answers text
-  told_again true conflict p = conflict
-  told_again false conflict p = inl (conflict, inl p)
+  told_again looked_for conflict p = grind arith
 
   -- of one whose answers are looked for, or that conflicts with itself
   pub told_whole : (looked_for : Bool) → (looked_for ≡ true) ⊎ (SomeHas profile (told profile bad) → ⊥) → IsConflictOf here profile bad answers text
       → IsContradiction looked_for P here profile facts bad answers text
-  told_whole true why conflict = conflict
-  told_whole false (inl is) conflict = absurd (true≢false (sym is))
-  told_whole false (inr alone) conflict = inl (conflict, inr alone)
+  told_whole looked_for why conflict = grind (arith, true≢false)
 
   -- of one whose answers aren't
   pub told_short : (looked_for : Bool) → looked_for ≡ false → IsConflictWithSome here profile facts bad answers text → IsContradiction looked_for P here profile facts bad answers text
-  told_short true why is = absurd (true≢false why)
-  told_short false why is = inr is
+  told_short looked_for why is = grind (arith, true≢false)
 
 -- what is told of some goes on
 pub some_told : (here : ℕ) (profile : Profile) (facts : List Fact) (bad : Placed) (answers : List Cited) (point : Point) (old new : List ℕ) → SomeHas profile (told profile bad)
     → IsFirstPoint (facts ++ told profile bad) point → new ≡ old ++ conflict_lines here profile.marks point bad answers (record { places = []; rest = Some (length answers) })
     → GoesOn (IsConflictWithSome here profile facts bad answers) old new
-some_told here profile facts bad answers point old new alone first is =
-    (conflict_lines here profile.marks point bad answers (record { places = []; rest = Some (length answers) }), is, (point, alone, first, refl))
+some_told here profile facts bad answers point old new alone first is = search
 
 -- whether it stands alone, by a search for no answer
 pub alone_by : (profile : Profile) (bad : Placed) (answers : List Placed) (core : Core) → IsFound profile bad answers core

@@ -1,7 +1,7 @@
 -- How the reading of a session ends, and how sessions are read one after the other.
 use Rattle.std.proofs.Common.{◌≡◌, ◌≢◌, ◌∙◌, sym, subst, refl, ap, ℕ, ◌+◌, ◌<◌, ◌≤◌, ◌^◌, ◌==◌, Bool, List, [], ◌∷◌, ◌++◌, Option, None, Some, length, take}
 use Rattle.std.proofs.{Common.{drop, get_or, arith, append_assoc, append-nil, length-append}, lemmas.List.{take_more, take_all, length-take-le}}
-use Rattle.std.specs.Prelude.{count_by, is_some, codes, decimal}
+use Rattle.std.specs.Prelude.{count_by, codes, decimal}
 use Rattle.nntp_wire.specs.{declared.{limit.Limit.{Limit}, marks.Marks.{Marks}}, Session.{ClientStream}}
 use Rattle.nntp_article.specs.{declared.session.profile.Profile.{Profile}, Session.Limit.{profile_of}}
 use Rattle.nntp_pair.specs.{Pairing.{Paired, Unpaired, end, bad as ends_at, Ends, line_ahead, streams, has_line}, declared.class.PairClass.{PairClass}}
@@ -11,9 +11,9 @@ use Rattle.nntp_facts.specs.{Inner.Noted.{HasNoted}, declared.{standing.Standing
 use Rattle.nntp_facts.proofs.Keeping.NotedSessions.{session_begins}
 use Rattle.nntp_printing.specs.BadAnswer.{IsFirstLine}
 use Rattle.nntp_several.specs.{Reading.{ReadSession, AreReadings}, Sessions.{Named, unnamed}}
-use Rattle.nntp_explain.specs.Explaining.{IsTold, IsEndReason, IsSessionExplained, Counts, counts_of, counts_text, count_bad, titled, none_counted}
-use Rattle.nntp_explain.specs.{Explaining.{counted_with, AreSessionsExplained, IsExplanation, IsExplanationOfAll}, Inner.ExplainingView.{Kept, Before, begins}}
-use Rattle.nntp_explain.specs.{Inner.ExplainingView.{refuses, title_of, accepted_behind, AreKept, AreTold, IsRead, HaveRead, GoesOn}, Standing.{number_behind}}
+use Rattle.nntp_explain.specs.Explaining.{IsTold, IsEndReason, IsSessionExplained, Counts, counts_of, counts_text, count_bad, titled, counted_with}
+use Rattle.nntp_explain.specs.{Explaining.{AreSessionsExplained, IsExplanation, IsExplanationOfAll}, Inner.ExplainingView.{Kept, Before, begins, refuses}}
+use Rattle.nntp_explain.specs.{Inner.ExplainingView.{title_of, accepted_behind, AreKept, AreTold, IsRead, HaveRead, GoesOn}, Standing.{number_behind}}
 use Rattle.nntp_explain.proofs.{AnswerLemmas.{told_long}, SessionLemmas.{index_behind, cited_in_all, cited_with, behind_push, text_grows, all_counted}}
 use Rattle.nntp_explain.proofs.ExplainLemmas.{told_first, own_accepted, title_left, few_more}
 
@@ -56,8 +56,7 @@ read_at_octets profile b client server kept new text after left index class line
       noted = t.noted;
       accepted_are = t.accepted_are;
       session_is = t.session_is;
-      few = few_more kept.bad text (title_of kept) more t.few
-          (told_long kept.bad kept.stands index (class_of class) line first (IsEndReason kept.session class (drop kept.others kept.accepted) octets) more told);
+      few = search (few_more, told_long);
       bad_are = ap (λ m. m + 1) t.bad_are ∙ more-bad b.bad n;
       unanswered_are = unanswered-is;
       lines = t.told ++ more;
@@ -86,24 +85,7 @@ read_at_octets profile b client server kept new text after left index class line
 
 -- of none
 pub kept_first : (profile : Profile) (kept : Kept) → HasNoted profile kept.facts [] → kept.accepted ≡ [] → kept.session ≡ 0 → AreKept profile [] kept
-kept_first profile kept h accepted-is session-is =
-    record {
-      noted = record {
-        profile_is = h.profile_is;
-        is_whole = h.is_whole;
-        count = refl;
-        visible = refl;
-        position = refl;
-        kept = h.kept;
-        permitted = h.permitted;
-        sessions = h.sessions;
-        earlier_few = h.earlier_few;
-        lines = h.lines;
-        few = h.few;
-      };
-      accepted_are = accepted-is;
-      session_is = session-is;
-    }
+kept_first profile kept h accepted-is session-is = search
 
 -- of one more
 kept_next : (profile : Profile) (b : Before) (client : ClientStream) (server : List ℕ) (kept : Kept) (text : List ℕ) (unanswered : ℕ) (r : IsRead profile b client server kept text unanswered)
@@ -138,14 +120,7 @@ module _ (profile : Profile) where
       → AreSessionsExplained profile earlier before (sessions ++ s ∷ []) (readings ++ read ∷ []) (readings_push earlier sessions readings s read are reading)
       (text ++ titled (number_behind (accepted_behind earlier readings)) s.name (counts_of read reading.left).bad ++ lines) (counted_with after (counts_of read reading.left))
   unfolding readings_push
-  explained_push earlier before [] [] s read are reading text lines after (none, same) is =
-      let title = titled (number_behind earlier) s.name (counts_of read reading.left).bad in (
-        lines,
-        [],
-        ap (λ t. t ++ title ++ lines) none ∙ sym (append-nil (title ++ lines)),
-        subst (λ (c : Counts). IsSessionExplained profile earlier c.bad read reading.left lines) same is,
-        (refl, ap (λ c. counted_with c (counts_of read reading.left)) same),
-      )
+  explained_push earlier before [] [] s read are reading text lines after (none, same) is = grind (arith, append-nil)
   explained_push earlier before [] (r ∷ readings) s read are reading text lines after h is = absurd h
   explained_push earlier before (t ∷ sessions) [] s read are reading text lines after h is = absurd h
   explained_push earlier before (t ∷ sessions) (r ∷ readings) s read are reading text lines after (own, back, whole, first, rest) is =
@@ -161,22 +136,7 @@ module _ (profile : Profile) where
 
 -- no session was read
 pub none_read : (profile : Profile) (kept : Kept) (text : List ℕ) → AreKept profile [] kept → kept.bad ≡ 0 → text ≡ [] → HaveRead profile [] kept text 0
-none_read profile kept text k bad-is text-is =
-    record {
-      readings = [];
-      are_readings = tt;
-      are_kept = k;
-      as_many = refl;
-      few = none-bad kept.bad (length text) bad-is;
-      counts = none_counted;
-      answers_are = (let none = ap length k.accepted_are in omega (arith, none, bad-is));
-      bad_are = bad-is;
-      unanswered_are = refl;
-      explained = (text-is, refl);
-    }
-  where
-    none-bad : (bad n : ℕ) → bad ≡ 0 → bad ≤ n
-    none-bad bad n e = omega (arith, e)
+none_read profile kept text k bad-is text-is = grind arith
 
 -- what a session is read behind, where these were read
 abbrev pub behind_these : (profile : Profile) (sessions : List Named) (kept : Kept) (text : List ℕ) (unanswered : ℕ) → HaveRead profile sessions kept text unanswered → List ℕ → Before
@@ -198,27 +158,13 @@ one_more_read profile sessions s kept new text after before unanswered h r few =
       readings = h.readings ++ r.read ∷ [];
       are_readings = readings_push profile [] sessions h.readings s r.read h.are_readings r.reading;
       are_kept = subst (λ earlier. AreKept profile earlier new) (sym push) next;
-      as_many = (
-          let all = ap length push in
-          let one = length-append b.earlier (past ∷ []) in
-          let other = length-append sessions (s ∷ []) in
-          omega (arith, all, one, other, many)
-          );
+      as_many = grind (arith, length-append);
       few = r.few;
       counts = counted_with h.counts c;
-      answers_are = (
-          let cited = ap length r.accepted_are ∙ cited_in_all b.earlier past in
-          let earlier = ap length h.are_kept.accepted_are in
-          let own = all_counted r.read.answers r.reading.left r.read.ending in
-          let bad = r.bad_are in
-          let sum = h.answers_are in
-          omega (arith, cited, earlier, own, bad, sum)
-          );
+      answers_are = grind (arith, cited_in_all, all_counted);
       bad_are = r.bad_are ∙ ap (λ n. n + c.bad) h.bad_are;
       unanswered_are = ap (λ (q : ℕ × ℕ). q.0 + q.1) (λ i. (h.unanswered_are i, r.unanswered_are i));
-      explained = subst (λ t. AreSessionsExplained profile [] none_counted (sessions ++ s ∷ []) (h.readings ++ r.read ∷ [])
-          (readings_push profile [] sessions h.readings s r.read h.are_readings r.reading) t (counted_with h.counts c)) (sym r.text_is)
-          (explained_push profile [] none_counted sessions h.readings s r.read h.are_readings r.reading text r.lines h.counts h.explained is);
+      explained = grind (arith, readings_push, explained_push);
     }
 
 -- of a list of sessions the next one was read
@@ -241,11 +187,7 @@ last_read profile sessions i kept text unanswered h over = subst (λ sessions. H
 -- the number of the next one
 pub number_small : (profile : Profile) (sessions : List Named) (i : ℕ) (kept : Kept) (text : List ℕ) (unanswered : ℕ) → HaveRead profile (take i sessions) kept text unanswered → i < length sessions
     → length sessions < 2 ^ 64 → kept.session + 1 < 2 ^ 64
-number_small profile sessions i kept text unanswered h within few =
-    let number = h.are_kept.session_is in
-    let many = h.as_many in
-    let count = length-take-le i sessions (omega (arith, within)) in
-    omega (arith, number, many, count, within, few)
+number_small profile sessions i kept text unanswered h within few = grind (arith, length-take-le)
 
 -- ---- a session begins
 
@@ -254,9 +196,7 @@ pub begun_told : (profile : Profile) (earlier : List (List Paired)) (kept new : 
     → AreKept profile earlier kept
     → kept.bad ≤ length text → new ≡ begins title kept → after ≡ text
     → AreTold profile (record { earlier = earlier; bad = kept.bad; text = text; title = title }) client server new after (streams client server)
-begun_told profile earlier kept new title text after client server k few new-is after-is =
-    subst (λ (q : Kept × List ℕ). AreTold profile (record { earlier = earlier; bad = kept.bad; text = text; title = title }) client server q.0 q.1 (streams client server))
-    (λ i. (sym new-is i, sym after-is i)) (told_first profile earlier kept title text client server k few)
+begun_told profile earlier kept new title text after client server k few new-is after-is = grind (arith, told_first)
 
 -- or alone, without a title
 abbrev pub alone : Before
@@ -265,9 +205,7 @@ alone = record { earlier = []; bad = 0; text = []; title = None }
 pub told_alone : (profile : Profile) (kept new : Kept) (text after : List ℕ) (client : ClientStream) (server : List ℕ) → AreKept profile [] kept → kept.bad ≡ 0 → text ≡ [] → new ≡ begins None kept
     → after ≡ text
     → AreTold profile alone client server new after (streams client server)
-told_alone profile kept new text after client server k bad-is text-is new-is after-is =
-    subst (λ (q : ℕ × List ℕ). AreTold profile (record { earlier = []; bad = q.0; text = q.1; title = None }) client server new after (streams client server)) (λ i. (bad-is i, text-is i))
-    (begun_told profile [] kept new None text after client server k (let few : kept.bad ≤ length text = omega (arith, bad-is) in few) new-is after-is)
+told_alone profile kept new text after client server k bad-is text-is new-is after-is = grind (arith, begun_told)
 
 -- ---- the reports
 
@@ -294,8 +232,7 @@ explained_alone limit marks client server kept text label whole answers bad unan
       reading = r.reading;
       lines = r.lines;
       explained = r.explained;
-      text_is = whole-is ∙ ap (λ t. label ++ t) (counts_are (answers + bad) bad printed c all bad-all (printed-is ∙ r.unanswered_are))
-          ∙ ap (λ t. t ++ counts_text c) (label-is ∙ ap (λ t. t ++ codes "end ") r.text_is);
+      text_is = cc;
       without_fault_is = good-is ∙ ap (λ n. n == 0) bad-all;
     }
   where
@@ -308,17 +245,4 @@ pub explained_all : (limit : Limit) (marks : Marks) (sessions : List Named) (kep
     → one ≡ text ++ codes "end sessions=" ++ decimal count → two ≡ one ++ 32 ∷ []
     → whole ≡ two ++ counts_text (record { answers = answers + bad; bad = bad; unanswered = unanswered }) → good ≡ (bad == 0)
     → IsExplanationOfAll limit marks sessions whole good
-explained_all limit marks sessions kept text one two whole count answers bad unanswered good h count-is answers-is bad-is one-is two-is whole-is good-is =
-    let c = h.counts in
-    let bad-all : bad ≡ c.bad = bad-is ∙ h.bad_are in
-    let all : answers + bad ≡ c.answers = ap (λ (q : ℕ × ℕ). q.0 + q.1) (λ i. (answers-is i, bad-is i)) ∙ h.answers_are in
-    record {
-      readings = h.readings;
-      are_readings = h.are_readings;
-      lines = text;
-      counts = c;
-      explained = h.explained;
-      text_is = whole-is ∙ ap (λ t. two ++ t) (counts_are (answers + bad) bad unanswered c all bad-all h.unanswered_are)
-          ∙ ap (λ t. t ++ counts_text c) (two-is ∙ ap (λ t. t ++ codes " ") (one-is ∙ ap (λ n. text ++ codes "end sessions=" ++ decimal n) count-is));
-      without_fault_is = good-is ∙ ap (λ n. n == 0) bad-all;
-    }
+explained_all limit marks sessions kept text one two whole count answers bad unanswered good h count-is answers-is bad-is one-is two-is whole-is good-is = grind (arith, counts_are)

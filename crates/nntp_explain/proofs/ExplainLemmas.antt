@@ -1,9 +1,8 @@
 -- How an explanation goes through the answers of two streams, behind those of earlier sessions.
-use Rattle.std.proofs.Common.{◌≡◌, ◌≢◌, ◌∙◌, sym, subst, refl, ap, ℕ, ◌+◌, ◌-◌, ◌≤◌, List, [], ◌∷◌, ◌++◌, Option, None, Some, MatchOption, length, map, drop}
-use Rattle.std.proofs.{Common.{arith, append-nil, append_assoc, length-append, inl, inr, Bool, true, false, Result, Ok, Err}, lemmas.List.{drop_at}}
-use Rattle.std.specs.{Prelude.{OnOk, IfOk}, List.{AllByRecursion}, Option.{option_map_or}}
-use Rattle.nntp_wire.specs.{Answer.{Asked}, Misspelling.{misspelling}, declared.misspelling.Misspelling.{Misspelling, TheVariants.{WrongBlock}}}
-use Rattle.nntp_wire.specs.Session.{ClientStream}
+use Rattle.std.proofs.Common.{◌≡◌, ◌≢◌, ◌∙◌, sym, subst, refl, ap, ℕ, ◌+◌, ◌-◌, ◌≤◌, List, [], ◌∷◌, ◌++◌, Option, Some, MatchOption, length, map, drop, arith}
+use Rattle.std.{proofs.{Common.{append-nil, append_assoc, length-append, inl, inr, Bool, true, false, Result}, lemmas.List.{drop_at}}, specs.Prelude.{OnOk}}
+use Rattle.std.specs.{Prelude.{IfOk}, List.{AllByRecursion}, Option.{option_map_or}}
+use Rattle.nntp_wire.specs.{Answer.{Asked}, declared.misspelling.Misspelling.{Misspelling, TheVariants.{WrongBlock}}, Session.{ClientStream}}
 use Rattle.nntp_article.specs.{declared.session.profile.Profile.{Profile}, Session.{Machine.{Visible}, Misfit.{misfit}}}
 use Rattle.nntp_pair.specs.{Pairing.{Paired, Unpaired, IsNext, IsPassedOver, asked_at, streams, Place}, declared.class.Class.{Class, TheVariants.{Malformed}}}
 use Rattle.nntp_pair.{specs.declared.class.Class.TheVariants.{OutOfPlace, Contradiction}, proofs.PassedLemmas.{passed-reason}}
@@ -11,8 +10,8 @@ use Rattle.nntp_theory.specs.{Conflict.{Placed, placed_behind, SomeHas, told_wit
 use Rattle.nntp_theory.specs.{Permitted.{ArePermittedBehind}, Reading.{Judged, Accepted, Refused, Unspelled, accepted_of, accepted_with, class_behind}}
 use Rattle.nntp_theory.{specs.{Reading.{IsJudged}, declared.noted.Noted.{Noted}}, proofs.Members.{all_at, all_both, all_from, in_contains}}
 use Rattle.nntp_theory.proofs.Reading.JudgedSession.{accepted_one_more}
-use Rattle.nntp_facts.specs.Inner.{Noted.{FactsKept, HasNotedBehind, IsNotedBehind, IsDue, profile_kept}, Points.{AreHeld, held_by}}
-use Rattle.nntp_facts.specs.{declared.{standing.Standing.{Standing}, placed.Placed.{Placed as Cited}}, Standing.{nowhere, standing, standing_after, stands_of}}
+use Rattle.nntp_facts.specs.{Inner.Noted.{FactsKept, HasNotedBehind, IsNotedBehind, IsDue, profile_kept}, declared.standing.Standing.{Standing}}
+use Rattle.nntp_facts.specs.{declared.placed.Placed.{Placed as Cited}, Standing.{nowhere, standing, standing_after, stands_of}}
 use Rattle.nntp_facts.proofs.Reading.{NotedAsJudged.{unfit_refused, contradiction_refused}, Standings.{standing_push, stands_behind}}
 use Rattle.nntp_facts.proofs.Keeping.RefusedAnswers.{held_refused}
 use Rattle.nntp_said.specs.Facts.{Fact}
@@ -22,9 +21,9 @@ use Rattle.nntp_explain.specs.Explaining.{IsTold, IsConflictOf, IsReason, IsExpl
 use Rattle.nntp_explain.specs.{Explaining.{bad_behind}, Inner.{Explaining.{ToldContradiction}, ExplainingView.{AddsReason, HasReason, IsRefused, TellsNext}}}
 use Rattle.nntp_explain.specs.Inner.ExplainingView.{Kept, Before, begins, cited_here, placed_here, keeps, refuses, title_of, title_told, untold, unfitting_told}
 use Rattle.nntp_explain.specs.{Inner.ExplainingView.{AreKept, AreReasons, AreTold, Contradicts, Fits, GoesOn, unspelled_lines}, Reasons.{unfitting_lines}}
-use Rattle.nntp_explain.specs.{Reasons.{misspelling_line}, Standing.{cited, cited_at, cited_each, number_behind, cited_of_all}}
-use Rattle.nntp_explain.proofs.{ReasonsGoOn.{reason_still}, AnswerLemmas.{explained_push, good_push, bad_push, told_as, told_long}}
-use Rattle.nntp_explain.proofs.SessionLemmas.{one_more_behind, index_behind, due_behind, all_stand, cited_next, untitled, told_once, text_grows}
+use Rattle.nntp_explain.{specs.{Reasons.{misspelling_line}, Standing.{cited, number_behind, cited_of_all}}, proofs.ReasonsGoOn.{reason_still}}
+use Rattle.nntp_explain.proofs.{AnswerLemmas.{explained_push, good_push, bad_push, told_as, told_long}, SessionLemmas.{one_more_behind, index_behind}}
+use Rattle.nntp_explain.proofs.SessionLemmas.{due_behind, all_stand, cited_next, untitled, told_once, text_grows}
 use Rattle.nntp_theory.specs.declared.noted.Noted.TheVariants as kinds
 
 -- ---- how it goes on
@@ -32,46 +31,22 @@ use Rattle.nntp_theory.specs.declared.noted.Noted.TheVariants as kinds
 -- a session begins behind sessions that were read whole, and nothing is told of it yet
 pub told_first : (profile : Profile) (earlier : List (List Paired)) (kept : Kept) (title : Option (List ℕ)) (text : List ℕ) (client : ClientStream) (server : List ℕ) → AreKept profile earlier kept
     → kept.bad ≤ length text → AreTold profile (record { earlier = earlier; bad = kept.bad; text = text; title = title }) client server (begins title kept) text (streams client server)
-told_first profile earlier kept title text client server k few =
-    record {
-      answers = [];
-      judged = refl;
-      noted = k.noted;
-      accepted_are = k.accepted_are ∙ sym (append-nil (cited_each 1 earlier));
-      session_is = ap (λ n. n + 1) k.session_is;
-      others_are = ap length k.accepted_are;
-      title_is = refl;
-      stands_there = refl;
-      reasons = tt;
-      refused = tt;
-      bad_are = omega arith;
-      few = few;
-      told = [];
-      explained = refl;
-      silent = λ none. refl;
-      text_is = sym (append-nil text) ∙ ap (λ t. text ++ t) (sym (untitled (number_behind earlier) title)) ∙ sym (append-nil (text ++ title_told (number_behind earlier) title 0));
-    }
+told_first profile earlier kept title text client server k few = grind (arith, append-nil, untitled)
 
 -- the next exchange is due
 pub told_due : (profile : Profile) (b : Before) (client : ClientStream) (server : List ℕ) (kept : Kept) (text : List ℕ) (left behind : Unpaired) (pair : Paired)
     → AreTold profile b client server kept text left → IsNext left pair behind → IsDue kept.facts pair
-told_due profile b client server kept text left behind pair t next =
-    due_behind (ArePermittedBehind profile b.earlier) profile b.earlier client server t.answers left behind pair kept.facts t.judged t.noted next
+told_due profile b client server kept text left behind pair t next = search due_behind
 
 -- the answers of its session are behind those of others
 pub others_accepted : (profile : Profile) (b : Before) (client : ClientStream) (server : List ℕ) (kept : Kept) (text : List ℕ) (left : Unpaired) → AreTold profile b client server kept text left
     → kept.others ≤ length kept.accepted
-others_accepted profile b client server kept text left t =
-    let count = t.others_are in
-    let all = ap length t.accepted_are in
-    let both = length-append (cited_each 1 b.earlier) (cited (number_behind b.earlier) (accepted_of t.answers)) in
-    omega (arith, count, all, both)
+others_accepted profile b client server kept text left t = grind (arith, length-append)
 
 -- these are its own
 pub own_accepted : (profile : Profile) (b : Before) (client : ClientStream) (server : List ℕ) (kept : Kept) (text : List ℕ) (left : Unpaired) (t : AreTold profile b client server kept text left)
     → drop kept.others kept.accepted ≡ cited (number_behind b.earlier) (accepted_of t.answers)
-own_accepted profile b client server kept text left t =
-    ap (drop kept.others) t.accepted_are ∙ drop_at (cited_each 1 b.earlier) (cited (number_behind b.earlier) (accepted_of t.answers)) kept.others (sym t.others_are)
+own_accepted profile b client server kept text left t = grind (arith, drop_at)
 
 -- each of all stands where it does by the answers of its session, and so does the next one
 pub all_there : (profile : Profile) (b : Before) (client : ClientStream) (server : List ℕ) (kept : Kept) (text : List ℕ) (left : Unpaired) (t : AreTold profile b client server kept text left)
@@ -97,8 +72,7 @@ still answers answer bad (front, pair, back, whole, same) =
 
 refused_still : (answers : List Judged) (answer : Judged) (contradictions : List ToldContradiction)
     → AllByRecursion (λ c. WasRefused answers c.bad) contradictions → AllByRecursion (λ c. WasRefused (answers ++ answer ∷ []) c.bad) contradictions
-refused_still answers answer contradictions all =
-    all_from _ contradictions (λ c i. still answers answer c.bad (all_at (λ (c : ToldContradiction). WasRefused answers c.bad) c contradictions all i))
+refused_still answers answer contradictions all = grind (arith, all_from, still, all_at)
 
 -- and one that is refused now was then
 refused_after : (answers : List Judged) (pair : Paired) (bad : Placed) (old new : List ToldContradiction) → placed_behind (accepted_of answers) pair ≡ bad
@@ -106,10 +80,7 @@ refused_after : (answers : List Judged) (pair : Paired) (bad : Placed) (old new 
 refused_after answers pair bad old new placed all adds =
     let Was = λ (c : ToldContradiction). WasRefused (answers ++ Refused pair ∷ []) c.bad in
     let before = refused_still answers (Refused pair) old all in
-    elim adds [
-      | inl same ↦ subst (AllByRecursion Was) (sym same) before
-      | inr one ↦ subst (AllByRecursion Was) (sym one.1) (all_both Was old (record { bad = bad; reason = one.0 } ∷ []) before ((answers, pair, [], refl, placed), tt))
-    ]
+    grind (arith, all_both)
 
 -- an exchange that some spool permits
 told_good : (profile : Profile) (b : Before) (client : ClientStream) (server : List ℕ) (kept : Kept) (new : FactsKept) (text : List ℕ) (left behind : Unpaired) (pair : Paired)
@@ -125,8 +96,7 @@ told_good profile b client server kept new text left behind pair t next notes =
       answers = t.answers ++ Accepted pair ∷ [];
       judged = one_more_behind (ArePermittedBehind profile b.earlier) client server t.answers (Accepted pair) left behind t.judged (next, noted.0);
       noted = subst (HasNotedBehind profile new b.earlier) (sym accepted) noted.1;
-      accepted_are = ap (λ (q : List Cited × ℕ × Standing). q.0 ++ cited_at q.1 q.2 pair ∷ []) (λ i. (t.accepted_are i, t.session_is i, t.stands_there i))
-          ∙ sym (cited_next b.earlier past pair) ∙ ap (cited_of_all b.earlier) (sym accepted);
+      accepted_are = grind (arith, cited_next);
       session_is = t.session_is;
       others_are = t.others_are;
       title_is = t.title_is ∙ ap (untold b.title) (sym count);
@@ -149,10 +119,7 @@ title_left profile b client server kept text left t = ap (λ (q : ℕ × Option 
 
 -- there are no more bad answers than octets of the text, with one more of both
 pub few_more : (bad : ℕ) (text line more : List ℕ) → bad ≤ length text → 1 ≤ length more → bad + 1 ≤ length ((text ++ line) ++ more)
-few_more bad text line more few some =
-    let both = length-append text line in
-    let all = length-append (text ++ line) more in
-    omega (arith, few, some, both, all)
+few_more bad text line more few some = grind (arith, length-append)
 
 -- an answer that is bad is passed over
 told_bad : (profile : Profile) (b : Before) (client : ClientStream) (server : List ℕ) (kept : Kept) (text more : List ℕ) (left behind : Unpaired) (answer : Judged)
@@ -196,8 +163,7 @@ told_bad profile b client server kept text more left behind answer contradiction
 -- so many answers are bad before the next one
 bad_before : (profile : Profile) (b : Before) (client : ClientStream) (server : List ℕ) (kept : Kept) (text : List ℕ) (left : Unpaired) (t : AreTold profile b client server kept text left) (index : ℕ)
     → index ≡ left.index → kept.bad ≡ b.bad + (index - length (accepted_of t.answers))
-bad_before profile b client server kept text left t index at =
-    t.bad_are ∙ ap (λ n. b.bad + (n - length (accepted_of t.answers))) (sym (at ∙ index_behind (ArePermittedBehind profile b.earlier) client server t.answers left t.judged))
+bad_before profile b client server kept text left t index at = grind (arith, index_behind)
 
 -- what is told by what is kept is told by the accepted answers
 told_behind : (profile : Profile) (b : Before) (client : ClientStream) (server : List ℕ) (kept : Kept) (text : List ℕ) (left : Unpaired) (t : AreTold profile b client server kept text left)
@@ -213,14 +179,12 @@ unspelled_explained : (profile : Profile) (earlier : List (List Paired)) (before
     (block : Option (List ℕ)) (text : List ℕ) → IsPassedOver left place initial block behind
     → IsTold (bad_behind before past index) (standing (accepted_of past)) index Malformed place.line initial (λ reason. reason ≡ unspelled_lines (asked_at place) initial block) text
     → IsExplained profile earlier before past (Unspelled index place initial block) text
-unspelled_explained profile earlier before past left behind index place initial block text passed is =
-    by (misspelling (asked_at place) initial block) (passed-reason left behind place initial block passed) is
+unspelled_explained profile earlier before past left behind index place initial block text passed is = search (by, passed-reason)
   where
     by : (o : Option Misspelling) → MatchOption o ⊥ (λ why. why ≢ WrongBlock)
         → IsTold (bad_behind before past index) (standing (accepted_of past)) index Malformed place.line initial (λ reason. reason ≡ option_map_or misspelling_line o []) text
         → MatchOption o ⊥ (λ why. IsTold (bad_behind before past index) (standing (accepted_of past)) index Malformed place.line initial (λ reason. reason ≡ misspelling_line why) text)
-    by None none is = none
-    by (Some why) some is = is
+    by o some is = grind arith
 
 -- a frame that spells nothing
 pub told_unspelled : (profile : Profile) (b : Before) (client : ClientStream) (server : List ℕ) (kept new : Kept) (text after : List ℕ)
@@ -232,9 +196,7 @@ pub told_unspelled : (profile : Profile) (b : Before) (client : ClientStream) (s
 told_unspelled profile b client server kept new text after left behind index asked place initial block new-is asked-is (more, after-is, told) t at passed =
     let here = subst (λ asked. IsTold kept.bad kept.stands index Malformed place.line initial (λ reason. reason ≡ unspelled_lines asked initial block) more) asked-is told in
     subst (λ (q : Kept × List ℕ). AreTold profile b client server q.0 q.1 behind) (λ i. (sym new-is i, sym after-is i))
-    (told_bad profile b client server kept text more left behind (Unspelled index place initial block) kept.contradictions t (at, passed) refl
-    (unspelled_explained profile b.earlier b.bad t.answers left behind index place initial block more passed
-    (told_behind profile b client server kept text left t index at Malformed place.line initial (λ reason. reason ≡ unspelled_lines (asked_at place) initial block) more here))
+    (told_bad profile b client server kept text more left behind (Unspelled index place initial block) kept.contradictions t (at, passed) refl (search (unspelled_explained, told_behind))
     (told_long kept.bad kept.stands index Malformed place.line initial (λ reason. reason ≡ unspelled_lines asked initial block) more told)
     t.reasons (refused_still t.answers (Unspelled index place initial block) kept.contradictions t.refused))
 
@@ -244,10 +206,7 @@ refused_explained : (profile : Profile) (earlier : List (List Paired)) (before :
     → IsTold (bad_behind before past pair.index) (standing (accepted_of past)) pair.index class pair.place.line pair.initial
     (IsReason profile earlier (bad_behind before past pair.index) past pair class) text
     → IsExplained profile earlier before past (Refused pair) text
-refused_explained profile earlier before past pair class text class-is is =
-    subst (λ o. MatchOption o ⊥ (λ class. IsTold (bad_behind before past pair.index)
-    (standing (accepted_of past)) pair.index class pair.place.line pair.initial (IsReason profile earlier (bad_behind before past pair.index) past pair class) text))
-    (sym class-is) is
+refused_explained profile earlier before past pair class text class-is is = grind arith
 
 -- an exchange that doesn't fit
 told_unfitting : (profile : Profile) (b : Before) (client : ClientStream) (server : List ℕ) (kept : Kept) (text : List ℕ) (left behind : Unpaired) (pair : Paired) (more : List ℕ)
@@ -303,9 +262,7 @@ told_contradiction profile b client server kept text left behind pair more contr
     (IsReason profile b.earlier (bad_behind b.bad t.answers pair.index) t.answers pair Contradiction) more
     (λ reason is. subst (λ (q : ℕ × ℕ × Profile × Placed × List Cited).
     IsContradiction (are_looked_for q.0 (length q.4)) (WasRefused t.answers q.3) q.1 q.2 facts q.3 q.4 reason)
-    (λ i. (before i, t.session_is i, t.noted.profile_is i, placed i, t.accepted_are i))
-    (told_before (are_looked_for kept.bad (length kept.accepted)) (HasReason kept bad) (WasRefused t.answers bad) kept.session (profile_kept kept.facts) facts bad kept.accepted
-    reason told is))
+    (λ i. (before i, t.session_is i, t.noted.profile_is i, placed i, t.accepted_are i)) (search told_before))
     (told_behind profile b client server kept text left t pair.index next.index Contradiction pair.place.line pair.initial _ more is)))
     (told_long kept.bad kept.stands pair.index Contradiction pair.place.line pair.initial (TellsNext kept facts bad) more is)
     reasons (refused_after t.answers pair bad kept.contradictions contradictions (sym placed) t.refused adds)
@@ -328,16 +285,13 @@ contradiction_due profile b client server kept text left behind pair profile-is 
 
 -- what is so where there are no errors
 pub on_ok : {T E P Q R : Type 0} (r : Result T E) → OnOk r P → OnOk r Q → (P → Q → R) → OnOk r R
-on_ok (Ok x) p q f = f p q
-on_ok (Err e) p q f = tt
+on_ok r p q f = grind arith
 
 pub on_each : {T E P Q R S W : Type 0} (r : Result T E) → OnOk r P → OnOk r Q → OnOk r R → OnOk r S → (P → Q → R → S → W) → OnOk r W
-on_each (Ok x) p q r s f = f p q r s
-on_each (Err e) p q r s f = tt
+on_each r p q r2 s f = grind arith
 
 pub if_ok : {T E : Type 0} {P Q R : T → Type 0} (r : Result T E) → IfOk r P → IfOk r Q → ((v : T) → P v → Q v → R v) → IfOk r R
-if_ok (Ok x) p q f = f x p q
-if_ok (Err e) p q f = tt
+if_ok r p q f = grind arith
 
 pub noted_consistent : (profile : Profile) (b : Before) (client : ClientStream) (server : List ℕ) (kept new : Kept) (facts : FactsKept) (noted : Noted)
     (text after : List ℕ) (left behind : Unpaired) (pair : Paired) → noted ≡ kinds.Consistent
@@ -361,9 +315,7 @@ noted_out_of_place profile b client server kept new facts noted text after left 
     subst (λ (q : Kept × List ℕ). AreTold profile b client server q.0 q.1 behind)
     (λ i. (sym (new-is ∙ ap (λ facts. refuses (record kept { facts = facts })) same) i, sym after-is i))
     (told_unfitting profile b client server kept text left behind pair more t next
-    (λ past h. subst (λ f. IsNotedBehind profile b.earlier past pair kept.facts f kinds.OutOfPlace) same (at past h))
-    (subst (λ (f : FactsKept). IsTold kept.bad kept.stands pair.index OutOfPlace pair.place.line pair.initial
-    (λ reason. reason ≡ unfitting_told (record kept { facts = f }) pair) more) same told))
+    (λ past h. subst (λ f. IsNotedBehind profile b.earlier past pair kept.facts f kinds.OutOfPlace) same (at past h)) (grind arith))
 
 -- what all that was accepted says refuses it
 refused_here : (profile : Profile) (b : Before) (client : ClientStream) (server : List ℕ) (kept : Kept) (facts : FactsKept) (noted : Noted) (text : List ℕ)
@@ -377,9 +329,7 @@ refused_here profile b client server kept facts noted text left behind pair is n
     let same : facts ≡ kept.facts = at.2 in
     let due = told_due profile b client server kept text left behind pair t next in
     let placed = next_there profile b client server kept text left pair t in
-    subst (λ (q : FactsKept × Placed × Profile). AreHeld q.2 (said_behind profile.marks b.earlier past ++ told q.2 q.1) (held_by q.0 q.1))
-    (λ i. (sym same i, sym placed i, sym (ap profile_kept same ∙ t.noted.profile_is) i))
-    (held_refused profile kept.facts b.earlier past pair t.noted due (subst (λ f. IsNotedBehind profile b.earlier past pair kept.facts f kinds.Contradiction) same at) few)
+    grind (arith, held_refused)
 
 -- an exchange that contradicts those that were accepted, by what is noted of it
 pub noted_contradiction : (profile : Profile) (b : Before) (client : ClientStream) (server : List ℕ) (kept new : Kept) (facts : FactsKept) (noted : Noted)
@@ -413,10 +363,7 @@ pub noted_contradiction_reasons : (b : Before) (client : ClientStream) (server :
     → noted ≡ kinds.Contradiction
     → ((past : List Paired) → HasNotedBehind (profile_kept kept.facts) kept.facts b.earlier past → IsNotedBehind (profile_kept kept.facts) b.earlier past pair kept.facts facts noted)
     → AreTold (profile_kept kept.facts) b client server kept text left → AreReasons (profile_kept facts) kept kept.contradictions
-noted_contradiction_reasons b client server kept facts noted text left behind pair is notes t =
-    let profile = profile_kept kept.facts in
-    let same : facts ≡ kept.facts = (subst (IsNotedBehind profile b.earlier (accepted_of t.answers) pair kept.facts facts) is (notes (accepted_of t.answers) t.noted)).2 in
-    subst (λ f. AreReasons (profile_kept f) kept kept.contradictions) (sym same) t.reasons
+noted_contradiction_reasons b client server kept facts noted text left behind pair is notes t = grind arith
 
 -- what the search for its reasons asks for
 pub noted_contradiction_due : (b : Before) (client : ClientStream) (server : List ℕ) (kept : Kept) (facts : FactsKept) (noted : Noted) (text : List ℕ) (left behind : Unpaired) (pair : Paired)

@@ -3,9 +3,8 @@ use Rattle.std.proofs.Common.{◌≡◌, ◌⊎◌, ◌∙◌, inl, inr, sym, ap
 use Rattle.std.{proofs.{Common.{Some, MatchOption, length}, lemmas.Bool.Decides.{nat_tests}}, specs.{Prelude.{◌&&◌, if◌then◌else◌}, Option.{option_map}}}
 use Rattle.std.specs.{FinMap.{FinMap, get, insert, get-insert, get-empty}, Ordering.{nat_cmp, eq_by_cmp}, Cmp.Lexicographic.{slice_cmp, same_text}}
 use Rattle.std.specs.Cmp.Lexicographic.{nat_list_cmp_total, texts_ties, bytes_decides}
-use Rattle.nntp_wire.specs.Answer.{Asked, Response, group_is, numbers_are, sends, active_are, plain, overviews_are}
-use Rattle.nntp_wire.specs.declared.water_marks.WaterMarks.{WaterMarks}
-use Rattle.nntp_article.specs.{Session.{Spool.{Name}, Machine.{Visible, visible_after, selects, are_zeros, is_same, start}}, Inner.Misfit.{IsAbove}}
+use Rattle.nntp_wire.specs.{Answer.{Asked, Response}, declared.water_marks.WaterMarks.{WaterMarks}}
+use Rattle.nntp_article.specs.{Session.{Spool.{Name}, Machine.{Visible, visible_after, selects, is_same, start}}, Inner.Misfit.{IsAbove}}
 use Rattle.nntp_pair.specs.Pairing.{Paired, asked_at, asked_of, responses_of}
 use Rattle.nntp_theory.specs.Classes.{visible_from}
 use Rattle.nntp_facts.specs.{declared.standing.Standing.{Standing}, Standing.{nowhere, standing_after}}
@@ -17,13 +16,10 @@ IsFoundAmong n place = MatchOption place ⊥ (λ k. k < n)
 
 -- it is found at the first, or behind it
 found_behind : (b : Bool) (place : Option ℕ) (n : ℕ) → IsFoundAmong n place → IsFoundAmong (suc n) (if b then Some 0 else option_map suc place)
-found_behind true place n found = omega arith
-found_behind false None n found = found
-found_behind false (Some k) n found = omega arith
+found_behind b place n found = grind arith
 
 found_here : (b : Bool) (place : Option ℕ) (n : ℕ) → b ≡ true → IsFoundAmong (suc n) (if b then Some 0 else option_map suc place)
-found_here true place n e = omega arith
-found_here false place n e = cc
+found_here b place n e = grind arith
 
 -- a low mark that is kept was kept before, or is the one that is put there
 kept_low : (lows : FinMap (slice_cmp nat_cmp) ℕ) (g name : Name) (here low : ℕ) → get (insert lows g here) name ≡ Some low
@@ -33,8 +29,7 @@ kept_low lows g name here low e = by (eq_by_cmp (slice_cmp nat_cmp) name g) refl
   is = get-insert nat_list_cmp_total lows g here name
 
   both : (a b : Bool) → a ≡ true → b ≡ true → (a && b) ≡ true
-  both true b x y = y
-  both false b x y = x
+  both a b x y = cc
 
   by : (b : Bool) → eq_by_cmp (slice_cmp nat_cmp) name g ≡ b → (get lows name ≡ Some low) ⊎ ((is_same g name && here == low) ≡ true)
   by true t =
@@ -47,20 +42,12 @@ kept_low lows g name here low e = by (eq_by_cmp (slice_cmp nat_cmp) name g) refl
 -- by all zeros none is given
 kept_by_marks : (v : Visible) (m : WaterMarks) (g name : Name) (low : ℕ) → get (selects v m g).lows name ≡ Some low
     → (get v.lows name ≡ Some low) ⊎ ((is_same g name && m.low == low) ≡ true)
-kept_by_marks v m g name low e = by (are_zeros m) e where
-  by : (b : Bool) → get (if b then v.lows else insert v.lows g m.low) name ≡ Some low → (get v.lows name ≡ Some low) ⊎ ((is_same g name && m.low == low) ≡ true)
-  by true e = inl e
-  by false e = kept_low v.lows g name m.low low e
+kept_by_marks v m g name low e = grind (arith, kept_low)
 
 -- an answer leaves the low marks that were there, but for the one that it gives
 given_by : (v : Visible) (asked : Asked) (response : Response) (name : Name) (low : ℕ) → get (visible_after v asked response).lows name ≡ Some low
     → (get v.lows name ≡ Some low) ⊎ (gives_low name low response ≡ true)
-given_by v asked (group_is m g) name low e = kept_by_marks v m g name low e
-given_by v asked (numbers_are m g lines) name low e = kept_by_marks v m g name low e
-given_by v asked (sends sent) name low e = inl e
-given_by v asked (active_are lines) name low e = inl e
-given_by v asked (overviews_are lines) name low e = inl e
-given_by v asked (plain code) name low e = inl e
+given_by v asked response name low e = grind (arith, kept_by_marks)
 
 -- so a low mark was there before the answers, or one of them gives it
 giver_from : (session : ℕ) (s : Standing) (v : Visible) (pairs : List Paired) (name : Name) (low : ℕ)
@@ -90,5 +77,4 @@ low_giver_found session past low marked above = elim (giver_from session nowhere
 pub giver_of_marks : (session : ℕ) (past : List Paired) (low : ℕ) (marked : Option (Name × WaterMarks))
     → MatchOption marked ⊥ (IsAbove (visible_from start.visible (asked_of past) (responses_of past)) low)
     → MatchOption marked ⊥ (λ m. IsFoundAmong (length (cited session past)) (low_giver m.0 low (cited session past)))
-giver_of_marks session past low None above = above
-giver_of_marks session past low (Some m) above = low_giver_found session past low m above
+giver_of_marks session past low marked above = grind (arith, low_giver_found)

@@ -1,52 +1,35 @@
 -- The reason of a contradiction stays what it is behind further accepted answers.
-use Rattle.std.proofs.Common.{◌≡◌, ◌∙◌, ◌<◌, ◌-◌, ℕ, List, [], ◌∷◌, ◌++◌, Option, None, Some, MatchOption, Result, Ok, Err, length, codes, refl, sym, ap, subst}
-use Rattle.std.{proofs.{Common.{arith, map}, lemmas.List.{length-map, map-append}}, specs.{Prelude.{⊤, OnOk, if◌then◌else◌}, List.{AllByRecursion, flat_map}}}
-use Rattle.std.specs.{Option.{option_and_then, option_map_or, option_or}, Result.{is_ok}}
+use Rattle.std.proofs.Common.{◌≡◌, ◌∙◌, ◌<◌, ℕ, List, [], ◌∷◌, ◌++◌, Option, None, Some, MatchOption, Result, length, refl, sym, ap, subst, arith, map}
+use Rattle.std.{proofs.lemmas.List.{length-map, map-append}, specs.{Prelude.{⊤, OnOk, if◌then◌else◌}, List.{AllByRecursion, flat_map}, Option.{option_map_or}}}
+use Rattle.std.specs.Result.{is_ok}
 use Rattle.nntp_article.specs.declared.session.profile.Profile.{Profile}
 use Rattle.nntp_wire.specs.declared.marks.Marks.{Marks}
-use Rattle.nntp_pair.specs.Pairing.{asked_at}
 use Rattle.nntp_facts.specs.{declared.placed.Placed.{Placed as Cited}, Standing.{stands_of}}
 use Rattle.nntp_theory.specs.Conflict.{Placed, Point, Core, IsCore, IsEndOfCore, IsFound, IsFirstPoint, below, places_of, told_with}
 use Rattle.nntp_theory.proofs.{CoresGoOn.{in_front_of, AreThere, told_still, core_goes_on, places_there, bound_there}, Members.{all_back}}
-use Rattle.nntp_explain.specs.{Explaining.{IsConflictOf}, Reasons.{about_line, because_lines, answer_text, rest_line}, Says.{conflict_lines, difference}}
-use Rattle.nntp_explain.{specs.Says.{first_part, part_at, part_sent, reason_lines, said_lines, told_line}, proofs.ConflictLemmas.{some_found}}
+use Rattle.nntp_explain.specs.{Explaining.{IsConflictOf}, Reasons.{rest_line}, Says.{conflict_lines, first_part, reason_lines}}
+use Rattle.nntp_explain.proofs.ConflictLemmas.{some_found}
 
 module _ (here : ℕ) (how : Marks) (point : Point) (answers more : List Cited) where
   -- the head or body that the first of them sends
   first_still : (places : List ℕ) → AreThere answers places → first_part point (answers ++ more) places ≡ first_part point answers places
   first_still [] there = refl
-  first_still (k ∷ places) there =
-      ap (λ o. option_or (option_and_then (λ a. part_sent point (asked_at a.exchange.place) a.exchange.response) o) (first_part point (answers ++ more) places))
-      (in_front_of answers more k there.0)
-      ∙ ap (λ o. option_or (part_at point answers k) o) (first_still places there.1)
+  first_still (k ∷ places) there = search (in_front_of, first_still places there.1)
 
   -- each of them, and what it says
   reasons_still : (line : Option ℕ) (places : List ℕ) → AreThere answers places
       → flat_map (reason_lines here how line point (answers ++ more)) places ≡ flat_map (reason_lines here how line point answers) places
   reasons_still line [] there = refl
-  reasons_still line (k ∷ places) there =
-      ap (λ (o : Option Cited). (option_map_or (because_lines here) o [] ++ option_map_or (λ a. said_lines how line point (stands_of a)) o [])
-      ++ flat_map (reason_lines here how line point (answers ++ more)) places) (in_front_of answers more k there.0)
-      ∙ ap (λ lines. reason_lines here how line point answers k ++ lines) (reasons_still line places there.1)
+  reasons_still line (k ∷ places) there = search (in_front_of, reasons_still line places there.1)
 
   -- those below the bound
   rest_still : (rest : Option ℕ) → MatchOption rest ⊤ (λ bound. bound < length answers) → rest_line here (answers ++ more) rest ≡ rest_line here answers rest
-  rest_still None there = refl
-  rest_still (Some bound) l =
-      let first : 0 < length answers = omega (arith, l) in
-      let last : bound - 1 < length answers = omega (arith, l) in
-      ap (λ (q : Option Cited × Option Cited). codes "because some of " ++ option_map_or (answer_text here) q.0 [] ++ codes " to " ++ option_map_or (answer_text here) q.1 [] ++ codes "\n")
-      (λ i. (in_front_of answers more 0 first i, in_front_of answers more (bound - 1) last i))
+  rest_still rest l = grind (arith, in_front_of)
 
   -- the whole text
   pub lines_still : (bad : Placed) (core : Core) → AreThere answers core.places → MatchOption core.rest ⊤ (λ bound. bound < length answers)
       → conflict_lines here how point bad (answers ++ more) core ≡ conflict_lines here how point bad answers core
-  lines_still bad core there low =
-      let line = told_line point bad answers core.places in
-      ap (λ place. about_line point ++ said_lines how place point bad ++ rest_line here (answers ++ more) core.rest
-      ++ flat_map (reason_lines here how place point (answers ++ more)) core.places)
-      (ap (difference (part_sent point bad.asked bad.response)) (first_still core.places there))
-      ∙ ap (λ (q : List ℕ × List ℕ). about_line point ++ said_lines how line point bad ++ q.0 ++ q.1) (λ i. (rest_still core.rest low i, reasons_still line core.places there i))
+  lines_still bad core there low = search (first_still, rest_still, reasons_still)
 
 -- the reason of a contradiction stays what it is
 pub reason_still : (here : ℕ) (profile : Profile) (bad : Placed) (answers more : List Cited) (text : List ℕ)
@@ -79,17 +62,14 @@ reason_still here profile bad answers more text (core, found, most, (point, firs
     bound (Some n) places some end = subst (λ m. n < m) (length-map answers stands_of) (bound_there profile bad (map stands_of answers) (map stands_of more) n places some end)
 
     own : (rest : Option ℕ) (places : List ℕ) → AreThere (map stands_of answers) (option_map_or (λ bound. below bound ++ places) rest places) → AreThere (map stands_of answers) places
-    own None places all = all
-    own (Some n) places all = all_back (λ k. k < length (map stands_of answers)) (below n) places all
+    own rest places all = grind (arith, all_back)
 
 -- ---- what is so of a result
 
 -- what is so whether or not there is an error
 pub in_any_case : {T E P : Type 0} (r : Result T E) → P → OnOk r P
-in_any_case (Ok x) p = p
-in_any_case (Err e) p = tt
+in_any_case r p = grind arith
 
 -- a text that goes on, where there is none
 pub extended : {T E : Type 0} (r : Result T E) (new old more : List ℕ) → new ≡ (if is_ok r then old ++ more else old) → OnOk r (new ≡ old ++ more)
-extended (Ok x) new old more is = is
-extended (Err e) new old more is = tt
+extended r new old more is = grind arith

@@ -1,5 +1,5 @@
 -- What lines say, one after the other.
-use Rattle.std.proofs.Common.{◌≡◌, ◌∙◌, sym, ap, refl, ℕ, List, [], ◌∷◌, ◌++◌, ◌||◌, if◌then◌else◌, Option, append_assoc, append-nil, Result, Ok, Err}
+use Rattle.std.proofs.Common.{arith, ◌≡◌, ◌∙◌, sym, ap, refl, ℕ, List, [], ◌∷◌, ◌++◌, ◌||◌, if◌then◌else◌, Option, append_assoc, append-nil, Result, Ok, Err}
 use Rattle.std.{proofs.lemmas.List.Concat.{flat_map-append}, specs.{Prelude.{OnOk, IsTrue, decimal}, List.{flat_map, list_any}}}
 use Rattle.nntp_article.specs.{Article.Parts.{Id, Line, is_empty, head_part, body_part}, Session.Spool.{Name}}
 use Rattle.nntp_wire.specs.Listing.{ActiveValue}
@@ -17,12 +17,7 @@ bounds_more name about p line lines = flat_map-append (ask_line about name) (ask
 pub bounds_told : (name : Name) (about : Option ℕ) (p : Option (List ℕ)) (line : ActiveValue) (left lines : List ActiveValue) (text more whole : List ℕ)
     → (of : Name) → of ≡ line.name → left ≡ line ∷ lines → more ≡ text ++ numbers_said name about (Asks of (Bounds line.low line.high)) → text ++ numbers_said name about (GroupsAre p left) ≡ whole
     → more ++ numbers_said name about (GroupsAre p lines) ≡ whole
-bounds_told name about p line left lines text more whole of same is told h =
-    let one = numbers_said name about (Asks line.name (Bounds line.low line.high)) in
-    let rest = numbers_said name about (GroupsAre p lines) in
-    ap (λ t. t ++ rest) (told ∙ ap (λ g. text ++ numbers_said name about (Asks g (Bounds line.low line.high))) same)
-    ∙ append_assoc text one rest ∙ ap (λ t. text ++ t) (sym (bounds_more name about p line lines))
-    ∙ ap (λ ls. text ++ numbers_said name about (GroupsAre p ls)) (sym is) ∙ h
+bounds_told name about p line left lines text more whole of same is told h = grind (arith, append_assoc, bounds_more)
 
 -- where no line is left, the text is whole
 pub bounds_end : (name : Name) (about : Option ℕ) (p : Option (List ℕ)) (left : List ActiveValue) (text whole : List ℕ)
@@ -32,8 +27,7 @@ bounds_end name about p left text whole none h = sym (append-nil text) ∙ ap (�
 -- the text goes on with what is said of one of these
 pub one_told : {X : Type 0} (says : X → List ℕ) (x : X) (left xs : List X) (text more whole : List ℕ) → left ≡ x ∷ xs → more ≡ text ++ says x → text ++ flat_map says left ≡ whole
     → more ++ flat_map says xs ≡ whole
-one_told says x left xs text more whole is told h =
-    ap (λ t. t ++ flat_map says xs) told ∙ append_assoc text (says x) (flat_map says xs) ∙ ap (λ ls. text ++ flat_map says ls) (sym is) ∙ h
+one_told says x left xs text more whole is told h = grind (arith, append_assoc)
 
 -- where none is left, the text is whole
 pub all_told : {X : Type 0} (says : X → List ℕ) (left : List X) (text whole : List ℕ) → left ≡ [] → text ++ flat_map says left ≡ whole → text ≡ whole
@@ -64,8 +58,7 @@ no_body ((c ∷ cs) ∷ lines) none = no_body lines none
 
 -- what follows where a result is a value
 pub on_ok : {A E P Q : Type 0} (r : Result A E) → (P → Q) → OnOk r P → OnOk r Q
-on_ok (Ok x) f p = f p
-on_ok (Err e) f p = tt
+on_ok r f p = grind arith
 
 -- the line of a fact about the id of an article
 pub told_article : (line : Option ℕ) (point : Point) (other : Id) (fact : Fact) → point ≡ Article other → IsTrue (shows_article other fact || denies_article other fact)
@@ -79,10 +72,7 @@ line_told text label octets other new is same = two_more text label (escaped oct
 -- a label and a count, and then a line
 pub counted : (text label octets one two w word : List ℕ) (count n : ℕ) → one ≡ text ++ label ++ decimal count → count ≡ n → two ≡ one ++ w ++ escaped octets ++ 10 ∷ [] → w ≡ word
     → two ≡ text ++ (label ++ decimal n ++ octets_line word octets)
-counted text label octets one two w word count n first count-is second word-is =
-    one_more text (label ++ decimal n) (octets_line word octets) one two
-    (first ∙ append_assoc text label (decimal count) ∙ ap (λ k. text ++ (label ++ decimal k)) count-is)
-    (line_told one w octets (octets_line word octets) two second (ap (λ v. octets_line v octets) word-is))
+counted text label octets one two w word count n first count-is second word-is = grind (arith, one_more, append_assoc, line_told)
 
 -- a piece and a line are another text, that is the same
 pub two_told : (text piece line other one two : List ℕ) → one ≡ text ++ piece → two ≡ one ++ line → piece ++ line ≡ other → two ≡ text ++ other
@@ -92,7 +82,4 @@ two_told text piece line other one two first second same = one_more text piece l
 pub conflict_told : (text about rest : List ℕ) (said reasons : Option ℕ → List ℕ) (place told : Option ℕ) (one two three four : List ℕ)
     → one ≡ text ++ about → two ≡ one ++ said place → three ≡ two ++ rest → four ≡ three ++ reasons place → place ≡ told
     → four ≡ text ++ (about ++ said told ++ rest ++ reasons told)
-conflict_told text about rest said reasons place told one two three four first second third fourth is =
-    one_more text (about ++ said told ++ rest) (reasons told) three four
-    (one_more text (about ++ said told) rest two three (one_more text about (said told) one two first (second ∙ ap (λ k. one ++ said k) is)) third)
-    (fourth ∙ ap (λ k. three ++ reasons k) is)
+conflict_told text about rest said reasons place told one two three four first second third fourth is = grind (arith, one_more)

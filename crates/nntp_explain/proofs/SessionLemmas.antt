@@ -1,12 +1,12 @@
 -- One session behind others: its answers as they are judged and cited, its title, and what is counted of it.
-use Rattle.std.proofs.Common.{◌≡◌, ◌∙◌, sym, subst, refl, ap, ℕ, zero, suc, ◌+◌, false, List, [], ◌∷◌, ◌++◌, Option, None, Some, length, map, add-one, arith}
-use Rattle.std.{proofs.{Common.{append_assoc, append-nil, ap₂, length-append}, lemmas.List.{map-append}}, specs.{List.{flat_map}, Option.{option_map_or}}}
+use Rattle.std.proofs.Common.{◌≡◌, ◌∙◌, sym, refl, ap, ℕ, suc, ◌+◌, List, [], ◌∷◌, ◌++◌, Option, None, length, map, add-one, arith, append_assoc, append-nil}
+use Rattle.std.{proofs.{Common.{length-append}, lemmas.List.{map-append}}, specs.{List.{flat_map}, Option.{option_map_or}}}
 use Rattle.nntp_article.specs.{declared.session.profile.Profile.{Profile}, Session.Machine.{Visible, start, visible_after}}
-use Rattle.nntp_pair.specs.Pairing.{Paired, Unpaired, IsNext, Ending, end, bad as ends_at, asked_at, asked_of, responses_of, streams}
-use Rattle.nntp_theory.specs.{Conflict.{Placed, placed_from, placed_of}, Reading.{Judged, accepted_of, IsJudged, AreJudged}}
+use Rattle.nntp_pair.specs.Pairing.{Paired, Unpaired, IsNext, Ending, asked_at, asked_of, responses_of, streams}
+use Rattle.nntp_theory.specs.{Conflict.{placed_from, placed_of}, Reading.{Judged, accepted_of, IsJudged, AreJudged}}
 use Rattle.nntp_theory.proofs.Reading.JudgedAnswers.{accepted_behind as all_behind, judged_push, judged_count, accepted_few, visible_behind, accepted_open}
-use Rattle.nntp_facts.specs.{Inner.Noted.{FactsKept, HasNotedBehind, IsDue}, declared.standing.Standing.{Standing}, Standing.{nowhere, standing}}
-use Rattle.nntp_facts.{specs.Standing.{standing_after, stands_of}, proofs.Reading.Standings.{name_after, position_next}}
+use Rattle.nntp_facts.specs.{Inner.Noted.{FactsKept, HasNotedBehind, IsDue}, declared.standing.Standing.{Standing}, Standing.{standing, standing_after}}
+use Rattle.nntp_facts.{specs.Standing.{stands_of}, proofs.Reading.Standings.{name_after, position_next}}
 use Rattle.nntp_several.specs.{Conflict.{placed_of_all}, Reading.{ReadSession}}
 use Rattle.nntp_printing.specs.Title.{title_line}
 use Rattle.nntp_explain.specs.{Explaining.{counts_behind}, Inner.ExplainingView.{untold, title_told, accepted_behind}, Standing.{cited, cited_at, cited_from}}
@@ -19,8 +19,7 @@ use Rattle.nntp_wire.specs.Session.{ClientStream}
 pub one_more_behind : (Stand : List Paired → Type 0) (client : ClientStream) (server : List ℕ) (answers : List Judged) (answer : Judged) (left after : Unpaired)
     → AreJudged Stand [] (streams client server) answers left → IsJudged Stand (accepted_of answers) left answer after
     → AreJudged Stand [] (streams client server) (answers ++ answer ∷ []) after
-one_more_behind Stand client server answers answer left after judged is =
-    judged_push Stand [] (streams client server) left after answers answer judged (subst (λ past. IsJudged Stand past left answer after) (sym (all_behind [] answers)) is)
+one_more_behind Stand client server answers answer left after judged is = search (judged_push, all_behind)
 
 -- the index counts them
 pub index_behind : (Stand : List Paired → Type 0) (client : ClientStream) (server : List ℕ) (answers : List Judged) (left : Unpaired)
@@ -32,15 +31,7 @@ pub due_behind : (Stand : List Paired → Type 0) (profile : Profile) (earlier :
     (pair : Paired)
     (facts : FactsKept)
     → AreJudged Stand [] (streams client server) answers left → HasNotedBehind profile facts earlier (accepted_of answers) → IsNext left pair after → IsDue facts pair
-due_behind Stand profile earlier client server answers left after pair facts judged noted next =
-    let count = index_behind Stand client server answers left judged in
-    let few = accepted_few [] answers in
-    let same = ap length (all_behind [] answers) in
-    record {
-      index = omega (arith, count, few, same, noted.count, next.index);
-      is_open = ap (λ (v : Visible). v.closed) noted.visible ∙ subst (λ past. (visible_behind past).closed ≡ false) (all_behind [] answers)
-          (accepted_open Stand [] (streams client server) left answers (λ e. refl) judged next.is_open);
-    }
+due_behind Stand profile earlier client server answers left after pair facts judged noted next = grind (arith, index_behind, accepted_few, all_behind, visible_behind, accepted_open)
 
 -- ---- as they are cited
 
@@ -60,42 +51,27 @@ cited_stand session s v (pair ∷ pairs) name =
 
 each_stand : (session : ℕ) (earlier : List (List Paired)) → map stands_of (cited_each session earlier) ≡ flat_map placed_of earlier
 each_stand session [] = refl
-each_stand session (pairs ∷ earlier) =
-    map-append stands_of (cited session pairs) (cited_each (session + 1) earlier)
-    ∙ ap₂ (λ (own rest : List Placed). own ++ rest) (cited_stand session nowhere start.visible pairs refl) (each_stand (session + 1) earlier)
+each_stand session (pairs ∷ earlier) = grind (arith, map-append, cited_stand, each_stand (session + 1) earlier)
 
 pub all_stand : (earlier : List (List Paired)) (past : List Paired) → map stands_of (cited_of_all earlier past) ≡ placed_of_all earlier past
-all_stand earlier past =
-    map-append stands_of (cited_each 1 earlier) (cited (number_behind earlier) past)
-    ∙ ap₂ (λ (others own : List Placed). others ++ own) (each_stand 1 earlier) (cited_stand (number_behind earlier) nowhere start.visible past refl)
+all_stand earlier past = grind (arith, map-append, each_stand, cited_stand)
 
 -- as many as there are
 pub cited_in_all : (earlier : List (List Paired)) (past : List Paired) → length (cited_of_all earlier past) ≡ length (cited_each 1 earlier) + length past
-cited_in_all earlier past =
-    let both = length-append (cited_each 1 earlier) (cited (number_behind earlier) past) in
-    let own = cited_count (number_behind earlier) nowhere past in
-    omega (arith, both, own)
+cited_in_all earlier past = search (length-append, cited_count)
 
 -- one answer more is cited
 pub cited_next : (earlier : List (List Paired)) (past : List Paired) (pair : Paired)
     → cited_of_all earlier (past ++ pair ∷ []) ≡ cited_of_all earlier past ++ cited_at (number_behind earlier) (standing past) pair ∷ []
-cited_next earlier past pair =
-    ap (λ own. cited_each 1 earlier ++ own) (cited_push (number_behind earlier) nowhere past pair)
-    ∙ sym (append_assoc (cited_each 1 earlier) (cited (number_behind earlier) past) (cited_at (number_behind earlier) (standing past) pair ∷ []))
+cited_next earlier past pair = search (cited_push, append_assoc)
 
 -- and one session more
 each_push : (session : ℕ) (earlier : List (List Paired)) (pairs : List Paired) → cited_each session (earlier ++ pairs ∷ []) ≡ cited_each session earlier ++ cited (session + length earlier) pairs
 each_push session [] pairs = let same : session ≡ session + length {A = List Paired} [] = omega arith in append-nil (cited session pairs) ∙ ap (λ n. cited n pairs) same
-each_push session (first ∷ earlier) pairs =
-    let same : session + 1 + length earlier ≡ session + length (first ∷ earlier) = omega arith in
-    ap (λ rest. cited session first ++ rest) (each_push (session + 1) earlier pairs)
-    ∙ sym (append_assoc (cited session first) (cited_each (session + 1) earlier) (cited (session + 1 + length earlier) pairs))
-    ∙ ap (λ n. (cited session first ++ cited_each (session + 1) earlier) ++ cited n pairs) same
+each_push session (first ∷ earlier) pairs = grind (arith, append_assoc, each_push (session + 1) earlier pairs)
 
 pub cited_with : (earlier : List (List Paired)) (past : List Paired) → cited_of_all earlier past ≡ cited_each 1 (earlier ++ past ∷ [])
-cited_with earlier past =
-    let same : 1 + length earlier ≡ number_behind earlier = omega arith in
-    sym (each_push 1 earlier past ∙ ap (λ n. cited_each 1 earlier ++ cited n past) same)
+cited_with earlier past = grind (arith, each_push)
 
 -- those of one more that was read
 pub behind_push : (earlier : List (List Paired)) (readings : List ReadSession) (read : ReadSession)
@@ -107,8 +83,7 @@ behind_push earlier (first ∷ readings) read = behind_push (earlier ++ accepted
 
 -- where nothing is bad, it isn't told
 pub untitled : (number : ℕ) (title : Option (List ℕ)) → title_told number title 0 ≡ []
-untitled number None = refl
-untitled number (Some name) = refl
+untitled number title = grind arith
 
 -- behind a bad answer it is told
 pub told_once : (title : Option (List ℕ)) (bad : ℕ) → None ≡ untold title (bad + 1)
@@ -117,11 +92,7 @@ told_once title bad = ap (untold title) (sym (add-one bad))
 -- it stands before what is told of the first bad answer
 title_next : (number : ℕ) (title : Option (List ℕ)) (bad : ℕ) (told : List ℕ) → (bad ≡ 0 → told ≡ [])
     → title_told number title bad ++ told ++ option_map_or (title_line number) (untold title bad) [] ≡ title_told number title (suc bad) ++ told
-title_next number None zero told silent = append-nil told
-title_next number None (suc bad) told silent = append-nil told
-title_next number (Some name) zero told silent =
-    ap (λ t. t ++ title_line number name) (silent refl) ∙ sym (append-nil (title_line number name)) ∙ ap (λ t. title_line number name ++ t) (sym (silent refl))
-title_next number (Some name) (suc bad) told silent = append-nil (title_line number name ++ told)
+title_next number title bad told silent = grind (arith, append-nil)
 
 title_joins : (number : ℕ) (title : Option (List ℕ)) (bad : ℕ) (told : List ℕ) → (bad ≡ 0 → told ≡ [])
     → title_told number title bad ++ told ++ option_map_or (title_line number) (untold title bad) [] ≡ title_told number title (bad + 1) ++ told
@@ -137,16 +108,11 @@ shape_after start front told more = simp append_assoc
 pub text_grows : (number : ℕ) (title : Option (List ℕ)) (bad : ℕ) (start told line more text : List ℕ) → (bad ≡ 0 → told ≡ [])
     → text ≡ start ++ title_told number title bad ++ told → line ≡ option_map_or (title_line number) (untold title bad) []
     → (text ++ line) ++ more ≡ start ++ title_told number title (bad + 1) ++ (told ++ more)
-text_grows number title bad start told line more text silent text-is line-is =
-    ap (λ (q : List ℕ × List ℕ). (q.0 ++ q.1) ++ more) (λ i. (text-is i, line-is i))
-    ∙ shape start (title_told number title bad) told (option_map_or (title_line number) (untold title bad) []) more
-    ∙ ap (λ t. start ++ t ++ more) (title_joins number title bad told silent)
-    ∙ shape_after start (title_told number title (bad + 1)) told more
+text_grows number title bad start told line more text silent text-is line-is = grind (arith, shape, title_joins, shape_after)
 
 -- ---- what is counted of it
 
 -- its answers are those that were accepted, and the bad ones
 pub all_counted : (answers : List Judged) (left : Unpaired) (ending : Ending)
     → (counts_behind answers left ending).answers ≡ length (accepted_of answers) + (counts_behind answers left ending).bad
-all_counted answers left (end unanswered) = let few = few_accepted answers in omega (arith, few)
-all_counted answers left (ends_at class) = let few = few_accepted answers in omega (arith, few)
+all_counted answers left ending = grind (arith, few_accepted)

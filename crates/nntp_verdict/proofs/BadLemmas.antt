@@ -1,6 +1,6 @@
 -- What a checker tells as bad: an answer of a session that has ended, or the one at the end of the pairing, if that end stays.
-use Rattle.std.proofs.Common.{◌≡◌, ◌⊎◌, ◌∙◌, sym, ap, subst, refl, ℕ, zero, suc, ◌<◌, List, [], ◌∷◌, ◌++◌, length, Option, None, Some, inl, inr, arith}
-use Rattle.std.specs.Prelude.{IsTrue, is_some, ⊤}
+use Rattle.std.proofs.Common.{◌≡◌, ◌⊎◌, ◌∙◌, sym, subst, ℕ, zero, ◌<◌, List, [], ◌∷◌, ◌++◌, length, Option, None, Some, inl, inr, arith}
+use Rattle.std.specs.Prelude.{IsTrue, is_some}
 use Rattle.nntp_wire.specs.{declared.{limit.Limit.{Limit}, marks.Marks.{Marks}}, Session.{ClientStream, further}}
 use Rattle.nntp_article.specs.{Session.Limit.{profile_of}, declared.session.profile.Profile.{Profile}}
 use Rattle.nntp_pair.specs.{declared.{class.{PairClass.{PairClass}, Class.{Class}}, octet_counts.OctetCounts.{OctetCounts}}, Pairing.{Unpaired, Ends, Ending}}
@@ -15,7 +15,6 @@ use Rattle.nntp_several.proofs.{OneOutcomeOfAll.{one_session_outcome}, PassingSe
 use Rattle.nntp_verdict.specs.{Inner.{Judging.{is_whole}, Checking.{StandsForAll, decided, told_bad, without_session}}, Verdict.{JudgementOfAll}}
 use Rattle.nntp_verdict.{specs.{Verdict.{consistent_of_all, bad_of_all}, Checking.{IsBadForGood, IsToldBad}}, proofs.CheckerLemmas.{decided-verdict}}
 use Rattle.nntp_verdict.proofs.JudgeLemmas.{octets-right}
-use Rattle.nntp_pair.specs.declared.class.Class.TheVariants as class
 
 module _ (profile : Profile) (before : List Recorded) (session : Recorded) (facts : FactsKept) (left : Unpaired) (p : PassedOfAll profile before session facts left) where
   -- an end that stays is bad for good
@@ -40,16 +39,14 @@ module _ (profile : Profile) (before : List Recorded) (session : Recorded) (fact
   stays class ends j answer of (outcome, settled) = (ends, by settled)
     where
       same : NoOfAll j answer of ≡ NoOfAll (length before) left.index (class_of class)
-      same = one_outcome_of_all profile (before ++ session ∷ []) (NoOfAll j answer of) (NoOfAll (length before) left.index (class_of class)) outcome
-          (octets-right profile before session [] facts left class p ends left.index refl (class_of class) refl)
+      same = search (one_outcome_of_all, octets-right)
 
       by : (j < length before) ⊎ IsSettled session.client session.server answer of → IsLasting class left
       by (inl less) = let place : j ≡ length before = (let e = same in cc) in absurd (omega (arith, less, place))
       by (inr settled) =
           let place : answer ≡ length p.pairs = (let at : answer ≡ left.index = (let e = same in cc) in at) ∙ index-counts session.client session.server p.pairs left p.next in
           let class-is : of ≡ class_of class = (let e = same in cc) in
-          (settled_lasts session.client session.server p.pairs left class p.next).0
-          (subst (λ (x : ℕ × Class). IsSettled session.client session.server x.0 x.1) (λ i. (place i, class-is i)) settled)
+          grind (arith, settled_lasts)
 
   -- so where none stays, nothing is bad for good
   pub untold : (HasNext left → ⊥) → ((class : PairClass) → EndsForGood class left → ⊥) → (j answer : ℕ) (class : Class) → IsBadForGoodOfAll profile before session j answer class → ⊥
@@ -62,11 +59,7 @@ module _ (profile : Profile) (before : List Recorded) (session : Recorded) (fact
 
 -- a no at a whole answer is settled
 settled-whole : (client : ClientStream) (server : List ℕ) (answer : ℕ) (c : Class) → IsTrue (is_whole c) → IsSettled client server answer c
-settled-whole client server answer class.Surplus whole = cc
-settled-whole client server answer class.Cut whole = cc
-settled-whole client server answer class.Malformed whole = tt
-settled-whole client server answer class.OutOfPlace whole = tt
-settled-whole client server answer class.Contradiction whole = tt
+settled-whole client server answer c whole = grind arith
 
 -- what is decided is told as bad
 pub decided-told : (limit : Limit) (marks : Marks) (j : JudgementOfAll) (counts : OctetCounts) (before : List Recorded) (session : Recorded)
@@ -77,8 +70,7 @@ decided-told limit marks (bad_of_all j k class command reply) counts before sess
     ((decided-verdict limit marks (bad_of_all j k class command reply) counts before session stands).outcome, settled stands.0.for_good)
   where
     settled : (j < length before) ⊎ IsTrue (is_whole class) → (j < length before) ⊎ IsSettled session.client session.server k class
-    settled (inl less) = inl less
-    settled (inr whole) = inr (settled-whole session.client session.server k class whole)
+    settled x = grind (arith, settled-whole)
 
 -- ---- of one session
 
@@ -90,8 +82,7 @@ bad-alone profile client server k c (outcome, settled) = ((one_session_outcome p
 only-bad : (profile : Profile) (client : ClientStream) (server : List ℕ) (j k : ℕ) (c : Class) → IsBadForGoodOfAll profile [] (record { client = client; server = server }) j k c
     → IsBadForGood profile client server k c
 only-bad profile client server zero k c (outcome, inl less) = absurd (omega (arith, less))
-only-bad profile client server zero k c (outcome, inr settled) = ((one_session_outcome profile (record { client = client; server = server }) (No k c)).0 outcome, settled)
-only-bad profile client server (suc j) k c (outcome, settled) = absurd outcome.0
+only-bad profile client server j k c x = grind (arith, one_session_outcome)
 
 -- and is told so
 pub told-alone : (profile : Profile) (client : ClientStream) (server : List ℕ) (told : Option (ℕ × ℕ × Class)) → IsToldBadOfAll profile [] (record { client = client; server = server }) told
@@ -104,36 +95,25 @@ told-alone profile client server (Some bad) told = only-bad profile client serve
 -- what is bad for good stays so
 pub bad-stays : (profile : Profile) (client : ClientStream) (server client_more server_more : List ℕ) (answer : ℕ) (c : Class)
     → IsBadForGood profile client server answer c → IsBadForGood profile (further client client_more) (server ++ server_more) answer c
-bad-stays profile client server client_more server_more answer c (outcome, settled) = (
-  (
-    answer_stays profile client server client_more server_more answer c outcome.1 settled (λ S. ⊤) outcome.0,
-    class_stays profile client server client_more server_more answer c outcome.1 settled,
-  ),
-  settled_stays client server client_more server_more answer c settled,
-)
+bad-stays profile client server client_more server_more answer c (outcome, settled) = search (answer_stays, class_stays, settled_stays)
 
 -- one thing is told
 pub one-told : (profile : Profile) (client : ClientStream) (server : List ℕ) (x y : Option (ℕ × Class)) → IsToldBad profile client server x → IsToldBad profile client server y → x ≡ y
-one-told profile client server x y p q =
-    let session : Recorded = record { client = client; server = server } in
-    sym (back x) ∙ ap without_session (one_told_of_all profile [] session (there x) (there y) (as-all x p) (as-all y q)) ∙ back y
+one-told profile client server x y p q = grind (arith, back, one_told_of_all, there, as-all)
   where
     there : Option (ℕ × Class) → Option (ℕ × ℕ × Class)
     there None = None
     there (Some bad) = Some (0, bad.0, bad.1)
 
     back : (x : Option (ℕ × Class)) → without_session (there x) ≡ x
-    back None = refl
-    back (Some bad) = refl
+    back x = grind arith
 
     as-all : (x : Option (ℕ × Class)) → IsToldBad profile client server x → IsToldBadOfAll profile [] (record { client = client; server = server }) (there x)
-    as-all None p = λ j k c is_bad. p k c (only-bad profile client server j k c is_bad)
-    as-all (Some bad) p = bad-alone profile client server bad.0 bad.1 p
+    as-all x p = grind (arith, only-bad, bad-alone)
 
 -- and it stays
 pub told-stays : (profile : Profile) (client : ClientStream) (server client_more server_more : List ℕ) (x y : Option (ℕ × Class))
     → IsTrue (is_some x) → IsToldBad profile client server x
     → IsToldBad profile (further client client_more) (server ++ server_more) y → y ≡ x
 told-stays profile client server client_more server_more None y some p q = cc
-told-stays profile client server client_more server_more (Some x) y some p q =
-    one-told profile (further client client_more) (server ++ server_more) y (Some x) q (bad-stays profile client server client_more server_more x.0 x.1 p)
+told-stays profile client server client_more server_more (Some x) y some p q = search (one-told, bad-stays)

@@ -1,7 +1,7 @@
 -- What a checker holds, as octets and sessions come.
-use Rattle.std.proofs.Common.{◌≡◌, ◌≢◌, ◌∙◌, refl, sym, ap, subst, ℕ, ◌+◌, ◌<◌, ◌≤◌, ◌^◌, false, List, [], ◌∷◌, ◌++◌, length, take, Option, None, Some}
-use Rattle.std.proofs.Common.{slice_get, inl, inr, arith, append_assoc, append-nil, length-append, Result, Ok, Err, MatchResult, OnOk, IfErr}
-use Rattle.std.{proofs.lemmas.{Bool.{false≢true, true≢false}, Option.{slice_get_within}}, specs.Prelude.{MatchOption}}
+use Rattle.std.proofs.Common.{◌≡◌, ◌≢◌, ◌∙◌, refl, sym, ap, subst, ℕ, ◌+◌, ◌<◌, ◌^◌, false, List, [], ◌∷◌, ◌++◌, length, take, Option, None, Some, slice_get}
+use Rattle.std.proofs.{Common.{inl, arith, append_assoc, append-nil, length-append, Result, MatchResult, OnOk, IfErr}, lemmas.Bool.{false≢true, true≢false}}
+use Rattle.std.{proofs.lemmas.Option.{slice_get_within}, specs.Prelude.{MatchOption}}
 use Rattle.nntp_article.specs.{Session.Limit.{profile_of}, declared.session.profile.Profile.{Profile}}
 use Rattle.nntp_wire.specs.{declared.{limit.Limit.{Limit}, marks.Marks.{Marks}, overviews.Overviews.TheVariants.{Opaque}}, Session.{ClientStream, taken}}
 use Rattle.nntp_pair.specs.{Pairing.{Paired, Unpaired, IsNext, bad as pair_end, HasNext}, declared.class.PairClass.{PairClass}}
@@ -60,28 +60,17 @@ module _ (profile : Profile) (before : List Recorded) (session : Recorded) (fact
 pub held : (profile : Profile) (before : List Recorded) (session : Recorded) (facts : FactsKept) (answers : List ℕ) (fed : Fed) → HasPassed profile before session facts answers fed → fed.has_failed
     ≡ false
     → IsHeld facts answers fed
-held profile before session facts answers fed p whole = record {
-  before = before;
-  session = session;
-  passed = subst (λ p. HasPassed p before session facts answers fed) (sym p.keeps.stands.profile_is) p;
-  is_whole = whole;
-}
+held profile before session facts answers fed p whole = grind arith
 
 -- where nothing has come, nothing is next
 pub nothing-next : (fed : Fed) → fed ≡ unfed Opaque → ¬ (HasNext (left_of fed))
-nothing-next fed none (x, behind, next) =
-    let less = next-shorter (left_of fed) behind x next in
-    let nothing : length fed.server ≡ 0 = ap (λ (f : Fed). length f.server) none in
-    omega arith
+nothing-next fed none (x, behind, next) = grind (arith, next-shorter)
 
 -- a session begins behind those that have ended
 pub session-begins : (profile : Profile) (before : List Recorded) (facts : FactsKept) (answers : List ℕ) (fed : Fed) → fed ≡ unfed Opaque → IsFed fed (taken Opaque []) [] []
     → HaveEnded profile before facts answers
     → HasPassed profile before unrecorded facts answers fed
-session-begins profile before facts answers fed is fed_is e = record {
-  keeps = record { earlier = e.earlier; ended = e.ended; answers_are = e.answers_are; pairs = []; fed_is = fed_is; stands = e.stands };
-  all = nothing-next fed is;
-}
+session-begins profile before facts answers fed is fed_is e = search nothing-next
 
 -- what is held is kept, with octets of a side that are taken
 pub keeps-taken : (profile : Profile) (before : List Recorded) (session : Recorded) (facts : FactsKept) (answers : List ℕ) (fed then : Fed) (side : Side) (octets : List ℕ)
@@ -115,24 +104,13 @@ no-next fed peek.Failed is works none = absurd (true≢false (sym is ∙ works))
 
 -- a no at a whole answer is one for good, whatever has ended
 pub whole-for-good : (ended : List Recorded) (j : JudgementOfAll) → IsNoAtWholeAnswer j → IsNoForGood ended j
-whole-for-good ended (consistent_of_all L answers) whole = whole
-whole-for-good ended (bad_of_all j k class command reply) whole = inr whole
+whole-for-good ended j whole = grind arith
 
 -- what is decided stays so with more octets of both streams
 pub decided-more : (limit : Limit) (marks : Marks) (j : JudgementOfAll) (counts : OctetCounts) (before : List Recorded) (session : Recorded) (client server : List ℕ)
     → StandsForAll limit marks (decided j counts) before session
     → StandsForAll limit marks (decided j (counted client server counts)) before (with_more session client server)
-decided-more limit marks j counts before session client server (d, came_client, came_server) = (
-  record {
-    for_good = d.for_good;
-    verdict = λ client_more server_more.
-        let longer : with_more session (client ++ client_more) (server ++ server_more) ≡ with_more (with_more session client server) client_more server_more =
-        (λ i. record { client = taken session.client.overviews (sym (append_assoc session.client.octets client client_more) i); server = sym (append_assoc session.server server server_more) i }) in
-        subst (λ session. IsVerdictFrom limit marks before session j) longer (d.verdict (client ++ client_more) (server ++ server_more));
-  },
-  ap (λ n. n + length client) came_client ∙ sym (length-append session.client.octets client),
-  ap (λ n. n + length server) came_server ∙ sym (length-append session.server server),
-)
+decided-more limit marks j counts before session client server (d, came_client, came_server) = grind (arith, append_assoc, length-append)
 
 -- and its judgement is the verdict on what came, whatever sessions follow
 decided-from : (limit : Limit) (marks : Marks) (j : JudgementOfAll) (counts : OctetCounts) (before : List Recorded) (session : Recorded)
@@ -162,23 +140,13 @@ stays-no limit marks before session (bad_of_all j k class command reply) verdict
 -- so it stays where the session has ended
 pub decided-ended : (limit : Limit) (marks : Marks) (j : JudgementOfAll) (before : List Recorded) (session : Recorded) → IsVerdictFrom limit marks before session j
     → StandsForAll limit marks (decided j (record { client = 0; server = 0 })) (before ++ session ∷ []) unrecorded
-decided-ended limit marks j before session verdict = (
-  record {
-    for_good = stays-no limit marks before session j verdict;
-    verdict = λ client server more.
-        let rest = with_more unrecorded client server ∷ more in
-        subst (λ sessions. IsVerdictOfAll limit marks sessions j) (sym (append_assoc before (session ∷ []) rest)) (verdict rest);
-  },
-  refl,
-  refl,
-)
+decided-ended limit marks j before session verdict = search (stays-no, append_assoc)
 
 -- so it does where it was decided before
 pub decided-goes-on : (limit : Limit) (marks : Marks) (j : JudgementOfAll) (counts : OctetCounts) (before : List Recorded) (session : Recorded)
     → StandsForAll limit marks (decided j counts) before session
     → StandsForAll limit marks (decided j (record { client = 0; server = 0 })) (before ++ session ∷ []) unrecorded
-decided-goes-on limit marks j counts before session stands =
-    decided-ended limit marks j before session (decided-from limit marks j counts before session stands)
+decided-goes-on limit marks j counts before session stands = search (decided-ended, decided-from)
 
 -- ---- what isn't taken
 
@@ -193,26 +161,14 @@ stands-counts limit marks failed before session s = absurd s
 pub untaken-memory : {A : Type 0} (error : PairError) (side : Side) (octets : List ℕ) (before after : Checker A) (limit : Limit) (marks : Marks) (ended : List Recorded) (session : Recorded)
     → StandsForAll limit marks (checked before) ended session → length session.client.octets + length session.server + length octets < 2 ^ 64 → IsUntaken error side octets before after → error
     ≡ errors.Memory
-untaken-memory errors.Memory side octets before after limit marks ended session stands room is = refl
-untaken-memory errors.Failed side octets before after limit marks ended session stands room is =
-    absurd (false≢true (sym (stands-counts limit marks (checked before) ended session stands).0 ∙ is.0))
-untaken-memory errors.TooLong Client octets before after limit marks ended session stands room is =
-    let count : (counts_of (checked before)).client ≡ length session.client.octets = (stands-counts limit marks (checked before) ended session stands).1 in
-    let many : 2 ^ 64 ≤ (counts_of (checked before)).client + length octets = is.1 in
-    absurd (omega arith)
-untaken-memory errors.TooLong Server octets before after limit marks ended session stands room is =
-    let count : (counts_of (checked before)).server ≡ length session.server = (stands-counts limit marks (checked before) ended session stands).2 in
-    let many : 2 ^ 64 ≤ (counts_of (checked before)).server + length octets = is.1 in
-    absurd (omega arith)
+untaken-memory error side octets before after limit marks ended session stands room is = grind (arith, false≢true, stands-counts)
 
 -- what is so where a call succeeds, and where it doesn't
 pub on-ok : {T E P Q : Type 0} (R : E → Type 0) (r : Result T E) → MatchResult r (λ _. P) R → (P → Q) → OnOk r Q
-on-ok R (Ok x) p f = f p
-on-ok R (Err e) p f = tt
+on-ok R r p f = grind arith
 
 pub if-err : {T E : Type 0} (P : T → Type 0) (R S : E → Type 0) (r : Result T E) → MatchResult r P R → ((e : E) → R e → S e) → IfErr r S
-if-err P R S (Ok x) p f = tt
-if-err P R S (Err e) p f = f e p
+if-err P R S r p f = grind arith
 
 -- ---- what a step of a checker does
 
@@ -220,12 +176,7 @@ if-err P R S (Err e) p f = f e p
 pub taken-judging : (side : Side) (octets : List ℕ) (facts : FactsKept) (answers : List ℕ) (fed then : Fed) (after : Checked) → IsTaken side octets fed then
     → ((limit : Limit) (marks : Marks) (before : List Recorded) (session : Recorded) → Keeps (profile_of limit marks) before session facts answers then → StandsForAll limit marks after before session)
     → IsTakenBy side octets (judging facts answers fed) after
-taken-judging side octets facts answers fed then after taken stands = record {
-  worked = refl;
-  room = taken.room;
-  stands = λ limit marks ended session passed. stands limit marks ended (with_more session (given Client side octets) (given Server side octets))
-      (keeps-taken (profile_of limit marks) ended session facts answers fed then side octets passed taken);
-}
+taken-judging side octets facts answers fed then after taken stands = search keeps-taken
 
 -- and by one that is decided, where they are counted
 pub taken-decided : (side : Side) (octets : List ℕ) (j : JudgementOfAll) (counts more : OctetCounts) → count_of side counts + length octets < 2 ^ 64
@@ -247,14 +198,8 @@ pub begun-told : (facts : FactsKept) (answers : List ℕ) (fed : Fed) (j : Judge
     → ((limit : Limit) (marks : Marks) (ended : List Recorded) (session : Recorded) → HasPassed (profile_of limit marks) ended session facts answers fed
     → IsVerdictFrom limit marks ended session j)
     → HasBegun (judging facts answers fed) (decided j (record { client = 0; server = 0 }))
-begun-told facts answers fed j told = record {
-  worked = refl;
-  stands = λ limit marks ended session passed. decided-ended limit marks j ended session (told limit marks ended session passed);
-}
+begun-told facts answers fed j told = search decided-ended
 
 -- what a checker gives of several sessions is what it gives of one
 pub finished-alone : (held : Checked) (j : JudgementOfAll) → IsFinishedOfAll held j → IsFinished held (verdict_of_last j)
-finished-alone held j finished = record {
-  worked = finished.worked;
-  verdict = λ limit marks client server stands. alone limit marks client server j (finished.verdict limit marks [] (record { client = client; server = server }) stands);
-}
+finished-alone held j finished = grind (arith, alone)

@@ -1,10 +1,9 @@
 -- What a feed holds stays when more octets follow.
-use Rattle.std.proofs.Common.{◌≡◌, ◌∙◌, sym, ap, subst, ℕ, Bool, true, false, nat_lt, List, ◌∷◌, ◌++◌, map, Option, None, Some, inl, inr, append_assoc}
-use Rattle.std.proofs.lemmas.List.{map-append}
-use Rattle.nntp_wire.{specs.{Octets.{crlf}, Frame.{framed}, Lines.{lines_of_stream, HasNoCrlf}}, proofs.StreamLemmas.{lines-joined}}
-use Rattle.nntp_pair.specs.{declared.class.PairClass.TheVariants.{Malformed}, Pairing.{Paired, Unpaired, IsNext, line_ahead, Place}}
-use Rattle.nntp_pair.{specs.Inner.{Pairing.{places_from, with_more}, Feeding.{Fed, EndsForGood, left_of, with_octets}}, proofs.PairingLemmas.{next-more}}
-use Rattle.nntp_pair.proofs.{PairingLemmas.{bad-stays, some-stay}, FedLaws.{left-more}, FeedLemmas.{places-more}}
+use Rattle.std.proofs.Common.{arith, ◌≡◌, ◌∙◌, sym, ap, subst, ℕ, nat_lt, List, ◌∷◌, ◌++◌, Option, inl, inr, append_assoc}
+use Rattle.nntp_wire.specs.{Octets.{crlf}, Frame.{framed}, Lines.{HasNoCrlf}}
+use Rattle.nntp_pair.specs.{declared.class.PairClass.TheVariants.{Malformed}, Pairing.{Paired, Unpaired, IsNext, line_ahead, Place}, Inner.Pairing.{with_more}}
+use Rattle.nntp_pair.{specs.Inner.Feeding.{Fed, EndsForGood, left_of, with_octets}, proofs.PairingLemmas.{next-more, bad-stays, some-stay}}
+use Rattle.nntp_pair.proofs.{FedLaws.{left-more}, FeedLemmas.{places-more}}
 use Rattle.nntp_printing.specs.BadAnswer.{IsFirstLine}
 use Rattle.nntp_verdict.{specs.Inner.Judging.{StopsHere}, proofs.ShownPlaces.{no-line}}
 
@@ -17,8 +16,7 @@ next-longer fed client server x behind next =
 -- a line with CRLF behind it is the first one, whatever follows
 first-longer : (octets initial rest more first : List ℕ) → octets ≡ initial ++ crlf ++ rest → IsFirstLine octets first → IsFirstLine (octets ++ more) first
 first-longer octets initial rest more first whole (none, inl e) = absurd (no-line octets initial rest (subst HasNoCrlf (sym e) none) whole)
-first-longer octets initial rest more first whole (none, inr (behind, e)) =
-    (none, inr (behind ++ more, ap (λ o. o ++ more) e ∙ append_assoc (first ++ crlf) behind more))
+first-longer octets initial rest more first whole (none, inr (behind, e)) = grind (arith, append_assoc)
 
 -- the line ahead, where there is a place
 line-longer : (places more : List Place) (place : Place) (rest : List Place) → places ≡ place ∷ rest → line_ahead (places ++ more) ≡ line_ahead places

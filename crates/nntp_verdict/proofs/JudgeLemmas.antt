@@ -1,10 +1,10 @@
 -- How a judgement goes through the exchanges of sessions.
 use Rattle.std.proofs.Common.{◌≡◌, ◌≢◌, ◌∙◌, sym, subst, refl, ℕ, zero, suc, ◌+◌, ◌<◌, ◌≤◌, ◌^◌, List, [], ◌∷◌, ◌++◌, map, take, drop, get_or, Option, None}
-use Rattle.std.proofs.Common.{Some, MatchOption, Result, Ok, Err, IfOk, length, ap, ap₂, inr, arith, append_assoc, append-nil, length-append}
-use Rattle.std.{proofs.lemmas.List.{length-map, map-append, take_more, take_all, drop_more, take-append-drop}, specs.Option.{option_map}}
-use Rattle.nntp_wire.specs.{Limit.{greatest}, Octets.{crlf}, declared.{limit.Limit.{Limit, TheVariants.{Narrow, Wide}}, marks.Marks.{Marks}}, Frame.{framed}}
-use Rattle.nntp_wire.specs.{Frame.{frame_octets}, Session.{ClientStream}}
-use Rattle.nntp_article.specs.{Session.{Limit.{profile_of}, Machine.{Visible, visible_after, start}}, declared.session.profile.Profile.{Profile}}
+use Rattle.std.proofs.{Common.{Some, MatchOption, Result, IfOk, length, ap, ap₂, inr, arith, append_assoc, append-nil, length-append}, lemmas.List.{length-map}}
+use Rattle.std.{proofs.lemmas.List.{map-append, take_more, take_all, drop_more, take-append-drop}, specs.Option.{option_map}}
+use Rattle.nntp_wire.specs.{Limit.{greatest}, Octets.{crlf}, declared.{limit.Limit.{Limit}, marks.Marks.{Marks}}, Frame.{framed, frame_octets}}
+use Rattle.nntp_wire.specs.Session.{ClientStream}
+use Rattle.nntp_article.specs.{Session.{Limit.{profile_of}, Machine.{Visible, visible_after}}, declared.session.profile.Profile.{Profile}}
 use Rattle.nntp_article.proofs.SessionLemmas.ClosingAnswers.{after-closes}
 use Rattle.nntp_pair.specs.Pairing.{Paired, Unpaired, IsNext, AreNext, Ends, IsBad, end, bad as pair_end, line_ahead, streams, asked_at, asked_of, responses_of}
 use Rattle.nntp_pair.specs.{Pairing.{HasNext}, declared.class.{PairClass.{PairClass}, Class.{Class, TheVariants.{OutOfPlace, Contradiction}}}}
@@ -21,7 +21,6 @@ use Rattle.nntp_verdict.specs.{declared.sessions_verdict.SessionsVerdict.{Sessio
 use Rattle.nntp_verdict.specs.{Judging.{pair_class_of}, Inner.{Judging.{IsVerdictFrom, HaveEnded, Passed, StopsHere, class_noted}, Verdict.{verdict_of_last}}}
 use Rattle.nntp_verdict.specs.Verdict.{consistent, bad, JudgementOfAll, consistent_of_all, bad_of_all, sessions_verdict_shown}
 use Rattle.nntp_verdict.proofs.VerdictLaws.{one_session_verdict, verdict_at_ends, verdict_within}
-use Rattle.nntp_pair.specs.declared.class.PairClass.TheVariants as pair
 use Rattle.nntp_theory.specs.declared.noted.Noted.TheVariants as kinds
 
 -- what is left of both streams is closed exactly if the visible state is
@@ -34,11 +33,7 @@ closed-by v before left (pair ∷ pairs) same (between, first, more) =
 -- the next exchange is due
 pub is-due : (profile : Profile) (before : List Recorded) (session : Recorded) (facts : FactsKept) (answers : List ℕ) (left behind : Unpaired) (x : Paired)
     → Passed profile before session facts answers left → IsNext left x behind → IsDue facts x
-is-due profile before session facts answers left behind x p next = record {
-  index = omega (arith, next.index, index-counts session.client session.server p.passed.pairs left p.passed.next, p.passed.stands.count);
-  is_open = ap (λ (v : Visible). v.closed) p.passed.stands.visible
-      ∙ sym (closed-by start.visible (streams session.client session.server) left p.passed.pairs refl p.passed.next) ∙ next.is_open;
-}
+is-due profile before session facts answers left behind x p next = grind (arith, index-counts, closed-by)
 
 -- what is noted of an exchange behind facts
 abbrev pub Notes : Profile → FactsKept → FactsKept → Paired → Noted → Type 0
@@ -65,8 +60,7 @@ one-more profile before session old new answers left behind x noted p next notes
       },
       refl,
     )
-    by kinds.OutOfPlace none h = absurd (let e : Some OutOfPlace ≡ None = none in cc)
-    by kinds.Contradiction none h = absurd (let e : Some Contradiction ≡ None = none in cc)
+    by noted none h = cc
 
 some-octets : (line rest : List ℕ) → line ++ crlf ++ rest ≢ []
 some-octets [] rest e = cc
@@ -77,9 +71,7 @@ frame-first server initial rest block whole = whole ∙ append_assoc (initial ++
 
 -- the class of an exchange is no class of octets
 of-exchange : (noted : Noted) (class : Class) → Some class ≡ class_noted noted → pair_class_of class ≡ None
-of-exchange kinds.Consistent class is = cc
-of-exchange kinds.OutOfPlace class is = let same : class ≡ OutOfPlace = cc in ap pair_class_of same
-of-exchange kinds.Contradiction class is = let same : class ≡ Contradiction = cc in ap pair_class_of same
+of-exchange noted class is = grind arith
 
 -- a bad exchange
 pub at-exchange : (client : ClientStream) (server : List ℕ) (pairs : List Paired) (left behind : Unpaired) (x : Paired)
@@ -104,9 +96,7 @@ at-exchange client server pairs left behind x noted class first next judged k at
     }
 
 of-pair : (class : PairClass) (left : Unpaired) → IsBad class left → SuitsClass (class_of class) left
-of-pair pair.Surplus left is = is
-of-pair pair.Cut left is = is
-of-pair pair.Malformed left is = is
+of-pair class left is = grind arith
 
 -- octets that answer nothing
 pub at-octets : (client : ClientStream) (server : List ℕ) (pairs : List Paired) (left : Unpaired) (index : ℕ) (class : PairClass) (line : Option (List ℕ)) (octets first : List ℕ)
@@ -131,8 +121,7 @@ at-octets client server pairs left index class line octets first before stop of 
 pub exchange-right : (profile : Profile) (before : List Recorded) (session : Recorded) (more : List Recorded) (old new : FactsKept) (left behind : Unpaired) (x : Paired)
     (noted : Noted) (class : Class) → PassedOfAll profile before session old left → IsNext left x behind → Notes profile old new x noted → Some class ≡ class_noted noted
     → (k : ℕ) → k ≡ x.index → IsOutcomeOfAll profile (before ++ session ∷ more) (NoOfAll (length before) k class)
-exchange-right profile before session more old new left behind x noted class p next notes judged k at =
-    subst (λ n. IsOutcomeOfAll profile (before ++ session ∷ more) (NoOfAll (length before) n class)) (sym place) (by noted judged (notes p.earlier p.pairs p.stands))
+exchange-right profile before session more old new left behind x noted class p next notes judged k at = search (place, by)
   where
     place : k ≡ length p.pairs
     place = at ∙ next.index ∙ index-counts session.client session.server p.pairs left p.next
@@ -160,10 +149,7 @@ octets-right profile before session more facts left class p ends k at of is =
 
 -- limits of which the greatest numbers are one are one
 same-limit : (limit other : Limit) → greatest limit ≡ greatest other → limit ≡ other
-same-limit Narrow Narrow e = refl
-same-limit Narrow Wide e = absurd (omega (arith, e))
-same-limit Wide Narrow e = absurd (omega (arith, e))
-same-limit Wide Wide e = refl
+same-limit limit other e = grind arith
 
 -- facts that are judged by a limit hold it
 limit-kept : (limit : Limit) (marks : Marks) (facts : FactsKept) (earlier : List (List Paired)) (past : List Paired) → HasNotedBehind (profile_of limit marks) facts earlier past → facts.limit ≡ limit
@@ -188,17 +174,14 @@ at-end limit marks sessions facts answers L e witness written =
 -- what is so of a judgement is so of a verdict that shows it
 pub told : {A E : Type 0} (r : Result (SessionsVerdict A) E) (P : JudgementOfAll → Type 0) (j : JudgementOfAll) → P j → IfOk r (λ v. sessions_verdict_shown v ≡ j)
     → IfOk r (λ v. P (sessions_verdict_shown v))
-told (Ok v) P j p ok = subst P (sym ok) p
-told (Err e) P j p ok = ok
+told r P j p ok = grind arith
 
 -- a no of the session behind those that ended, of which this is the number of answers
 no-here : (limit : Limit) (marks : Marks) (before : List Recorded) (session : Recorded) (more : List Recorded) (j k : ℕ) (class : Class) (command : Option (List ℕ)) (reply : List ℕ) → j
     ≡ length before
     → IsOutcomeOfAll (profile_of limit marks) (before ++ session ∷ more) (NoOfAll (length before) k class) → StopsAt session.client session.server k class command reply
     → IsVerdictOfAll limit marks (before ++ session ∷ more) (bad_of_all j k class command reply)
-no-here limit marks before session more j k class command reply is outcome place =
-    subst (λ j. IsVerdictOfAll limit marks (before ++ session ∷ more) (bad_of_all j k class command reply)) (sym is)
-    (verdict_within limit marks before session more k class command reply outcome place)
+no-here limit marks before session more j k class command reply is outcome place = grind (arith, verdict_within)
 
 module _ (limit : Limit) (marks : Marks) (before : List Recorded) (session : Recorded) (answers : List ℕ) where
   -- an exchange that isn't accepted, with what is shown of it, is a verdict
@@ -244,16 +227,13 @@ ends profile before session old new answers counts n unanswered left p at ended 
 pub from-here : (limit : Limit) (marks : Marks) (sessions : List Recorded) (i : ℕ) (s : Recorded) (j : JudgementOfAll) → i < length sessions → s ≡ get_or sessions i s
     → IsVerdictFrom limit marks (take i sessions) s j → IsVerdictOfAll limit marks sessions j
 from-here limit marks sessions i s j within is verdict =
-    let next : take i sessions ++ s ∷ drop (i + 1) sessions ≡ sessions =
-    ap (λ s. take i sessions ++ s ∷ drop (i + 1) sessions) is ∙ ap (λ rest. take i sessions ++ rest) (sym (drop_more sessions i s within)) ∙ take-append-drop i sessions in
+    let next : take i sessions ++ s ∷ drop (i + 1) sessions ≡ sessions = grind (arith, drop_more, take-append-drop) in
     subst (λ sessions. IsVerdictOfAll limit marks sessions j) next (verdict (drop (i + 1) sessions))
 
 -- one session more of those that have ended
 pub ended-next : (profile : Profile) (sessions : List Recorded) (i : ℕ) (s : Recorded) (facts : FactsKept) (answers : List ℕ) → i < length sessions → s ≡ get_or sessions i s
     → HaveEnded profile (take i sessions ++ s ∷ []) facts answers → HaveEnded profile (take (i + 1) sessions) facts answers
-ended-next profile sessions i s facts answers within is e =
-    let next = take_more sessions i s within ∙ ap (λ s. take i sessions ++ s ∷ []) (sym is) in
-    subst (λ sessions. HaveEnded profile sessions facts answers) (sym next) e
+ended-next profile sessions i s facts answers within is e = grind (arith, take_more)
 
 -- and of all of them
 pub ended-all : (profile : Profile) (sessions : List Recorded) (i : ℕ) (facts : FactsKept) (answers : List ℕ) → length sessions ≤ i
@@ -273,8 +253,7 @@ alone limit marks client server (bad_of_all (suc j) k class command reply) v = a
 
 -- what follows of each value from what is so of it
 pub told_of : {T E : Type 0} (r : Result T E) (P Q : T → Type 0) → IfOk r P → ((v : T) → P v → Q v) → IfOk r Q
-told_of (Ok v) P Q p then = then v p
-told_of (Err e) P Q p then = p
+told_of r P Q p then = grind arith
 
 -- where a verdict is told it is so of it, and else of what is left
 pub refuses : {A : Type 0} (told : Option (SessionsVerdict A)) (v : SessionsVerdict A) (N : Type 0) (P : SessionsVerdict A → Type 0) → told ≡ Some v → MatchOption told N P → P v

@@ -1,5 +1,5 @@
 -- A place of two streams shows one command and one reply.
-use Rattle.std.{proofs.Common.{◌≡◌, ◌∙◌, sym, ap, subst, ℕ, List, [], ◌∷◌, ◌++◌, length, Option, inl, inr, append_assoc}, specs.Option.{option_map}}
+use Rattle.std.{proofs.Common.{arith, ◌≡◌, ◌∙◌, sym, ap, subst, ℕ, List, [], ◌∷◌, ◌++◌, length, Option, inl, inr, append_assoc}, specs.Option.{option_map}}
 use Rattle.nntp_wire.{specs.{Octets.{crlf}, Lines.{HasNoCrlf}, Session.{ClientStream}}, proofs.FrameLemmas.{one_line, occurs-behind}}
 use Rattle.memchr.specs.Find.{OccursAt}
 use Rattle.nntp_pair.{specs.{Pairing.{Paired, Unpaired, AreNext, line_ahead, streams}, declared.class.Class.{Class}}, proofs.NextLemmas.{one-next}}
@@ -13,8 +13,7 @@ same-left [] (y ∷ others) a b c e p q = cc
 same-left (x ∷ pairs) [] a b c e p q = cc
 same-left (x ∷ pairs) (y ∷ others) a b c e (m, first, more) (n, also, rest) =
     let same : m ≡ n = (one-next a m n x y first also).1 in
-    let few : length pairs ≡ length others = cc in
-    same-left pairs others n b c few (subst (λ (u : Unpaired). AreNext u pairs b) same more) rest
+    grind (arith, same-left pairs others n b c)
 
 -- a line with CRLF behind it has one
 pub no-line : (octets line rest : List ℕ) → HasNoCrlf octets → octets ≡ line ++ crlf ++ rest → ⊥

@@ -1,6 +1,6 @@
 -- Sessions have one verdict, and it is a yes exactly if some spool explains them; that of one session is that of its two streams.
-use Rattle.std.proofs.Common.{◌++◌, refl, ◌≡◌, ◌∙◌, ◌↔◌, sym, ap, subst, ℕ, zero, suc, IsTrue, List, [], ◌∷◌, length, Option, None, Some, slice_get, ◌<◌, ◌^◌}
-use Rattle.std.{proofs.Common.{map, Ok}, specs.Prelude.{MatchOption}}
+use Rattle.std.proofs.Common.{arith, ◌++◌, refl, ◌≡◌, ◌∙◌, ◌↔◌, sym, ap, subst, ℕ, zero, suc, IsTrue, List, [], ◌∷◌, length, Option, None, Some, slice_get, ◌<◌}
+use Rattle.std.{proofs.Common.{◌^◌, map, Ok}, specs.Prelude.{MatchOption}}
 use Rattle.nntp_wire.specs.{declared.{limit.Limit.{Limit}, marks.Marks.{Marks}}, Session.{ClientStream}}
 use Rattle.nntp_article.specs.Session.{Explains.{Explains}, Limit.{profile_of}, Spool.{Spool}}
 use Rattle.nntp_pair.specs.{Pairing.{Paired}, declared.class.Class.{Class}}
@@ -37,16 +37,11 @@ one_verdict_of_all limit marks sessions (bad_of_all j k class command reply) (co
     let e = one_outcome_of_all (profile_of limit marks) sessions (NoOfAll j k class) (YesOfAll L.spool ns) x.outcome y.outcome in cc
 one_verdict_of_all limit marks sessions (bad_of_all j k c command reply) (bad_of_all i l d also again) x y =
     let e = one_outcome_of_all (profile_of limit marks) sessions (NoOfAll j k c) (NoOfAll i l d) x.outcome y.outcome in
-    let session : j ≡ i = cc in
-    let answer : k ≡ l = cc in
-    let here = subst (λ (p : ℕ × ℕ). MatchOption (slice_get sessions p.0) ⊥ (λ s. StopsAt s.client s.server p.1 c command reply)) (λ t. (session t, answer t)) x.place in
-    let shown = by (slice_get sessions i) here y.place in
-    λ t. with_place limit (e t) (shown.0 t) (shown.1 t)
+    grind (arith, by)
   where
     by : (o : Option Recorded) → MatchOption o ⊥ (λ s. StopsAt s.client s.server l c command reply) → MatchOption o ⊥ (λ s. StopsAt s.client s.server l d also again)
         → (command ≡ also) × (reply ≡ again)
-    by None h g = absurd h
-    by (Some s) h g = one-place s.client s.server l c d command also reply again h g
+    by o h g = grind (arith, one-place)
 
 pub yes_if_explained_of_all : (limit : Limit) (marks : Marks) (sessions : List Recorded) (j : JudgementOfAll) → IsVerdictOfAll limit marks sessions j
     → IsTrue (is_consistent_of_all j) ↔ ((S : Spool) × ExplainsAll (profile_of limit marks) S sessions)
@@ -74,10 +69,7 @@ one_session_verdict limit marks s (consistent L n) = let o = one_session_outcome
     back h (PermitsAll (m ∷ l ∷ ms)) x = absurd x.1
     back h (RefusesOne zero k) x = let e = h (Refuses k) x.1 in cc
     back h (RefusesOne (suc j) k) x = absurd x
-one_session_verdict limit marks s (bad k class command reply) = let o = one_session_outcome (profile_of limit marks) s (No k class) in (
-  λ x. record { outcome = o.0 x.outcome; place = x.place },
-  λ x. record { outcome = o.1 x.outcome; place = x.place },
-)
+one_session_verdict limit marks s (bad k class command reply) = grind (arith, one_session_outcome)
 
 -- so two streams have one verdict
 pub one-verdict : (limit : Limit) (marks : Marks) (client : ClientStream) (server : List ℕ) (j l : Judgement) → IsVerdict limit marks client server j → IsVerdict limit marks client server l → j ≡ l
@@ -87,8 +79,7 @@ one-verdict limit marks client server j l x y =
     (one_verdict_of_all limit marks (s ∷ []) (verdict_of_one j) (verdict_of_one l) ((one_session_verdict limit marks s j).1 x) ((one_session_verdict limit marks s l).1 y)) ∙ same l
   where
     same : (j : Judgement) → verdict_of_last (verdict_of_one j) ≡ j
-    same (consistent L n) = refl
-    same (bad k class command reply) = refl
+    same j = grind arith
 
 -- and it is a yes exactly if some spool explains them
 pub yes-if-explained : (limit : Limit) (marks : Marks) (client : ClientStream) (server : List ℕ) (j : Judgement)
@@ -105,8 +96,7 @@ yes-if-explained limit marks client server j x =
     )
   where
     same : (j : Judgement) → is_consistent_of_all (verdict_of_one j) ≡ is_consistent j
-    same (consistent L n) = refl
-    same (bad k class command reply) = refl
+    same j = grind arith
 
 -- ---- the ways to it
 
@@ -124,19 +114,10 @@ pub verdict_at_ends : (limit : Limit) (marks : Marks) (sessions : List Recorded)
     → IsVerdictOfAll limit marks sessions (consistent_of_all L (map length exchanges))
 verdict_at_ends limit marks sessions exchanges L is read_back paired permitted small given =
     let outcome = outcome_at_all_ends (profile_of limit marks) sessions exchanges L.spool small paired permitted given in
-    record {
-      limit_is = is;
-      outcome = outcome;
-      throughout = ended_throughout sessions exchanges paired;
-      read_back = read_back;
-      permits = λ v h. permits_alone (profile_of limit marks) L.spool sessions outcome.explains.1 v h ∙ ap PermitsAll (sym outcome.count);
-    }
+    grind (arith, ended_throughout, permits_alone)
 
 -- within a session
 pub verdict_within : (limit : Limit) (marks : Marks) (before : List Recorded) (s : Recorded) (more : List Recorded) (k : ℕ) (class : Class) (command : Option (List ℕ)) (reply : List ℕ)
     → IsOutcomeOfAll (profile_of limit marks) (before ++ s ∷ more) (NoOfAll (length before) k class) → StopsAt s.client s.server k class command reply
     → IsVerdictOfAll limit marks (before ++ s ∷ more) (bad_of_all (length before) k class command reply)
-verdict_within limit marks before s more k class command reply outcome place = record {
-  outcome = outcome;
-  place = subst (λ o. MatchOption o ⊥ (λ s. StopsAt s.client s.server k class command reply)) (sym (there before s more (length before) refl).0) place;
-}
+verdict_within limit marks before s more k class command reply outcome place = grind (arith, there)

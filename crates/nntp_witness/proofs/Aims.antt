@@ -1,12 +1,12 @@
 -- The spool that is aimed at: what was said by exchanges that were noted has a given spool, which has all of it and permits them.
-use Rattle.std.{proofs.Common.{List, [], ◌∷◌, ◌++◌, map, refl, sym, subst}, specs.List.{AllByRecursion}}
+use Rattle.std.proofs.Common.{arith, List, [], ◌∷◌, ◌++◌, map, refl, sym, subst}
 use Rattle.nntp_article.specs.{declared.session.profile.Profile.{Profile}, Session.Spool.{Spool}}
 use Rattle.nntp_pair.specs.Pairing.{Paired}
 use Rattle.nntp_theory.specs.{Answered.{Answered}, Given.{IsGiven}, Permitted.{exchanged}, Inner.Exchanged.{said_behind}}
 use Rattle.nntp_theory.proofs.Given.{SessionsByFacts.{given_exists_of_all, given_permits_all, made_for_all, said_each, stand_each}, SessionsGoOn.{facts_behind}}
 use Rattle.nntp_theory.proofs.Given.SessionsGoOn.{small_behind}
 use Rattle.nntp_facts.specs.Inner.{Noted.{FactsKept, HasNotedBehind, profile_kept}, Kept.{AreKeptArticles}}
-use Rattle.nntp_said.specs.Facts.{Fact, Holds}
+use Rattle.nntp_said.specs.Facts.{Fact}
 use Rattle.nntp_witness.specs.Inner.Witness.{HaveNoted, IsGivenSpool, IsWitness}
 
 -- facts of some exchanges are so by the profile that they hold
@@ -47,9 +47,4 @@ aim profile facts earlier past s =
 -- a witness is the given spool of what was said, and has all of it
 pub witness_has : (facts : FactsKept) (earlier : List (List Paired)) (past : List Paired) (G : Spool) → IsWitness (profile_kept facts) earlier past G
     → IsGivenSpool facts.limit (said_behind facts.marks earlier past) G
-witness_has facts earlier past G witness = record {
-  given = witness.given;
-  is_spool = witness.is_spool;
-  holds = subst (AllByRecursion (Holds G)) (facts_behind facts.marks (map exchanged earlier) (exchanged past))
-      (said_each (profile_kept facts) G (map exchanged earlier ++ exchanged past ∷ []) witness.permits).1;
-}
+witness_has facts earlier past G witness = grind (arith, facts_behind, said_each)

@@ -1,14 +1,13 @@
 -- The articles of the given spool that are shown, one after the other.
-use Rattle.std.proofs.Common.{◌≡◌, ℕ, true, false, cond, List, [], ◌∷◌, map, None, Some, is_some, IsSome, IsTrue, Result, inl, inr, refl, sym, ap, subst, ◌∙◌}
-use Rattle.std.{proofs.lemmas.Bool.{true≢false, false≢true, or_cases}, specs.{Prelude.{unwrap_or}, List.{AllByRecursion, list_any}}}
-use Rattle.std.specs.{List.Sorted.{IsStrictlySortedBy}, declared.cmp.Ordering.TheVariants.{Less}, Ordering.{nat_cmp, is_lt, eq_by_cmp}}
-use Rattle.std.specs.{Cmp.Lexicographic.{slice_cmp, nat_list_cmp_total, same_text}, FinMap.{FinMap, get, insert, get-insert, same_map}}
+use Rattle.std.proofs.Common.{arith, ◌≡◌, ℕ, true, false, List, [], ◌∷◌, map, None, Some, is_some, IsSome, IsTrue, Result, inl, inr, refl, sym, ap, ◌∙◌}
+use Rattle.std.{proofs.lemmas.Bool.{true≢false, false≢true, or_cases}, specs.List.{AllByRecursion, list_any, Sorted.{IsStrictlySortedBy}}}
+use Rattle.std.specs.{declared.cmp.Ordering.TheVariants.{Less}, Ordering.{nat_cmp}, Cmp.Lexicographic.{slice_cmp, nat_list_cmp_total, same_text}}
+use Rattle.std.specs.FinMap.{FinMap, get, insert, get-insert, same_map}
 use Rattle.nntp_wire.{proofs.OptionLemmas.{none_of, some_is}, specs.declared.limit.Limit.{Limit}}
 use Rattle.nntp_article.specs.{Article.Parts.{Id}, Session.{Machine.{is_same}, Spool.{Spool, Text}}}
-use Rattle.nntp_said.specs.Facts.{Fact, IdAt, TextIs, Holds}
-use Rattle.nntp_theory.specs.{Given.{IsGiven, mentions, is_mentioned, gives_article, plain_head}, Together.{shows_article}}
-use Rattle.nntp_theory.proofs.{Given.ConstructedSpool.{names_apart}, Members.{In, all_at, all_from, any_in, found_in}}
-use Rattle.nntp_theory.proofs.Together.FactsOfASpoolStand.{same_itself}
+use Rattle.nntp_said.specs.Facts.{Fact, IdAt, Holds}
+use Rattle.nntp_theory.{specs.{Given.{IsGiven, mentions, is_mentioned}, Together.{shows_article}}, proofs.{Given.ConstructedSpool.{names_apart}, Members.{In}}}
+use Rattle.nntp_theory.proofs.{Members.{all_at, all_from, any_in, found_in}, Together.FactsOfASpoolStand.{same_itself}}
 use Rattle.nntp_facts.specs.Inner.Readers.{ShownArticle, IsShownArticle, AreShownArticles}
 use Rattle.nntp_spool.specs.{Inner.Building.{Building, Builds, article_fault}, Content.{with_article}, declared.value.spool_fault.SpoolFault.{SpoolFault}}
 use Rattle.nntp_spool.proofs.MapEntries.{apart, got_more}
@@ -19,9 +18,7 @@ use Rattle.nntp_witness.proofs.{BuilderCalls.{called}, FaultsNone.{article_fits}
 
 -- an id that a fact shows to have an article is mentioned by it
 shown_mentions : (id : Id) (fact : Fact) → shows_article id fact ≡ true → mentions id fact ≡ true
-shown_mentions id (IdAt name n other) t = t
-shown_mentions id (TextIs what other lines) t = t
-shown_mentions id fact t = cc
+shown_mentions id fact t = grind arith
 
 -- an id that facts show to have an article is mentioned
 shown_is_mentioned : (id : Id) (facts : List Fact) → IsTrue (list_any (shows_article id) facts) → IsTrue (is_mentioned facts id)
@@ -33,8 +30,7 @@ shown_has_article facts G given holds id t = let f = found_in (shows_article id)
   where
     by : (fact : Fact) → In fact facts → shows_article id fact ≡ true → Holds G fact → IsSome (get G.articles id)
     by (IdAt name n other) i t at = (given.articles id).1 (inl (name, n, at ∙ ap Some (same_text other id (sym t))))
-    by (TextIs what other lines) i t at = (given.articles id).1 (inr (any_in (gives_article id) (TextIs what other lines) facts i t))
-    by fact i t at = cc
+    by fact i t at = grind (arith, any_in)
 
 -- ---- before the first
 
@@ -71,25 +67,18 @@ articles_start limit said G articles b next witness shown left = record {
 
 -- the given spool has this text of an article that is shown
 text_is_given : (facts : List Fact) (G : Spool) (a : ShownArticle) → IsGiven facts G → IsShownArticle facts a → IsSome (get G.articles a.id) → get G.articles a.id ≡ Some (given_text a)
-text_is_given facts G a given shown there =
-    let found = some_is (get G.articles a.id) there in
-    let head = given.heads a.id found.0 found.1 ∙ ap (λ o. unwrap_or o (plain_head a.id)) (sym shown.head) in
-    let body = given.bodies a.id found.0 found.1 ∙ ap (λ o. unwrap_or o []) (sym shown.body) in
-    found.1 ∙ (λ i. Some (record { head = head i; body = body i }))
+text_is_given facts G a given shown there = grind (arith, some_is)
 
 -- an article that is shown is added without a fault
 pub article_has_no_fault : (limit : Limit) (said : List Fact) (G : Spool) (a : ShownArticle)
     (left : List ShownArticle) (b : Building) → IsGivenSpool limit said G
     → ArticlesLeft limit said G (a ∷ left) b
     → article_fault b.spool a.id (given_text a) ≡ None
-article_has_no_fault limit said G a left b witness l =
-    article_fits limit G b.spool witness.is_spool a.id (given_text a) (text_is_given said G a witness.given l.shown.0 l.of_spool.0) l.not_made.0
+article_has_no_fault limit said G a left b witness l = search (article_fits, text_is_given)
 
 -- an article of a greater id than the one that is added isn't there yet
 absent_above : (m : FinMap (slice_cmp nat_cmp) Text) (id q : Id) (t : Text) → slice_cmp nat_cmp id q ≡ Less → get m q ≡ None → get (insert m id t) q ≡ None
-absent_above m id q t less absent =
-    let other : eq_by_cmp (slice_cmp nat_cmp) q id ≡ false = apart nat_list_cmp_total id q (ap is_lt less) in
-    get-insert nat_list_cmp_total m id t q ∙ ap (λ b. cond b (Some t) (get m q)) other ∙ absent
+absent_above m id q t less absent = grind (arith, apart, nat_list_cmp_total, get-insert)
 
 -- nor are all those behind it
 absent_behind : (m : FinMap (slice_cmp nat_cmp) Text) (id : Id) (t : Text) (left : List ShownArticle) → AllByRecursion (λ q. slice_cmp nat_cmp id q ≡ Less) (map (λ a. a.id) left)
@@ -99,15 +88,7 @@ absent_behind m id t (a ∷ left) above absent = (absent_above m id a.id t above
 
 -- an article of the spool makes more of a part of it
 part_with_article : (facts : List Fact) (G S : Spool) (id : Id) (t : Text) → IsPart facts G S → get G.articles id ≡ Some t → IsPart facts G (with_article S id t)
-part_with_article facts G S id t part at = record {
-  groups = part.groups;
-  articles = λ q u e. elim (got_more nat_list_cmp_total names_apart S.articles id t q u e) [
-    | inl new ↦ ap (get G.articles) new.0 ∙ at ∙ ap Some (sym new.1)
-    | inr old ↦ part.articles q u old
-  ];
-  unshown = λ name n q e none. got_still nat_list_cmp_total names_apart S.articles id t q (part.unshown name n q e none);
-  numbers = part.numbers;
-}
+part_with_article facts G S id t part at = grind (arith, got_more, nat_list_cmp_total, names_apart, got_still)
 
 -- the builder once an article was added
 abbrev pub one_article_more : Building → ShownArticle → Building
@@ -143,8 +124,4 @@ pub article_added : (limit : Limit) (said : List Fact) (G : Spool) (a : ShownArt
     (left : List ShownArticle) (b new : Building) (id : Id) (t : Text) (r : Result (Unit {0}) SpoolFault)
     → IsGivenSpool limit said G → ArticlesLeft limit said G (a ∷ left) b
     → id ≡ a.id → t ≡ given_text a → Builds (article_fault b.spool id t) (with_article b.spool id t) r b new → Makes r (λ _. ArticlesLeft limit said G left new)
-article_added limit said G a left b new id t r witness l is text call =
-    called (ArticlesLeft limit said G left) (article_fault b.spool a.id (given_text a)) (with_article b.spool a.id (given_text a)) r b new l.is_whole
-    (article_has_no_fault limit said G a left b witness l) (one_article_less limit said G a left b witness l)
-    (subst (λ (u : Text). Builds (article_fault b.spool a.id u) (with_article b.spool a.id u) r b new) text
-    (subst (λ (q : Id). Builds (article_fault b.spool q t) (with_article b.spool q t) r b new) is call))
+article_added limit said G a left b new id t r witness l is text call = grind (arith, called, article_has_no_fault, one_article_less)

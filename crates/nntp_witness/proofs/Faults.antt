@@ -1,14 +1,12 @@
 -- Faults that are passed on.
-use Rattle.std.{proofs.Common.{◌≡◌, Result, Ok, Err, ◌∙◌}, specs.Result.{IsErr, IsErrAnd}}
+use Rattle.std.{proofs.Common.{arith, ◌≡◌, Result}, specs.Result.{IsErr, IsErrAnd}}
 use Rattle.nntp_spool.specs.declared.value.spool_fault.SpoolFault.{SpoolFault, TheVariants.{Memory}}
 use Rattle.nntp_witness.specs.Inner.Making.{Makes}
 
 -- want of memory that is passed on stays that
 pub memory_passed : {A : Type 0} (r : Result A SpoolFault) (P : A → Type 0) (fault : SpoolFault) → IsErr r × IsErrAnd r (λ e. e ≡ fault) → fault ≡ Memory → Makes r P
-memory_passed (Ok x) P fault h m = cc
-memory_passed (Err e) P fault h m = h.1 ∙ m
+memory_passed r P fault h m = grind arith
 
 -- what is made has what follows
 pub made_so : {A : Type 0} (r : Result A SpoolFault) (P Q : A → Type 0) → ((x : A) → P x → Q x) → Makes r P → Makes r Q
-made_so (Ok x) P Q f h = f x h
-made_so (Err e) P Q f h = h
+made_so r P Q f h = grind arith

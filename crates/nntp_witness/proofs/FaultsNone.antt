@@ -1,52 +1,34 @@
 -- What the given spool has is added to a part of it without a fault.
-use Rattle.std.proofs.Common.{◌≡◌, ℕ, Bool, true, false, cond, not, ◌&&◌, List, [], ◌∷◌, Option, None, Some, is_some, refl, sym, ap, subst, ◌∙◌}
-use Rattle.std.{proofs.lemmas.{Bool.{true≢false, and_from, false_from_ne_true, or_left, or_right}, Slice.Eq.{bytes_eq-Decides}}, specs.Prelude.{is_none}}
-use Rattle.std.specs.{Prelude.{unwrap_or, IsFalse, bytes_eq}, List.{list_all}, Option.{option_or}, Cmp.{nat_cmp_total}, FinMap.{get, entries}}
-use Rattle.std.specs.FinMap.{nat_cmp-IsAntisymmetric}
+use Rattle.std.proofs.{Common.{arith, ◌≡◌, ℕ, true, false, List, [], ◌∷◌, Option, None, Some, is_some, refl, sym, ap, subst, ◌∙◌}, lemmas.Bool.{true≢false}}
+use Rattle.std.{proofs.lemmas.{Bool.{false_from_ne_true, or_left, or_right}, Slice.Eq.{bytes_eq-Decides}}, specs.Prelude.{unwrap_or, IsFalse, bytes_eq}}
+use Rattle.std.specs.{List.{list_all}, Cmp.{nat_cmp_total}, FinMap.{get, entries, nat_cmp-IsAntisymmetric}}
 use Rattle.nntp_wire.{specs.{Decided.{is_group_name, is_message_id}, Limit.{greatest}, declared.limit.Limit.{Limit}}, proofs.OptionLemmas.{some_is}}
 use Rattle.nntp_article.specs.{Article.Parts.{Id, Line}, Session.{Machine.{is_article_number}, Spool.{Spool, Name, Numbers, Text, IsGroup, IsSpool, numbers}}}
 use Rattle.nntp_article.specs.Session.Spool.{is_line}
-use Rattle.nntp_said.specs.Facts.{Fact, TextIs}
+use Rattle.nntp_said.specs.Facts.{Fact}
 use Rattle.nntp_theory.{specs.Given.{mentions, is_mentioned, first_given, head_in, body_in, plain_head, IsGiven}, proofs.Given.GivenHolds.{group_of_number}}
 use Rattle.nntp_theory.proofs.{Maps.{in_get}, Members.{found_in}}
-use Rattle.nntp_facts.{specs.Inner.Articles.{head_sent, body_sent}, proofs.Keeping.SaidOfArticles.{head_of_text, body_of_text}}
+use Rattle.nntp_facts.proofs.Keeping.SaidOfArticles.{head_of_text, body_of_text}
 use Rattle.nntp_spool.specs.{Inner.Building.{group_fault, number_fault, article_fault}, Content.{is_head_of}, Numbers.{has_id}}
 use Rattle.nntp_spool.proofs.WholeSpools.{content_of_spool}
 use Rattle.nntp_witness.specs.Inner.Making.{IsPart}
-use Rattle.nntp_spool.specs.declared.value.spool_fault.SpoolFault.TheVariants as faults
 
 -- ---- faults by their tests
 
--- a test that finds nothing
-passed : {A : Type 0} (b : Bool) (x : A) (o : Option A) → b ≡ false → o ≡ None → cond b (Some x) o ≡ None
-passed true x o e f = absurd (true≢false e)
-passed false x o e f = f
-
 -- a group with a name, that isn't there
 no_group_fault : (S : Spool) (name : Name) → is_group_name name ≡ true → get S.groups name ≡ None → group_fault S name ≡ None
-no_group_fault S name is absent =
-    passed (not (is_group_name name)) faults.BadName _ (ap not is)
-    (passed (is_some (get S.groups name)) faults.DuplicateGroup None (ap is_some absent) refl)
+no_group_fault S name is absent = cc
 
 -- a number and an id that may be, and aren't there
 no_number_fault : (limit : ℕ) (S : Spool) (name : Name) (n : ℕ) (id : Id) → IsGroup S name → is_article_number limit n ≡ true
     → is_message_id id ≡ true → get (numbers S name) n ≡ None → has_id (numbers S name) id ≡ false
     → number_fault limit S name n id ≡ None
-no_number_fault limit S name n id there num is_id absent fresh =
-    passed (is_none (get S.groups name)) faults.UnknownGroup _ (ap not there)
-    (passed (not (is_article_number limit n)) faults.BadNumber _ (ap not num)
-    (passed (not (is_message_id id)) faults.BadId _ (ap not is_id)
-    (passed (is_some (get (numbers S name) n)) faults.DuplicateNumber _ (ap is_some absent)
-    (passed (has_id (numbers S name) id) faults.DuplicateId None fresh refl))))
+no_number_fault limit S name n id there num is_id absent fresh = cc
 
 -- an article that may be, and isn't there
 no_article_fault : (S : Spool) (id : Id) (t : Text) → is_message_id id ≡ true → list_all is_line t.head ≡ true → is_head_of id t.head ≡ true → list_all is_line t.body ≡ true → get S.articles id ≡ None
     → article_fault S id t ≡ None
-no_article_fault S id t is_id lines head body absent =
-    passed (not (is_message_id id)) faults.BadId _ (ap not is_id)
-    (passed (not (list_all is_line t.head && is_head_of id t.head)) faults.BadHead _ (ap not (and_from (list_all is_line t.head) (is_head_of id t.head) lines head))
-    (passed (not (list_all is_line t.body)) faults.BadBody _ (ap not body)
-    (passed (is_some (get S.articles id)) faults.DuplicateId None (ap is_some absent) refl)))
+no_article_fault S id t is_id lines head body absent = cc
 
 -- ---- what the spool has
 
@@ -87,21 +69,16 @@ article_fits limit G S is_spool id t at absent =
 
 -- a fact that does not mention an id sends no head of it
 silent_head : (id : Id) (fact : Fact) → mentions id fact ≡ false → head_in id fact ≡ None
-silent_head id (TextIs what other lines) e = head_of_text what other id lines ∙ ap (λ b. cond b (head_sent what lines) None) e
-silent_head id fact e = refl
+silent_head id fact e = grind (arith, head_of_text)
 
 -- nor a body
 silent_body : (id : Id) (fact : Fact) → mentions id fact ≡ false → body_in id fact ≡ None
-silent_body id (TextIs what other lines) e = body_of_text what other id lines ∙ ap (λ b. cond b (body_sent what lines) None) e
-silent_body id fact e = refl
+silent_body id fact e = grind (arith, body_of_text)
 
 -- where no fact mentions it, nothing is given of it
 none_given : (id : Id) (f : Fact → Option (List Line)) (facts : List Fact) → ((fact : Fact) → mentions id fact ≡ false → f fact ≡ None) → is_mentioned facts id ≡ false → first_given f facts ≡ None
 none_given id f [] silent e = refl
-none_given id f (fact ∷ facts) silent e =
-    let here : mentions id fact ≡ false = false_from_ne_true (mentions id fact) (λ t. true≢false (sym (or_left (mentions id fact) (is_mentioned facts id) t) ∙ e)) in
-    let rest : is_mentioned facts id ≡ false = false_from_ne_true (is_mentioned facts id) (λ t. true≢false (sym (or_right (mentions id fact) (is_mentioned facts id) t) ∙ e)) in
-    ap (λ o. option_or o (first_given f facts)) (silent fact here) ∙ none_given id f facts silent rest
+none_given id f (fact ∷ facts) silent e = grind (arith, false_from_ne_true, true≢false, or_left, or_right, none_given id f facts silent)
 
 -- so the given article is plain
 pub plain_text : (facts : List Fact) (G : Spool) (id : Id) (t : Text) → IsGiven facts G → IsFalse (is_mentioned facts id) → get G.articles id ≡ Some t → t ≡ record { head = plain_head id; body = [] }

@@ -25,14 +25,11 @@ module _ {K : Type 0} {R : K → K → Ordering} (o : IsTotalOrder R) where
 
   -- two lists in order start alike
   same_first : (x y : K) (xs ys : List K) → AllByRecursion (λ z. R x z ≡ Less) xs → AllByRecursion (λ z. R y z ≡ Less) ys → In x (y ∷ ys) → In y (x ∷ xs) → x ≡ y
-  same_first x y xs ys h g (inl e) j = sym e
-  same_first x y xs ys h g (inr i) (inl e) = e
-  same_first x y xs ys h g (inr i) (inr j) = absurd (not_itself x (o.trans x y x (all_at (λ z. R x z ≡ Less) y xs h j) (all_at (λ z. R y z ≡ Less) x ys g i)))
+  same_first x y xs ys h g z j = grind (arith, not_itself, all_at)
 
   -- an element that isn't the first is one of the others
   of_others : (x y : K) (ys : List K) → (x ≡ y → ⊥) → In y (x ∷ ys) → In y ys
-  of_others x y ys ne (inl e) = absurd (ne e)
-  of_others x y ys ne (inr i) = i
+  of_others x y ys ne z = grind arith
 
   -- lists in order that have the same elements are one
   pub same_in_order : (xs ys : List K) → IsStrictlySortedBy R xs → IsStrictlySortedBy R ys → ((q : K) → In q xs → In q ys) → ((q : K) → In q ys → In q xs) → xs ≡ ys
@@ -40,12 +37,7 @@ module _ {K : Type 0} {R : K → K → Ordering} (o : IsTotalOrder R) where
   same_in_order [] [] h g there back = refl
   same_in_order [] (y ∷ ys) h g there back = absurd (back y (inl refl))
   same_in_order (x ∷ xs) [] h g there back = absurd (there x (inl refl))
-  same_in_order (x ∷ xs) (y ∷ ys) h g there back =
-      let first : x ≡ y = same_first x y xs ys h.0 g.0 (there x (inl refl)) (back y (inl refl)) in
-      let others : xs ≡ ys = same_in_order xs ys h.1 g.1
-      (λ q i. of_others y q ys (λ e. first_below x q xs h.0 i (first ∙ e)) (there q (inr i)))
-      (λ q i. of_others x q xs (λ e. first_below y q ys g.0 i (sym first ∙ e)) (back q (inr i))) in
-      λ i. first i ∷ others i
+  same_in_order (x ∷ xs) (y ∷ ys) h g there back = grind (arith, same_first, of_others, first_below, same_in_order xs ys h.1 g.1)
 
   -- a list in order that has the keys of a map, and no others, is the list of its keys
   pub keys_listed : {X : Type 0} → IsAntisymmetric R → (ks : List K) (m : FinMap R X) → IsStrictlySortedBy R ks
@@ -78,28 +70,21 @@ joined_ascend (x ∷ xs) ys h g below = (all_from (λ q. nat_cmp x.0 q ≡ Less)
 -- one number ascends
 one_ascends : (unseen : Option ℕ) → IsStrictlySortedBy nat_cmp (map (λ e. e.0) (unseen_number unseen))
 unfolding IsStrictlySortedBy
-one_ascends None = tt
-one_ascends (Some n) = (tt, tt)
+one_ascends unseen = grind arith
 
 -- what is there of a number that isn't shown
 of_unseen : (unseen : Option ℕ) (e : ℕ × Option Id) → In e (unseen_number unseen) → (unseen ≡ Some e.0) × (e.1 ≡ None)
-of_unseen None e i = absurd i
-of_unseen (Some n) e (inl same) = (ap (λ (e : ℕ × Option Id). Some e.0) same, ap (λ (e : ℕ × Option Id). e.1) (sym same))
-of_unseen (Some n) e (inr i) = absurd i
+of_unseen unseen e i = grind arith
 
 -- ---- the numbers that are shown
 
 -- a number in the list is shown
 listed_shown : (facts : List Fact) (g : ShownGroup) (n : ℕ) → HasShownNumbers facts g → In n (map (λ e. e.0) g.numbers) → IsTrue (is_shown (asks_of g.name facts) n)
-listed_shown facts g n h i =
-    let f = from_map (λ (e : ℕ × Option Id). e.0) n g.numbers i in
-    sym (h.numbers.all n) ∙ any_in (λ (e : ℕ × Option Id). e.0 == n) f.0 g.numbers f.1 (eq-eqb f.0.0 n f.2)
+listed_shown facts g n h i = grind (arith, from_map, any_in, eq-eqb)
 
 -- and back
 shown_listed : (facts : List Fact) (g : ShownGroup) (n : ℕ) → HasShownNumbers facts g → IsTrue (is_shown (asks_of g.name facts) n) → In n (map (λ e. e.0) g.numbers)
-shown_listed facts g n h t =
-    let f = found_in (λ (e : ℕ × Option Id). e.0 == n) g.numbers (h.numbers.all n ∙ t) in
-    subst (λ m. In m (map (λ (e : ℕ × Option Id). e.0) g.numbers)) (eqb-true f.0.0 n f.2) (in_map (λ (e : ℕ × Option Id). e.0) f.0 g.numbers f.1)
+shown_listed facts g n h t = grind (arith, found_in, eqb-true, in_map)
 
 -- ---- the given numbers
 
@@ -136,8 +121,7 @@ module _ (facts : List Fact) (g : ShownGroup) (h : HasShownNumbers facts g) wher
   shown_below : (x y : ℕ × Option Id) → In x g.numbers → In y (unseen_number g.unseen_high) → x.0 < y.0
   shown_below x y i j =
       let t = entry_shown x i in
-      let top = greatest y.0 (of_unseen g.unseen_high y j).0 in
-      above x.0 y.0 (top.1.1 x.0 (given_shown x.0 t)) (other_shown x.0 y.0 t top.0)
+      grind (arith, greatest, of_unseen, above, given_shown, other_shown)
 
   -- and the least is below both
   least_below : (x y : ℕ × Option Id) → In x (unseen_number g.unseen) → In y (g.numbers ++ unseen_number g.unseen_high) → x.0 < y.0
@@ -153,9 +137,7 @@ module _ (facts : List Fact) (g : ShownGroup) (h : HasShownNumbers facts g) wher
 
   -- the given numbers ascend
   pub given_ascends : IsStrictlySortedBy nat_cmp (map (λ e. e.0) (given_numbers g))
-  given_ascends =
-      joined_ascend (unseen_number g.unseen) (g.numbers ++ unseen_number g.unseen_high) (one_ascends g.unseen)
-      (joined_ascend g.numbers (unseen_number g.unseen_high) h.numbers.ascending (one_ascends g.unseen_high) shown_below) least_below
+  given_ascends = search (joined_ascend, one_ascends, shown_below, least_below)
 
   -- no id is shown for a number that isn't shown
   no_id : (n : ℕ) → IsFalse (is_shown asked n) → (o : Option Id) → id_shown facts g.name n ≡ o → None ≡ id_shown facts g.name n
@@ -169,9 +151,7 @@ module _ (facts : List Fact) (g : ShownGroup) (h : HasShownNumbers facts g) wher
 
   -- each has the id that is shown for it, if one is
   pub given_ids : AllByRecursion (λ e. e.1 ≡ id_shown facts g.name e.0) (given_numbers g)
-  given_ids =
-      all_both (λ e. e.1 ≡ id_shown facts g.name e.0) (unseen_number g.unseen) (g.numbers ++ unseen_number g.unseen_high) (unseen_id g.unseen (λ n e. (least n e).0))
-      (all_both (λ e. e.1 ≡ id_shown facts g.name e.0) g.numbers (unseen_number g.unseen_high) h.numbers.ids (unseen_id g.unseen_high (λ n e. (greatest n e).0)))
+  given_ids = grind (arith, all_both, unseen_id, least, greatest)
 
   -- each of them is given
   given_each : (n : ℕ) → In n (map (λ e. e.0) (given_numbers g)) → IsGivenNumber asked n
@@ -208,6 +188,4 @@ module _ (facts : List Fact) (g : ShownGroup) (h : HasShownNumbers facts g) wher
 
   -- they are the numbers of the group in the given spool
   pub given_keys : (G : Spool) → IsGiven facts G → IsGroup G g.name → map (λ e. e.0) (given_numbers g) ≡ keys (numbers G g.name)
-  given_keys G given is_group =
-      keys_listed nat_cmp_total nat_cmp-IsAntisymmetric (map (λ e. e.0) (given_numbers g)) (numbers G g.name) given_ascends
-      (λ q i. (given.numbers_given g.name is_group q).1 (given_each q i)) (λ q i. each_given q ((given.numbers_given g.name is_group q).0 i))
+  given_keys G given is_group = grind (arith, keys_listed, nat_cmp_total, nat_cmp-IsAntisymmetric, given_ascends, given_each, each_given)

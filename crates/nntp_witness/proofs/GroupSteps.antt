@@ -1,5 +1,5 @@
 -- One group more of the spool that is made.
-use Rattle.std.proofs.Common.{◌≡◌, ◌≢◌, ◌⊎◌, ℕ, false, ◌==◌, List, [], ◌∷◌, ◌++◌, map, Option, None, Some, is_some, IsSome, IsTrue, Result, Ok, Err, inl, inr}
+use Rattle.std.proofs.Common.{arith, ◌≡◌, ◌≢◌, ◌⊎◌, ℕ, false, ◌==◌, List, [], ◌∷◌, ◌++◌, map, Option, None, Some, IsSome, IsTrue, Result, Ok, Err, inl, inr}
 use Rattle.std.proofs.{Common.{refl, sym, ap, subst, ◌∙◌}, lemmas.{Bool.{true≢false, or_cases, eq-eqb}, Cmp.{tied_itself}, List.{append-nil}}}
 use Rattle.std.specs.{Prelude.{unwrap_or}, List.{AllByRecursion, list_any, Sorted.{IsStrictlySortedBy}}, declared.cmp.Ordering.TheVariants.{Less}}
 use Rattle.std.specs.{Ordering.{nat_cmp}, Cmp.{nat_cmp_total, Lexicographic.{slice_cmp, nat_list_cmp_total, same_text}}, FinMap.{get, empty, keys, get-empty}}
@@ -19,15 +19,11 @@ use Rattle.nntp_witness.proofs.MoreMade.{numbers_here, group_here, group_other, 
 
 -- a name that comes after another is none of it
 not_after : (name other : Name) → slice_cmp nat_cmp name other ≡ Less → other ≢ name
-not_after name other less same =
-    let tied : slice_cmp nat_cmp name name ≡ Less = ap (slice_cmp nat_cmp name) (sym same) ∙ less in
-    let itself = tied_itself nat_list_cmp_total name in
-    cc
+not_after name other less same = grind (arith, tied_itself, nat_list_cmp_total)
 
 -- what is there is its value
 some_value : (o : Option Numbers) → IsSome o → o ≡ Some (unwrap_or o empty)
-some_value None i = cc
-some_value (Some N) i = refl
+some_value o i = grind arith
 
 module _ (limit : Limit) (facts : List Fact) (G : Spool) (given : IsGiven facts G) (is_spool : IsSpool (greatest limit) G)
     (g : ShownGroup) (left : List ShownGroup) (b : Building) (next : ℕ) (l : GroupsLeft limit facts G (g ∷ left) b next) where
@@ -58,13 +54,7 @@ module _ (limit : Limit) (facts : List Fact) (G : Spool) (given : IsGiven facts 
   -- all of them are left
   all_left : NumbersLeft limit facts G b.spool g.name (unshown_of G left) (given_numbers g) (record { limit = b.limit; spool = bare; failed = false }) next
   all_left = record {
-    begun = record {
-      limit_is = l.begun.limit_is;
-      is_whole = refl;
-      part = part_with_group facts G b.spool g.name l.begun.part l.of_spool.0;
-      invented_before = l.begun.invented_before;
-      small = l.begun.small;
-    };
+    begun = search part_with_group;
     to_invent = l.to_invent;
     is_group = group_here b.spool g.name empty;
     ascending = given_ascends facts g l.shown.0;
@@ -80,10 +70,7 @@ module _ (limit : Limit) (facts : List Fact) (G : Spool) (given : IsGiven facts 
   module _ (c : Building) (after : ℕ) (done : NumbersLeft limit facts G b.spool g.name (unshown_of G left) [] c after) where
     -- a number that isn't made isn't in the spool
     absent_too : (n : ℕ) → get (numbers c.spool g.name) n ≡ None → get (numbers G g.name) n ≡ None
-    absent_too n absent = none_of (get (numbers G g.name) n) (λ i. elim (done.others n i) [
-      | inl never ↦ true≢false (sym never)
-      | inr there ↦ true≢false (sym there ∙ ap is_some absent)
-    ])
+    absent_too n absent = grind (arith, none_of, true≢false)
 
     -- each number has the id that it has in the spool
     same_ids : (n : ℕ) → get (numbers c.spool g.name) n ≡ get (numbers G g.name) n
@@ -134,25 +121,17 @@ module _ (limit : Limit) (facts : List Fact) (G : Spool) (given : IsGiven facts 
 
   -- a refusal of the group is want of memory
   pub group_refused : (name : Name) (x : SpoolFault) (new : Building) → name ≡ g.name → Builds (group_fault b.spool name) (with_group b.spool name empty) (Err x) b new → x ≡ Memory
-  group_refused name x new is h = call_refused (group_fault b.spool g.name) bare x b new l.begun.is_whole group_added
-      (subst (λ q. Builds (group_fault b.spool q) (with_group b.spool q empty) (Err x) b new) is h)
+  group_refused name x new is h = grind (arith, call_refused, group_added)
 
   -- where it is added, its numbers are left
   pub numbers_next : (name : Name) (low high : Option ℕ) (ns : List (ℕ × Option Id)) (x : Unit {0}) (new : Building) → name ≡ g.name → low ≡ g.unseen → ns ≡ g.numbers → high ≡ g.unseen_high
       → Builds (group_fault b.spool name) (with_group b.spool name empty) (Ok x) b new
       → NumbersLeft limit facts G b.spool name (unshown_of G left)
       (unseen_number low ++ (ns ++ (unseen_number high ++ []))) new next
-  numbers_next name low high ns x new is low_is numbers_are high_is h =
-      let built : new ≡ record { limit = b.limit; spool = bare; failed = false } = call_done
-      (group_fault b.spool g.name) bare x b new l.begun.is_whole group_added
-      (subst (λ q. Builds (group_fault b.spool q) (with_group b.spool q empty) (Ok x) b new) is h) in
-      let given : given_numbers g ≡ unseen_number low ++ (ns ++ (unseen_number high ++ [])) =
-      (λ i. unseen_number (sym low_is i) ++ (sym numbers_are i ++ unseen_number (sym high_is i))) ∙ ap (λ xs. unseen_number low ++ (ns ++ xs)) (sym (append-nil (unseen_number high))) in
-      subst (λ (t : Type 0). t) (λ i. NumbersLeft limit facts G b.spool (sym is i) (unshown_of G left) (given i) (sym built i) next) all_left
+  numbers_next name low high ns x new is low_is numbers_are high_is h = grind (arith, call_done, group_added, append-nil, all_left)
 
   -- and once they are made, one group less is left
   pub group_makes : (other : Name) (r : Result (Unit {0}) SpoolFault) (c : Building) (after : ℕ) → other ≡ g.name
       → Makes r (λ _. NumbersLeft limit facts G b.spool other (unshown_of G left) [] c after)
       → Makes r (λ _. GroupsLeft limit facts G left c after)
-  group_makes other (Ok x) c after is done = group_made c after (subst (λ q. NumbersLeft limit facts G b.spool q (unshown_of G left) [] c after) is done)
-  group_makes other (Err x) c after is refused = refused
+  group_makes other r c after is refused = grind (arith, group_made)

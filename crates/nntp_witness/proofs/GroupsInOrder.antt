@@ -1,12 +1,12 @@
 -- The groups that are shown are those of the given spool, in the same order, and the ids that none of them shows come in turn.
-use Rattle.std.proofs.Common.{◌≡◌, ℕ, ◌⊎◌, false, cond, ◌++◌, IsTrue, List, [], ◌∷◌, map, Option, None, Some, is_some, IsSome, inl, inr, refl, sym, ap, subst}
-use Rattle.std.{proofs.Common.{◌∙◌, arith}, specs.{Prelude.{unwrap_or}, List.{AllByRecursion, list_any, flat_map}, Ordering.{nat_cmp}, Cmp.{nat_cmp_total}}}
-use Rattle.std.specs.{Cmp.Lexicographic.{slice_cmp, same_text, nat_list_cmp_total}, FinMap.{get, entries, empty, get-empty, nat_cmp-IsAntisymmetric}}
+use Rattle.std.proofs.Common.{◌≡◌, ℕ, false, IsTrue, List, [], ◌∷◌, map, Option, None, Some, is_some, IsSome, inl, refl, sym, ap, subst, ◌∙◌, arith}
+use Rattle.std.specs.{Prelude.{unwrap_or}, List.{AllByRecursion, list_any, flat_map}, Ordering.{nat_cmp}, Cmp.{nat_cmp_total, Lexicographic.{slice_cmp}}}
+use Rattle.std.specs.{Cmp.Lexicographic.{same_text, nat_list_cmp_total}, FinMap.{get, entries, empty, get-empty, nat_cmp-IsAntisymmetric}}
 use Rattle.nntp_wire.specs.declared.limit.Limit.{Limit}
 use Rattle.nntp_article.specs.{Article.Parts.{Id}, Session.{Machine.{is_same}, Spool.{Spool, Name, Numbers, IsGroup, numbers}}}
 use Rattle.nntp_said.specs.Facts.{Fact}
-use Rattle.nntp_theory.{specs.Given.{id_shown, unshown_in, unshown_ids, AreInvented, IsGiven}, proofs.{Given.ConstructedSpool.{names_apart}, Maps.{in_get}}}
-use Rattle.nntp_theory.proofs.{Members.{In, all_from, any_in, found_in, in_map, from_map}, Together.FactsOfASpoolStand.{same_itself}}
+use Rattle.nntp_theory.{specs.Given.{id_shown, unshown_in, unshown_ids, IsGiven}, proofs.{Given.ConstructedSpool.{names_apart}, Maps.{in_get}, Members.{In}}}
+use Rattle.nntp_theory.proofs.{Members.{all_from, any_in, found_in, in_map, from_map}, Together.FactsOfASpoolStand.{same_itself}}
 use Rattle.nntp_facts.specs.Inner.Readers.{ShownGroup, HasShownNumbers, AreShownGroups}
 use Rattle.nntp_spool.specs.Content.{no_spool}
 use Rattle.nntp_witness.{specs.Inner.Making.{given_numbers, unshown_at, unshown_of, IsPart, GroupsLeft}, proofs.GroupNumbers.{keys_listed, given_keys}}
@@ -26,25 +26,19 @@ unshown_alike facts name N (e ∷ es) (f ∷ fs) ks there ids =
     let others : map (λ (f : ℕ × Option Id). f.0) fs ≡ map (λ (e : ℕ × Id). e.0) es = cc in
     let shown : is_some (id_shown facts name e.0) ≡ is_some f.1 = ap (λ n. is_some (id_shown facts name n)) (sym key) ∙ ap is_some (sym ids.0) in
     let own : e.1 ≡ unwrap_or (get N f.0) [] = ap (λ o. unwrap_or o []) (sym (there e.0 e.1 (inl refl))) ∙ ap (λ n. unwrap_or (get N n) []) (sym key) in
-    let rest = unshown_alike facts name N es fs others (λ n id i. there n id (inr i)) ids.1 in
-    λ i. cond (shown i) [] (own i ∷ []) ++ rest i
+    grind (arith, unshown_alike facts name N es fs)
 
 module _ (facts : List Fact) (G : Spool) (given : IsGiven facts G) where
   -- the ids of a shown group that aren't shown
   group_alike : (g : ShownGroup) → IsGroup G g.name → HasShownNumbers facts g → unshown_in facts g.name (entries (numbers G g.name)) ≡ unshown_at (numbers G g.name) (given_numbers g)
-  group_alike g i h =
-      unshown_alike facts g.name (numbers G g.name) (entries (numbers G g.name)) (given_numbers g)
-      (given_keys facts g h G given i) (in_get nat_cmp_total nat_cmp-IsAntisymmetric (numbers G g.name)) (given_ids facts g h)
+  group_alike g i h = search (unshown_alike, given_keys, in_get, nat_cmp_total, nat_cmp-IsAntisymmetric, given_ids)
 
   -- ---- all groups
 
   -- a group of the spool that has the name of a shown one
   entry_alike : (name : Name) (N : Numbers) (g : ShownGroup) → g.name ≡ name → get G.groups name ≡ Some N
       → HasShownNumbers facts g → unshown_in facts name (entries N) ≡ unshown_at (numbers G g.name) (given_numbers g)
-  entry_alike name N g same there h =
-      let have : numbers G g.name ≡ N = ap (λ name. unwrap_or (get G.groups name) empty) same ∙ ap (λ o. unwrap_or o empty) there in
-      let is_group : IsGroup G g.name = ap (λ name. is_some (get G.groups name)) same ∙ ap is_some there in
-      (λ i. unshown_in facts (sym same i) (entries (sym have i))) ∙ group_alike g is_group h
+  entry_alike name N g same there h = grind (arith, group_alike)
 
   -- groups of the same names in the same order
   groups_alike : (es : List (Name × Numbers)) (gs : List ShownGroup) → map (λ g. g.name) gs ≡ map (λ e. e.0) es
@@ -57,8 +51,7 @@ module _ (facts : List Fact) (G : Spool) (given : IsGiven facts G) where
       let key : g.name ≡ e.0 = cc in
       let others : map (λ (g : ShownGroup). g.name) gs ≡ map (λ (e : Name × Numbers). e.0) es = cc in
       let first = entry_alike e.0 e.1 g key (there e.0 e.1 (inl refl)) hs.0 in
-      let rest = groups_alike es gs others (λ name N i. there name N (inr i)) hs.1 in
-      λ i. first i ++ rest i
+      grind (arith, groups_alike es gs)
 
   module _ (groups : List ShownGroup) (shown : AreShownGroups facts groups) where
     -- a shown group is one of the list
@@ -79,17 +72,13 @@ module _ (facts : List Fact) (G : Spool) (given : IsGiven facts G) where
 
     -- the ids of the given spool that aren't shown are those of the shown groups
     pub unshown_in_order : unshown_ids facts G ≡ unshown_of G groups
-    unshown_in_order =
-        groups_alike (entries G.groups) groups
-        (keys_listed nat_list_cmp_total names_apart (map (λ g. g.name) groups) G.groups shown.ascending shown_is_group name_listed)
-        (in_get nat_list_cmp_total names_apart G.groups) shown.each
+    unshown_in_order = search (groups_alike, keys_listed, nat_list_cmp_total, names_apart, shown_is_group, name_listed, in_get)
 
 -- ---- the start
 
 -- where nothing is found nothing is there
 none_there : {X : Type 0} (o : Option X) → o ≡ None → IsSome o → ⊥
-none_there None e i = cc
-none_there (Some x) e i = cc
+none_there o e i = cc
 
 -- no group is there
 no_group : (name : Name) → get no_spool.groups name ≡ None
@@ -105,32 +94,9 @@ no_article id = get-empty (slice_cmp nat_cmp) id
 
 -- nothing is a part
 none_is_part : (facts : List Fact) (G : Spool) → IsPart facts G no_spool
-none_is_part facts G = record {
-  groups = λ name i. absurd (none_there (get no_spool.groups name) (no_group name) i);
-  articles = λ id t e. absurd (none_there (get no_spool.articles id) (no_article id) (ap is_some e));
-  unshown = λ name n id e none. absurd (none_there (get (numbers no_spool name) n) (no_number name n) (ap is_some e));
-  numbers = λ name n id e. absurd (none_there (get (numbers no_spool name) n) (no_number name n) (ap is_some e));
-}
+none_is_part facts G = grind (arith, none_there, no_group, no_article, no_number)
 
 -- at the start all groups are left
 pub all_left : (limit : Limit) (facts : List Fact) (G : Spool) (groups : List ShownGroup) → IsGiven facts G
     → AreShownGroups facts groups → GroupsLeft limit facts G groups (record { limit = limit; spool = no_spool; failed = false }) 0
-all_left limit facts G groups given shown = record {
-  begun = record {
-    limit_is = refl;
-    is_whole = refl;
-    part = none_is_part facts G;
-    invented_before = λ id i. absurd (none_there (get no_spool.articles id) (no_article id) i);
-    small = omega arith;
-  };
-  to_invent = subst (AreInvented facts 0) (unshown_in_order facts G given groups shown) given.ids_invented;
-  shown = shown.each;
-  ascending = shown.ascending;
-  of_spool = all_from (λ g. IsGroup G g.name) groups (λ g i. shown_is_group facts G given groups shown g.name (in_map (λ (g : ShownGroup). g.name) g groups i));
-  not_made = all_from (λ g. get no_spool.groups g.name ≡ None) groups (λ g i. no_group g.name);
-  others = λ name. by name (get G.groups name) refl;
-}
-  where
-    by : (name : Name) (o : Option Numbers) → get G.groups name ≡ o → IsTrue (list_any (λ (g : ShownGroup). is_same g.name name) groups) ⊎ (get no_spool.groups name ≡ get G.groups name)
-    by name None e = inr (no_group name ∙ sym e)
-    by name (Some N) e = inl (in_shown facts G given groups shown name (ap is_some e))
+all_left limit facts G groups given shown = grind (arith, none_is_part, none_there, no_article, unshown_in_order, all_from, shown_is_group, in_map, no_group, in_shown)

@@ -1,8 +1,7 @@
 -- A spool with one group more, or one number more, or with the article of one id more.
-use Rattle.std.proofs.Common.{◌≡◌, ◌≢◌, ◌⊎◌, ℕ, Bool, true, false, cond, List, None, Some, is_some, IsSome, inl, inr, refl, sym, ap, subst, ◌∙◌}
-use Rattle.std.specs.{Prelude.{unwrap_or}, declared.cmp.Ordering.{Ordering}, Ordering.{nat_cmp, eq_by_cmp}, Cmp.{IsTotalOrder, nat_cmp_total, Equal-is}}
-use Rattle.std.specs.{Cmp.Lexicographic.{slice_cmp, nat_list_cmp_total}, FinMap.{FinMap, get, insert, empty, get-insert, get-empty, IsAntisymmetric}}
-use Rattle.std.specs.FinMap.{nat_cmp-IsAntisymmetric}
+use Rattle.std.{proofs.Common.{arith, ◌≡◌, ◌≢◌, ◌⊎◌, ℕ, cond, List, None, Some, is_some, IsSome, inl, inr, sym, ap, subst, ◌∙◌}, specs.Prelude.{unwrap_or}}
+use Rattle.std.specs.{declared.cmp.Ordering.{Ordering}, Ordering.{nat_cmp}, Cmp.{IsTotalOrder, nat_cmp_total, Lexicographic.{slice_cmp, nat_list_cmp_total}}}
+use Rattle.std.specs.FinMap.{FinMap, get, insert, empty, get-insert, get-empty, IsAntisymmetric, nat_cmp-IsAntisymmetric}
 use Rattle.nntp_article.specs.{Article.Parts.{Id}, Session.Spool.{Spool, Name, Numbers, Text, IsGroup, numbers}}
 use Rattle.nntp_said.{proofs.FiniteMapsDecided.{dec_texts}, specs.Facts.{Fact}}
 use Rattle.nntp_theory.specs.Given.{id_shown}
@@ -18,19 +17,11 @@ module _ {K X : Type 0} {R : K → K → Ordering} (o : IsTotalOrder R) where
 
   -- and elsewhere what was there before
   pub got_other : IsAntisymmetric R → (m : FinMap R X) (k : K) (v : X) (q : K) → q ≢ k → get (insert m k v) q ≡ get m q
-  got_other same m k v q apart = get-insert o m k v q ∙ by (eq_by_cmp R q k) refl
-    where
-      by : (b : Bool) → eq_by_cmp R q k ≡ b → cond b (Some v) (get m q) ≡ get m q
-      by true is = absurd (apart (same q k ((Equal-is _).0 is)))
-      by false is = refl
+  got_other same m k v q apart = grind (arith, get-insert)
 
   -- what was there before is there
   pub got_still : IsAntisymmetric R → (m : FinMap R X) (k : K) (v : X) (q : K) → IsSome (get m q) → IsSome (get (insert m k v) q)
-  got_still same m k v q i = ap is_some (get-insert o m k v q) ∙ by (eq_by_cmp R q k)
-    where
-      by : (b : Bool) → is_some (cond b (Some v) (get m q)) ≡ true
-      by true = refl
-      by false = i
+  got_still same m k v q i = grind (arith, get-insert)
 
 -- ---- groups
 
@@ -79,25 +70,7 @@ number_more S name n id other m found e = by (dec_texts other name)
 
 -- a group of the spool, without numbers, makes more of a part of it
 pub part_with_group : (facts : List Fact) (G S : Spool) (name : Name) → IsPart facts G S → IsGroup G name → IsPart facts G (with_group S name empty)
-part_with_group facts G S name part there = record {
-  groups = λ other i. elim (group_more S name empty other i) [
-    | inl same ↦ subst (λ q. IsGroup G q) (sym same) there
-    | inr old ↦ part.groups other old
-  ];
-  articles = part.articles;
-  unshown = λ other m found e none. part.unshown other m found (old other m found e) none;
-  numbers = λ other m found e. part.numbers other m found (old other m found e);
-}
-  where
-    none_found : (found : Id) → None ≡ Some found → ⊥
-    none_found found e = cc
-
-    old : (other : Name) (m : ℕ) (found : Id) → get (numbers (with_group S name empty) other) m ≡ Some found → get (numbers S other) m ≡ Some found
-    old other m found e = by (dec_texts other name)
-      where
-        by : (other ≡ name) ⊎ (other ≡ name → ⊥) → get (numbers S other) m ≡ Some found
-        by (inl same) = absurd (none_found found (sym (ap (λ q. get (numbers (with_group S name empty) q) m) same ∙ ap (λ N. get N m) (numbers_here S name empty) ∙ get-empty nat_cmp m) ∙ e))
-        by (inr apart) = ap (λ N. get N m) (sym (numbers_other S name empty other apart)) ∙ e
+part_with_group facts G S name part there = grind (arith, group_more, dec_texts, numbers_here, get-empty, numbers_other)
 
 -- a number of the spool makes more of a part of it, if its id has an article there where none is shown
 pub part_with_number : (facts : List Fact) (G S : Spool) (articles : FinMap (slice_cmp nat_cmp) Text) (name : Name) (n : ℕ)
@@ -105,18 +78,4 @@ pub part_with_number : (facts : List Fact) (G S : Spool) (articles : FinMap (sli
     → ((q : Id) → IsSome (get S.articles q) → IsSome (get articles q)) → ((q : Id) (t : Text) → get articles q ≡ Some t → get G.articles q ≡ Some t)
     → (id_shown facts name n ≡ None → IsSome (get articles id))
     → IsPart facts G (record { groups = insert S.groups name (insert (numbers S name) n id); articles = articles })
-part_with_number facts G S articles name n id part here at still among has = record {
-  groups = λ other i. elim (group_more S name (insert (numbers S name) n id) other i) [
-    | inl same ↦ subst (λ q. IsGroup G q) (sym same) (part.groups name here)
-    | inr old ↦ part.groups other old
-  ];
-  articles = among;
-  unshown = λ other m found e none. elim (number_more S name n id other m found e) [
-    | inl new ↦ subst (λ q. IsSome (get articles q)) (sym new.2) (has ((λ i. id_shown facts (sym new.0 i) (sym new.1 i)) ∙ none))
-    | inr old ↦ still found (part.unshown other m found old none)
-  ];
-  numbers = λ other m found e. elim (number_more S name n id other m found e) [
-    | inl new ↦ (λ i. get (numbers G (new.0 i)) (new.1 i)) ∙ at ∙ ap Some (sym new.2)
-    | inr old ↦ part.numbers other m found old
-  ];
-}
+part_with_number facts G S articles name n id part here at still among has = search (arith, group_more, number_more)

@@ -1,7 +1,7 @@
 -- One number more of the group that is made.
 use Rattle.std.proofs.Common.{◌≡◌, ◌≢◌, ◌⊎◌, ℕ, ◌+◌, ◌-◌, ◌<◌, ◌≤◌, ◌^◌, false, ◌==◌, List, [], ◌∷◌, ◌++◌, map, Option, None, Some, is_some, IsSome, IsTrue}
 use Rattle.std.proofs.{Common.{Result, Ok, Err, inl, inr, refl, sym, ap, subst, ◌∙◌, arith}, lemmas.{Cmp.{tied_itself}, Bool.{or_cases, eqb-true}}}
-use Rattle.std.specs.{Prelude.{unwrap_or, IsFalse}, List.{AllByRecursion, list_any, Sorted.{IsStrictlySortedBy}}, declared.cmp.Ordering.TheVariants.{Less}}
+use Rattle.std.specs.{Prelude.{IsFalse}, List.{AllByRecursion, list_any, Sorted.{IsStrictlySortedBy}}, declared.cmp.Ordering.TheVariants.{Less}}
 use Rattle.std.specs.{Ordering.{nat_cmp}, Cmp.{nat_cmp_total, Lexicographic.{slice_cmp, nat_list_cmp_total}}, FinMap.{FinMap, get, insert}}
 use Rattle.std.specs.FinMap.{nat_cmp-IsAntisymmetric}
 use Rattle.nntp_wire.{specs.{Limit.{greatest}, Name.{IsMessageId}, declared.limit.Limit.{Limit}}, proofs.OptionLemmas.{none_of, some_is}}
@@ -20,10 +20,7 @@ use Rattle.nntp_witness.proofs.FaultsNone.{article_fits, plain_text}
 
 -- a number isn't below itself
 not_below : (n m : ℕ) → nat_cmp n m ≡ Less → m ≢ n
-not_below n m less same =
-    let tied : nat_cmp n n ≡ Less = ap (nat_cmp n) (sym same) ∙ less in
-    let itself = tied_itself nat_cmp_total n in
-    cc
+not_below n m less same = grind (arith, tied_itself, nat_cmp_total)
 
 -- the numbers behind one that is added aren't there yet
 still_absent : (N : Numbers) (n : ℕ) (id : Id) (left : List (ℕ × Option Id)) → AllByRecursion (λ m. nat_cmp n m ≡ Less) (map (λ e. e.0) left) → AllByRecursion (λ e. get N e.0 ≡ None) left
@@ -120,10 +117,7 @@ module _ (limit : Limit) (facts : List Fact) (G before : Spool) (given : IsGiven
 
     -- the number has it in the spool
     invented_there : get (numbers G name) n ≡ Some (invented j)
-    invented_there =
-        let at = some_is (get (numbers G name) n) l.of_group.0.0 in
-        let is : at.0 ≡ invented l.to_invent.0 = ap (λ o. unwrap_or o []) (sym at.1) ∙ l.to_invent.2 in
-        at.1 ∙ ap Some (is ∙ ap invented same_number)
+    invented_there = grind (arith, some_is, same_number)
 
     -- it is added without a fault
     invented_fits : number_fault (greatest b.limit) b.spool name n (invented j) ≡ None
@@ -135,9 +129,7 @@ module _ (limit : Limit) (facts : List Fact) (G before : Spool) (given : IsGiven
 
     -- that is its article in the spool
     plain_there : get G.articles (invented j) ≡ Some plain
-    plain_there =
-        let t = some_is (get G.articles (invented j)) (is_spool.ids_have_articles name n (invented j) invented_there) in
-        t.1 ∙ ap Some (plain_text facts G (invented j) t.0 given first.1 t.1)
+    plain_there = grind (arith, some_is, invented_there, plain_text)
 
     -- and isn't there yet, since the ids before have lesser numbers
     plain_absent : get b.spool.articles (invented j) ≡ None
@@ -178,9 +170,7 @@ module _ (limit : Limit) (facts : List Fact) (G before : Spool) (given : IsGiven
         one_less limit facts G before name behind n None left b next (j + 1) (invented j) more l (record {
           limit_is = l.begun.limit_is;
           is_whole = refl;
-          part = part_with_number facts G b.spool more name n (invented j) l.begun.part l.is_group invented_there
-              (λ q i. got_still nat_list_cmp_total octet_keys b.spool.articles (invented j) plain q i) more_there
-              (λ _. ap is_some (got_here nat_list_cmp_total b.spool.articles (invented j) plain));
+          part = search (part_with_number, invented_there, got_still, nat_list_cmp_total, octet_keys, more_there, got_here);
           invented_before = more_before;
           small = omega arith;
         }) (subst (λ k. AreInvented facts (k + 1) (unshown_at (numbers G name) left ++ behind)) same_number l.to_invent.3)
@@ -196,23 +186,9 @@ module _ (limit : Limit) (facts : List Fact) (G before : Spool) (given : IsGiven
 
       -- a refusal of the number is want of memory
       pub invented_refused : (x : SpoolFault) (new : Building) → Numbered id (Err x) new → x ≡ Memory
-      invented_refused x new h =
-          call_refused (number_fault (greatest b.limit) b.spool name n (invented j)) (with_group b.spool name (insert (numbers b.spool name) n (invented j))) x b new
-          l.begun.is_whole invented_fits (subst (λ id. Numbered id (Err x) new) is h)
+      invented_refused x new h = grind (arith, call_refused, invented_fits)
 
       -- the two calls make the number and the article
       pub invented_makes : (t : Text) → t ≡ record { head = plain_head id; body = [] } → (x : Unit {0}) (r : Result (Unit {0}) SpoolFault) (mid new : Building)
           → Numbered id (Ok x) mid → Builds (article_fault mid.spool id t) (with_article mid.spool id t) r mid new → Makes r (λ _. NumbersLeft limit facts G before name behind left new (j + 1))
-      invented_makes t text x r mid new h g =
-          let S : Spool = with_group b.spool name (insert (numbers b.spool name) n (invented j)) in
-          let middle : mid ≡ record { limit = b.limit; spool = S; failed = false } = call_done
-          (number_fault (greatest b.limit) b.spool name n (invented j)) S x b mid l.begun.is_whole
-          invented_fits (subst (λ id. Numbered id (Ok x) mid) is h) in
-          let plain_is : t ≡ plain = text ∙ (λ i. record { head = plain_head (is i); body = [] }) in
-          called (λ c. NumbersLeft limit facts G before name behind left c (j + 1))
-          (article_fault S (invented j) plain) (with_article S (invented j) plain) r
-          (record { limit = b.limit; spool = S; failed = false }) new
-          refl plain_fits invented_made
-          (subst (λ m. Builds (article_fault m.spool (invented j) plain) (with_article m.spool (invented j) plain) r m new) middle
-          (subst (λ u. Builds (article_fault mid.spool (invented j) u) (with_article mid.spool (invented j) u) r mid new) plain_is
-          (subst (λ q. Builds (article_fault mid.spool q t) (with_article mid.spool q t) r mid new) is g)))
+      invented_makes t text x r mid new h g = search (arith, call_done, invented_fits, called, plain_fits, invented_made)

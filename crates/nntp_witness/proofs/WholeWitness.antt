@@ -1,23 +1,20 @@
 -- Where nothing is left, the spool that is made is the given one.
-use Rattle.std.proofs.Common.{◌≡◌, ℕ, Bool, true, false, cond, not, ◌&&◌, ◌==◌, List, [], Option, None, Some, is_some, IsSome, IsTrue, Result, Ok, Err, inl}
-use Rattle.std.{proofs.{Common.{inr, refl, sym, ap, ◌∙◌}, lemmas.Bool.{true≢false, false≢true}}, specs.{Prelude.{unwrap_or}, List.{list_any}}}
-use Rattle.std.specs.{Cmp.Lexicographic.{nat_list_cmp_total}, FinMap.{get, empty, same_map}}
-use Rattle.nntp_wire.specs.{Limit.{greatest}, declared.limit.Limit.{Limit}}
-use Rattle.nntp_article.specs.{Article.Parts.{Id}, Session.{Machine.{is_same}, Spool.{Spool, Name, Text, numbers}}}
-use Rattle.nntp_said.specs.Facts.{Fact, IdAt, TextIs}
+use Rattle.std.proofs.Common.{arith, ◌≡◌, ℕ, true, false, List, [], Option, None, Some, is_some, IsSome, IsTrue, Ok, inl, inr, refl, sym, ap, ◌∙◌}
+use Rattle.std.{proofs.lemmas.Bool.{true≢false, false≢true}, specs.{Prelude.{unwrap_or}, List.{list_any}, Cmp.Lexicographic.{nat_list_cmp_total}, FinMap.{get}}}
+use Rattle.std.specs.FinMap.{empty, same_map}
+use Rattle.nntp_wire.specs.declared.limit.Limit.{Limit}
+use Rattle.nntp_article.specs.{Article.Parts.{Id}, Session.Spool.{Spool, Name, numbers}}
+use Rattle.nntp_said.specs.Facts.{Fact}
 use Rattle.nntp_theory.{specs.{Given.{IsGiven, id_in, id_shown, is_sent, gives_article}, Together.{shows_article}}, proofs.Given.ConstructedSpool.{names_apart}}
 use Rattle.nntp_theory.proofs.{Members.{any_in, found_in, first_found}, Together.FactsOfASpoolStand.{same_itself}}
-use Rattle.nntp_spool.specs.{Inner.Building.{Building, finished}, Content.{ids_have_articles}, Limited.{LimitedSpool}}
-use Rattle.nntp_spool.{specs.declared.value.spool_fault.SpoolFault.{SpoolFault}, proofs.{ShownMaps.{spool_is}, WholeSpools.{spool_knows}}}
+use Rattle.nntp_spool.{specs.{Inner.Building.{Building, finished}, Content.{ids_have_articles}}, proofs.{ShownMaps.{spool_is}, WholeSpools.{spool_knows}}}
 use Rattle.nntp_witness.specs.Inner.{Witness.{IsGivenSpool}, Making.{ArticlesLeft}}
-use Rattle.nntp_spool.specs.declared.value.spool_fault.SpoolFault.TheVariants as faults
 
 -- ---- what facts show
 
 -- an id that a success names is shown to have an article
 sent_shows : (id : Id) (fact : Fact) → gives_article id fact ≡ true → shows_article id fact ≡ true
-sent_shows id (TextIs what other lines) t = t
-sent_shows id fact t = cc
+sent_shows id fact t = grind arith
 
 -- where one of the facts is such a success
 sent_is_shown : (id : Id) (facts : List Fact) → IsTrue (is_sent facts id) → IsTrue (list_any (shows_article id) facts)
@@ -25,12 +22,7 @@ sent_is_shown id facts t = let f = found_in (gives_article id) facts t in any_in
 
 -- and so is one that a fact shows for a number
 id_shows : (name : Name) (n : ℕ) (id : Id) (fact : Fact) → id_in name n fact ≡ Some id → shows_article id fact ≡ true
-id_shows name n id (IdAt group m other) e = by (is_same group name && m == n) e
-  where
-    by : (b : Bool) → cond b (Some other) None ≡ Some id → is_same other id ≡ true
-    by true e = let same : other ≡ id = cc in ap (is_same other) (sym same) ∙ same_itself other
-    by false e = cc
-id_shows name n id fact e = cc
+id_shows name n id fact e = grind (arith, same_itself)
 
 -- where one of the facts does
 id_is_shown : (facts : List Fact) (name : Name) (n : ℕ) (id : Id) → id_shown facts name n ≡ Some id → IsTrue (list_any (shows_article id) facts)
@@ -62,12 +54,7 @@ module _ (limit : Limit) (facts : List Fact) (G : Spool) (b : Building) (given :
 
   -- and what is made of an id is the given article
   same_article : (id : Id) → get b.spool.articles id ≡ get G.articles id
-  same_article id = by (get b.spool.articles id) refl (get G.articles id) refl
-    where
-      by : (o : Option Text) → get b.spool.articles id ≡ o → (p : Option Text) → get G.articles id ≡ p → get b.spool.articles id ≡ get G.articles id
-      by (Some t) e p f = e ∙ sym (left.part.articles id t e)
-      by None e None f = e ∙ sym f
-      by None e (Some u) f = absurd (true≢false (sym (all_made id (ap is_some f)) ∙ ap is_some e))
+  same_article id = grind (arith, true≢false, all_made)
 
   -- the spool that is made is the given one
   made_is_given : b.spool ≡ G
@@ -77,14 +64,10 @@ module _ (limit : Limit) (facts : List Fact) (G : Spool) (b : Building) (given :
 
 -- a builder that hasn't failed hands out its spool, where each id has an article
 finished_is : (limit : Limit) (b : Building) (G : Spool) → b.limit ≡ limit → b.failed ≡ false → b.spool ≡ G → ids_have_articles G ≡ true → finished b ≡ Ok (record { limit = limit; spool = G })
-finished_is limit b G is whole same knows = (λ i. handed (is i) (whole i) (same i)) ∙ ap (λ k. cond (not k) (Err faults.UnknownId) (Ok (record { limit = limit; spool = G }))) knows
-  where
-    handed : Limit → Bool → Spool → Result LimitedSpool SpoolFault
-    handed limit failed S = cond failed (Err faults.Failed) (cond (not (ids_have_articles S)) (Err faults.UnknownId) (Ok (record { limit = limit; spool = S })))
+finished_is limit b G is whole same knows = cc
 
 -- where no article is left the builder hands out the given spool
 pub finished_is_given : (limit : Limit) (said : List Fact) (G : Spool) (b : Building)
     → IsGivenSpool limit said G → ArticlesLeft limit said G [] b
     → finished b ≡ Ok (record { limit = limit; spool = G })
-finished_is_given limit said G b witness left =
-    finished_is limit b G left.limit_is left.is_whole (made_is_given limit said G b witness.given left) (spool_knows (greatest limit) G witness.is_spool)
+finished_is_given limit said G b witness left = search (finished_is, made_is_given, spool_knows)

@@ -1,4 +1,4 @@
-use Rattle.std.{proofs.{Common.{◌≡◌, ◌≤◌, ◌∙◌, ap, sym, true, arith, refl, []}, lemmas.Bool.{true≢false}}, specs.Char.{is_ascii_digit}}
+use Rattle.std.{proofs.{Common.{◌≡◌, ◌≤◌, ◌∙◌, ap, sym, true, arith}, lemmas.Bool.{true≢false}}, specs.Char.{is_ascii_digit}}
 use Rattle.nntp_check.proofs.ReadingLemmas.{digit-more, line-ends, no-digit}
 use Rattle.nntp_check.proofs.capture_reader.behind_digits.Goals.{then-not-is_ascii_digit-via-then-not-is_ascii_digit}
 use Rattle.nntp_check.proofs.capture_reader.behind_digits.Goals.{then-not-is_ascii_digit-via-else-not-is_ascii_digit+then-many-ge-MOST_DIGITS}
@@ -20,12 +20,4 @@ returns-then-not-is_ascii_digit c line h =
     no-digit line c.args.source c.args.many c.args.value c.args.octet h.0 (λ is. absurd (c.if-octet-eq10.false is)) full
 
 pub returns : goal.returns
-returns c line h = (
-  [],
-  (
-    digit-more line c.args.source c.args.many c.args.value c.args.octet c.from.result h.0 c.if-many-ge-MOST_DIGITS.false
-        (sym c.is_ascii_digit.ensures.value ∙ c.if-not-is_ascii_digit.false) c.from.ensures,
-    refl,
-  ),
-  refl,
-)
+returns c line h = grind (arith, digit-more)

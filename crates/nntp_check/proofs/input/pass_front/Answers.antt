@@ -3,9 +3,7 @@ use Rattle.nntp_check.proofs.PassLemmas.{passed-on, has-room}
 use Rattle.nntp_check.proofs.input.pass_front.Goals as goal
 
 pub take-requires : goal.take-requires
-take-requires g c =
-    let room = c.requires.room.1 in
-    record { some = c.requires.some; room = (room.0, room.1.0, room.1.1, room.2) }
+take-requires g c = search
 
 pub pass-requires : goal.pass-requires
 pass-requires g c =

@@ -1,5 +1,4 @@
-use Rattle.std.proofs.Common.{◌≡◌, ◌∙◌, ◌+◌, ◌<◌, ◌++◌, ap, sym, append_assoc, add-one, drop-cons, ℕ, List, ◌∷◌, length, get_or, drop, map}
-use Rattle.std.specs.List.{flat_map}
+use Rattle.std.{proofs.Common.{arith, ◌≡◌, ◌+◌, ◌<◌, ◌++◌, append_assoc, add-one, drop-cons, ℕ, List, length, get_or, drop, map}, specs.List.{flat_map}}
 use Rattle.nntp_article.specs.{Article.Control.{ControlValue}, Inner.View.{control_value}}
 use Rattle.nntp_check.specs.Show.{control_line}
 use Rattle.nntp_check.proofs.show.put_controls.Goals as goal
@@ -7,11 +6,7 @@ use Rattle.nntp_check.proofs.show.put_controls.Goals as goal
 -- one more of them is shown
 one-more : {X : Type 0} (value : X → ControlValue) (xs : List X) (k : ℕ) (x : X) (text new all : List ℕ) → k < length xs → x ≡ get_or xs k x
     → text ++ flat_map control_line (map value (drop k xs)) ≡ all → new ≡ text ++ control_line (value x) → new ++ flat_map control_line (map value (drop (k + 1) xs)) ≡ all
-one-more value xs k x text new all within is known put =
-    let rest = flat_map control_line (map value (drop (k + 1) xs)) in
-    let next : drop k xs ≡ get_or xs k x ∷ drop (k + 1) xs = rw add-one (drop-cons xs k x within) in
-    ap (λ t. t ++ rest) put ∙ append_assoc text (control_line (value x)) rest ∙ ap (λ y. text ++ (control_line (value y) ++ rest)) is
-    ∙ ap (λ ys. text ++ flat_map control_line (map value ys)) (sym next) ∙ known
+one-more value xs k x text new all within is known put = grind (arith, add-one, drop-cons, append_assoc)
 
 pub loop-control-preserved : goal.loop-control-preserved
 loop-control-preserved g c =

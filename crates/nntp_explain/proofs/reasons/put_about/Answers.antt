@@ -1,4 +1,4 @@
-use Rattle.std.{proofs.Common.{◌++◌, ◌∙◌, ap, sym}, specs.Prelude.{codes}}
+use Rattle.std.{proofs.Common.{arith, ◌++◌, ◌∙◌, ap, sym}, specs.Prelude.{codes}}
 use Rattle.nntp_facts.specs.Inner.PointView.{point_of}
 use Rattle.nntp_explain.{specs.Reasons.{about_line, octets_line}, proofs.SaysLemmas.{on_ok, line_told}}
 use Rattle.nntp_explain.proofs.reasons.put_about.Goals as goal
@@ -15,8 +15,7 @@ returns-in-Number g c =
     on_ok c.put_named_number.result (λ put. put ∙ ap (λ p. c.args.text.now.items ++ about_line (point_of p)) (sym c.in-Number.is)) c.put_named_number.ensures
 
 pub returns-in-IdOf : goal.returns-in-IdOf
-returns-in-IdOf g c =
-    on_ok c.put_named_number-in-IdOf.result (λ put. put ∙ ap (λ p. c.args.text.now.items ++ about_line (point_of p)) (sym c.in-IdOf.is)) c.put_named_number-in-IdOf.ensures
+returns-in-IdOf g c = grind (arith, on_ok)
 
 pub returns-in-PlaceOf : goal.returns-in-PlaceOf
 returns-in-PlaceOf g c =

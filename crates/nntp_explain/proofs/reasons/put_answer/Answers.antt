@@ -1,12 +1,10 @@
-use Rattle.std.{proofs.Common.{◌≡◌, ◌≢◌, ◌∙◌, ◌++◌, ◌==◌, if◌then◌else◌, ap, sym, append_assoc, arith, false, ℕ, List, []}, specs.Prelude.{codes, decimal}}
+use Rattle.std.{proofs.Common.{◌≡◌, ◌≢◌, ◌∙◌, ◌++◌, ap, append_assoc, arith, false, ℕ, List}, specs.Prelude.{codes, decimal}}
 use Rattle.nntp_explain.{specs.Reasons.{session_text}, proofs.SaysLemmas.{on_ok}}
 use Rattle.nntp_explain.proofs.reasons.put_answer.Goals as goal
 
 -- the session is another one
 another : (here session : ℕ) → session ≢ here → codes " of session " ++ decimal session ≡ session_text here session
-another here session other =
-    let not-here : (session == here) ≡ false = grind (arith, other) in
-    ap (λ b. if b then [] else codes " of session " ++ decimal session) (sym not-here)
+another here session other = grind arith
 
 joined : (text label index word number one two : List ℕ) → one ≡ text ++ label ++ index → two ≡ one ++ word ++ number → two ≡ text ++ label ++ (index ++ (word ++ number))
 joined text label index word number one two e1 e2 = rw (e2, e1) (simp append_assoc)

@@ -1,5 +1,5 @@
-use Rattle.std.proofs.Common.{◌≡◌, ◌<◌, ◌≤◌, ◌∙◌, ◌++◌, ap, sym, append-nil, rules, [], length, Option, None, Some, slice_get}
-use Rattle.std.{proofs.lemmas.Option.{slice_get-get_or, slice_get_past}, specs.Option.{option_map_or}}
+use Rattle.std.proofs.{Common.{[], arith, ◌≡◌, ◌<◌, ◌∙◌, ◌++◌, ap, sym, append-nil, rules, length, Option, Some, slice_get}, lemmas.Option.{slice_get-get_or}}
+use Rattle.std.{proofs.lemmas.Option.{slice_get_past}, specs.Option.{option_map_or}}
 use Rattle.nntp_facts.specs.declared.placed.Placed.{Placed as Cited}
 use Rattle.nntp_explain.{specs.Reasons.{because_lines}, proofs.SaysLemmas.{on_ok}}
 use Rattle.nntp_explain.proofs.reasons.put_because_at.Goals as goal
@@ -14,9 +14,4 @@ returns-in-Some g c =
     c.put_because.ensures
 
 pub returns-in-None : goal.returns-in-None
-returns-in-None g c =
-    let answers = c.args.answers.now in
-    let past : length answers ≤ c.args.place = search rules in
-    let none : slice_get answers c.args.place ≡ None = slice_get_past answers c.args.place past in
-    sym (append-nil c.args.text.now.items)
-    ∙ ap (λ (o : Option Cited). c.args.text.now.items ++ option_map_or (because_lines c.args.here) o []) (sym none)
+returns-in-None g c = grind (arith, slice_get_past, append-nil)

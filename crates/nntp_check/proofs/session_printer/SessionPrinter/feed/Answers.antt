@@ -9,9 +9,7 @@ returns-in-Client-clause-ok g c = rw c.in-Client.is
     (λ taken held shows. record { ended = shows.ended; name_is = shows.name_is; last = shown-more _ _ Client c.args.octets.now _ held.last.session taken shows.last }))
 
 pub returns-in-Client-clause-err : goal.returns-in-Client-clause-err
-returns-in-Client-clause-err g c =
-    let room = c.requires in
-    if-err _ _ _ c.feed_client.result c.feed_client.ensures (λ error is. untaken-memory error Client c.args.octets.now _ _ _ room.0.last.session room.1.last room.2 is)
+returns-in-Client-clause-err g c = search (if-err, untaken-memory)
 
 pub returns-in-Server-clause-ok : goal.returns-in-Server-clause-ok
 returns-in-Server-clause-ok g c = rw c.in-Server.is
@@ -19,6 +17,4 @@ returns-in-Server-clause-ok g c = rw c.in-Server.is
     (λ taken held shows. record { ended = shows.ended; name_is = shows.name_is; last = shown-more _ _ Server c.args.octets.now _ held.last.session taken shows.last }))
 
 pub returns-in-Server-clause-err : goal.returns-in-Server-clause-err
-returns-in-Server-clause-err g c =
-    let room = c.requires in
-    if-err _ _ _ c.feed_server.result c.feed_server.ensures (λ error is. untaken-memory error Server c.args.octets.now _ _ _ room.0.last.session room.1.last room.2 is)
+returns-in-Server-clause-err g c = search (if-err, untaken-memory)

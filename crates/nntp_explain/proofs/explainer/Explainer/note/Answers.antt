@@ -12,9 +12,7 @@ pub refuse_unfitting-requires-clause-few : goal.refuse_unfitting-requires-clause
 refuse_unfitting-requires-clause-few g c = c.requires.told.5.few
 
 pub refuse_unfitting-requires-clause-others : goal.refuse_unfitting-requires-clause-others
-refuse_unfitting-requires-clause-others g c =
-    let t = c.requires.told in
-    others_accepted (profile_kept c.args.self.now.facts) t.0 t.1 t.2 (kept_of c.args.self.now) c.args.self.now.text.items t.3 t.5
+refuse_unfitting-requires-clause-others g c = search others_accepted
 
 pub refuse_contradiction-requires-clause-few : goal.refuse_contradiction-requires-clause-few
 refuse_contradiction-requires-clause-few g c = c.requires.told.5.few

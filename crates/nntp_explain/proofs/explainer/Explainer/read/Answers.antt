@@ -1,16 +1,13 @@
-use Rattle.std.{proofs.Common.{◌∙◌, sym, ap, subst}, specs.{Prelude.{count_by, is_some, drop}, Option.{option_copied}}}
+use Rattle.std.{proofs.Common.{arith, ◌∙◌, sym, ap, subst}, specs.{Prelude.{count_by, drop}, Option.{option_copied}}}
 use Rattle.nntp_article.specs.declared.session.profile.Profile.{Profile}
 use Rattle.nntp_wire.specs.Inner.View.{asked}
-use Rattle.nntp_pair.specs.Pairing.{Unpaired, line_ahead, streams, has_line}
-use Rattle.nntp_several.specs.Sessions.{Recorded}
+use Rattle.nntp_pair.specs.Pairing.{Unpaired, line_ahead, has_line}
 use Rattle.nntp_explain.{specs.Inner.ExplainingView.{kept_of, AreTold, HasTold}, proofs.ExplainLemmas.{others_accepted, told_unspelled}}
 use Rattle.nntp_explain.proofs.EndLemmas.{read_at_end, read_at_octets}
 use Rattle.nntp_explain.proofs.explainer.Explainer.read.Goals as goal
 
 pub loop-exchange-init : goal.loop-exchange-init
-loop-exchange-init g c = λ profile b h.
-    subst (HasTold profile b c.args.session.now.client c.args.session.now.server c.args.self.now)
-    (sym (c.new-pairs.ensures ∙ ap (λ (s : Recorded). streams s.client s.server) c.session.view_is)) h
+loop-exchange-init g c = grind arith
 
 pub note-requires : goal.note-requires
 note-requires g c =

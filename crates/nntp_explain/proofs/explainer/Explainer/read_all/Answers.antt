@@ -1,13 +1,10 @@
-use Rattle.std.proofs.Common.{◌<◌, ◌^◌, [], length, arith, rules}
+use Rattle.std.proofs.Common.{[], ◌<◌, ◌^◌, length, arith, rules}
 use Rattle.nntp_facts.specs.Inner.Noted.{profile_kept}
 use Rattle.nntp_explain.{specs.Inner.ExplainingView.{kept_of, accepted_behind}, proofs.EndLemmas.{none_read, number_small, next_read, last_read}}
 use Rattle.nntp_explain.proofs.explainer.Explainer.read_all.Goals as goal
 
 pub loop-named-init : goal.loop-named-init
-loop-named-init g c = record {
-  read = none_read (profile_kept c.args.self.now.facts) (kept_of c.args.self.now) c.args.self.now.text.items c.requires.0 c.requires.1 c.requires.2;
-  few = omega arith;
-}
+loop-named-init g c = grind (arith, none_read)
 
 pub read_named-requires : goal.read_named-requires
 read_named-requires g c =
@@ -33,6 +30,4 @@ loop-named-preserved g c =
     }
 
 pub returns : goal.returns
-returns g c =
-    last_read (profile_kept c.args.self.now.facts) c.args.sessions.now c.loop-named.named-index (kept_of c.loop-named.self) c.loop-named.self.text.items c.loop-named.unanswered
-    c.loop-named.invariant.read c.loop-named-test.false
+returns g c = search last_read

@@ -1,4 +1,4 @@
-use Rattle.std.proofs.Common.{rules, ◌≡◌, ◌∙◌, ◌++◌, sym, ap, subst, refl, inl, append-nil, Bool, true, false, ℕ, length, List, [], Option}
+use Rattle.std.proofs.Common.{[], arith, rules, ◌≡◌, ◌∙◌, ◌++◌, sym, ap, subst, refl, inl, append-nil, Bool, true, false, ℕ, length, List, Option}
 use Rattle.nntp_said.specs.Facts.{Fact}
 use Rattle.nntp_theory.specs.Conflict.{Placed}
 use Rattle.nntp_facts.specs.{Inner.Noted.{profile_kept}, Standing.{stands_of}}
@@ -17,25 +17,17 @@ bad g c = stands_of (record { session = c.put_bad.new.self.session; standing = c
 -- what is kept is as before the answer was told, and so is where the answer stands
 before : (g : given.Over) (c : After-copy g)
     → ◌≡◌ {A = Kept × Placed} (kept_of c.put_bad.new.self, bad g c) (refuses (kept_of c.args.self.now), placed_here (kept_of c.args.self.now) c.args.exchange)
-before g c =
-    let kept = c.in_ok-put_bad.ensures.kept in
-    let standing = c.copy.ensures ∙ ap (λ (k : Kept). k.stands) kept in
-    λ i. (kept i, stands_of (record { session = c.put_bad.new.self.session; standing = standing i; exchange = c.args.exchange }))
+before g c = grind arith
 
 -- so are the contradictions
 same_told : (old new : Kept) → new ≡ refuses old → new.contradictions ≡ old.contradictions
 same_told old new kept = ap (λ (k : Kept). k.contradictions) kept
 
 pub returns-then-not-branch-clause-kept : goal.returns-then-not-branch-clause-kept
-returns-then-not-branch-clause-kept g c =
-    let kept = c.in_ok-put_bad.ensures.kept in
-    let old = kept_of c.args.self.now in
-    kept ∙ ap (λ told. record (refuses old) { contradictions = told }) (sym (same_told old (kept_of c.put_bad.new.self) kept))
+returns-then-not-branch-clause-kept g c = grind (arith, same_told)
 
 pub returns-then-not-branch-clause-reasons : goal.returns-then-not-branch-clause-reasons
-returns-then-not-branch-clause-reasons g c =
-    let old = kept_of c.args.self.now in
-    subst (AreReasons (profile_kept c.args.self.now.facts) old) (sym (same_told old (kept_of c.put_bad.new.self) c.in_ok-put_bad.ensures.kept)) c.requires.reasons
+returns-then-not-branch-clause-reasons g c = grind (arith, same_told)
 
 pub returns-then-not-branch-clause-text : goal.returns-then-not-branch-clause-text
 returns-then-not-branch-clause-text g c facts refused =

@@ -1,4 +1,4 @@
-use Rattle.std.{proofs.Common.{◌≡◌, ◌∙◌, ◌++◌, sym, subst, ap, true, false, refl, ℕ, List, [], append-nil, drop, length, arith}, specs.Option.{option_copied}}
+use Rattle.std.{proofs.Common.{[], ◌∙◌, ◌++◌, sym, subst, ap, true, false, refl, ℕ, List, append-nil, drop, arith}, specs.Option.{option_copied}}
 use Rattle.nntp_pair.specs.{declared.class.Class.{Class}, Classes.{class_of}}
 use Rattle.nntp_explain.specs.{Explaining.{front_lines, place_lines, IsEndReason}, Inner.ExplainingView.{Kept, kept_of, title_of}}
 use Rattle.nntp_explain.proofs.AnswerLemmas.{told_reason}
@@ -7,12 +7,7 @@ use Rattle.nntp_explain.proofs.explainer.Explainer.refuse_octets.Goals as goal
 
 -- those of earlier sessions are among all
 pub split_at-requires : goal.split_at-requires
-split_at-requires g c =
-    let kept = c.in_ok-put_bad.ensures.kept in
-    let same : c.put_bad.new.self.others ≡ c.args.self.now.others = ap (λ (k : Kept). k.others) kept in
-    let count = ap (λ (k : Kept). length k.accepted) kept in
-    let seen = ap length c.deref.ensures.value in
-    omega (arith, same, count, seen, c.requires.others)
+split_at-requires g c = grind arith
 
 pub returns-in_ok-put_end_reason-clause-text : goal.returns-in_ok-put_end_reason-clause-text
 returns-in_ok-put_end_reason-clause-text g c =
