@@ -3,7 +3,8 @@ use Rattle.std.{proofs.Common.{◌≡◌, ℕ, ◌+◌, ◌-◌, ◌^◌, ◌<�
 use Rattle.nntp_wire.specs.declared.{marks.Marks.{Marks}, water_marks.WaterMarks.{WaterMarks}}
 use Rattle.nntp_said.specs.{declared.position.Position.{Position, TheVariants.{Nowhere, First, Known}}, Asks.{Ask, Estimates, Has, Lacks, StandsAt}}
 use Rattle.nntp_said.specs.Asks.{StandsNowhere, StepsUp, StepsDown, IsTop, IsBottom}
-use Rattle.nntp_numbers.specs.Inner.{Part.{Said, Says}, PartOf.{IsSmall, impossible, listing, nothing_said, part_with}, Summary.{AreBounded}}
+use Rattle.nntp_numbers.specs.Inner.{Part.{Said, Says}, PartOf.{IsSmall, impossible, listing, nothing_said, part_with}, PartView.{said}, Summary.{AreBounded}}
+use Rattle.nntp_numbers.specs.declared.numbers_part.NumbersPart.{NumbersPart}
 
 -- the part that an ask makes, whose answer shows these numbers
 abbrev of_ask : List ℕ → Ask → Said
@@ -12,6 +13,10 @@ of_ask shown ask = part_with shown ask nothing_said
 -- the number is there
 abbrev has : ℕ → Said
 has n = listing n n (n ∷ []) nothing_said
+
+-- the high end and the last number of what a part says are below 2^64
+pub said_small : (p : NumbersPart) → IsSmall (said p)
+said_small p = record { high = p.ends_fit.0; last = p.ends_fit.1 }
 
 pub says_marks : (shown : List ℕ) (how : Marks) (m : WaterMarks) → m.high < 2 ^ 64 → Says (of_ask shown (Estimates how m)) (Estimates how m ∷ [])
 says_marks shown how m small = search rules

@@ -1,5 +1,5 @@
 //! What an answer says of the numbers of one group (RFC 3977, section 6.1).
-ghost use Rattle.std.specs.Prelude.{◌≡◌, ◌<◌, [], ◌∷◌, ◌↔◌, IsTrue};
+ghost use Rattle.std.specs.Prelude.{◌≡◌, ◌^◌, ◌<◌, [], ◌∷◌, ◌↔◌, IsTrue};
 ghost use Rattle.nntp_wire.specs.Limit.{greatest};
 ghost use Rattle.nntp_wire.specs.declared.marks.Marks.TheVariants.{Lenient};
 ghost use Rattle.nntp_article.specs.declared.session.profile.Profile.{Profile};
@@ -9,7 +9,6 @@ ghost use Rattle.nntp_said.specs.Inner.FactView.{ask_of};
 ghost use Rattle.nntp_numbers.specs.Inner.Part.{Says, only_has};
 ghost use Rattle.nntp_numbers.specs.Inner.PartOf.{IsSmall, listing, none_above, none_below, nothing_said, part_with, standing_at, standing_nowhere};
 ghost use Rattle.nntp_numbers.specs.Inner.PartOf.{stepping_down, stepping_up};
-ghost use Rattle.nntp_numbers.specs.Inner.PartView.{said};
 ghost use Rattle.nntp_numbers.specs.Inner.Summary.{AreBounded};
 
 use crate::ends::Ends;
@@ -38,9 +37,13 @@ pub struct NumbersPart<'s> {
     pub(crate) ends: Option<Ends>,
     /// What is said of the first number, where it isn't shown.
     pub(crate) demand: Demand,
+    /// The types say so too, but the check goes by them only where a number is read.
+    ghost ends_fit: { (high < 2 ^ 64) × (last < 2 ^ 64) },
 }
 
 impl<'s> NumbersPart<'s> {
+    ghost use Rattle.nntp_numbers.specs.Inner.PartView.{said};
+
     /// Says nothing of the numbers.
     pub fn nothing() -> NumbersPart<'s>
         ensures value { said result ≡ nothing_said }
@@ -108,17 +111,16 @@ impl<'s> NumbersPart<'s> {
     pub fn of_bounds(low: u64, high: u64) -> NumbersPart<'s>
         ensures { Says (said result) (Bounds low high ∷ []) }
     {
-        NumbersPart {
-            low,
-            high,
-            ..NumbersPart::nothing()
-        }
+        let mut part = NumbersPart::nothing();
+        part.low = low;
+        part.high = high;
+        part
     }
 
     /// Says this too; `shown` are the numbers that its answer shows.
     pub fn say(&mut self, ask: Ask<'_>, shown: &'s [u64])
         ensures says { said self.new ≡ part_with shown.now (ask_of ask.entry) (said self.old) }
-        ensures small { IsSmall (said self.old) → IsSmall (said self.new) }
+        ensures small { IsSmall (said self.new) }
     {
         match ask {
             Ask::Estimates { how, marks } => self.say_marks(how, marks),
@@ -150,8 +152,7 @@ impl<'s> NumbersPart<'s> {
 
     /// Says too that there are at most so many numbers, between the marks, which are read so.
     fn say_marks(&mut self, how: Marks, marks: WaterMarks)
-        ensures says { said self.new ≡ part_with [] (Estimates how marks) (said self.old) }
-        ensures small { IsSmall (said self.old) → IsSmall (said self.new) }
+        ensures { said self.new ≡ part_with [] (Estimates how marks) (said self.old) }
     {
         self.low = marks.low;
         self.high = marks.high;
@@ -162,7 +163,7 @@ impl<'s> NumbersPart<'s> {
     /// Says too that from the first number to the last one these are there, and no others.
     pub fn list(&mut self, first: u64, last: u64, numbers: &'s [u64])
         ensures says { said self.new ≡ listing first last numbers.now (said self.old) }
-        ensures small { IsSmall (said self.old) → IsSmall (said self.new) }
+        ensures small { IsSmall (said self.new) }
     {
         self.first = first;
         self.last = last;
@@ -171,8 +172,7 @@ impl<'s> NumbersPart<'s> {
 
     /// Says too that the number at the position is this.
     fn stand_at(&mut self, at: Position, number: u64)
-        ensures says { said self.new ≡ standing_at at number (said self.old) }
-        ensures small { IsSmall (said self.old) → IsSmall (said self.new) }
+        ensures { said self.new ≡ standing_at at number (said self.old) }
     {
         match at {
             Position::Nowhere => self.is_possible = false,
@@ -183,8 +183,7 @@ impl<'s> NumbersPart<'s> {
 
     /// Says too that there is no number at the position.
     fn stand_nowhere(&mut self, at: Position)
-        ensures says { said self.new ≡ standing_nowhere at (said self.old) }
-        ensures small { IsSmall (said self.old) → IsSmall (said self.new) }
+        ensures { said self.new ≡ standing_nowhere at (said self.old) }
     {
         match at {
             Position::Nowhere => {}
@@ -195,8 +194,7 @@ impl<'s> NumbersPart<'s> {
 
     /// Says too that the next number above the position is this.
     fn step_up(&mut self, at: Position, number: u64)
-        ensures says { said self.new ≡ stepping_up at number (said self.old) }
-        ensures small { IsSmall (said self.old) → IsSmall (said self.new) }
+        ensures { said self.new ≡ stepping_up at number (said self.old) }
     {
         match at {
             Position::First => self.demand = Demand::SecondIs(number),
@@ -207,8 +205,7 @@ impl<'s> NumbersPart<'s> {
 
     /// Says too that the next number below the position is this.
     fn step_down(&mut self, at: Position, number: u64)
-        ensures says { said self.new ≡ stepping_down at number (said self.old) }
-        ensures small { IsSmall (said self.old) → IsSmall (said self.new) }
+        ensures { said self.new ≡ stepping_down at number (said self.old) }
     {
         match at {
             Position::Known(current) if number < current => self.last = current - 1,
@@ -218,8 +215,7 @@ impl<'s> NumbersPart<'s> {
 
     /// Says too that no number is above the position.
     fn end_above(&mut self, at: Position)
-        ensures says { said self.new ≡ none_above at (said self.old) }
-        ensures small { IsSmall (said self.old) → IsSmall (said self.new) }
+        ensures { said self.new ≡ none_above at (said self.old) }
     {
         match at {
             Position::Nowhere => self.is_possible = false,
@@ -230,8 +226,7 @@ impl<'s> NumbersPart<'s> {
 
     /// Says too that no number is below the position.
     fn end_below(&mut self, at: Position)
-        ensures says { said self.new ≡ none_below at (said self.old) }
-        ensures small { IsSmall (said self.old) → IsSmall (said self.new) }
+        ensures { said self.new ≡ none_below at (said self.old) }
     {
         match at {
             Position::Nowhere => self.is_possible = false,
