@@ -9,7 +9,7 @@ ghost use Rattle.nntp_article.specs.Session.Machine.{Visible, fits};
 ghost use Rattle.nntp_article.specs.Inner.Misfit.{groups_of, numbers_of};
 ghost use Rattle.nntp_said.specs.Facts.{Fact as FactValue, Asks, IdAt as IdIs, here, facts_of, group_of};
 ghost use Rattle.nntp_said.specs.Inner.FactView.{ask_of, fact_of};
-ghost use Rattle.nntp_facts.specs.Inner.Saying.{AreListed, HasSmall, IsSelectedShown, TellsHere, TellsThere, begun, nothing, numbers_shown, saying_by};
+ghost use Rattle.nntp_facts.specs.Inner.Saying.{AreListed, IsSelectedShown, TellsHere, TellsThere, begun, nothing, numbers_shown, saying_by};
 ghost use Rattle.nntp_facts.specs.Inner.Saying.{saying_with, with_ask};
 ghost use Rattle.nntp_said.specs.Asks.{Bounds, Has};
 ghost use Rattle.nntp_numbers.specs.Inner.Part.{Says};
@@ -152,8 +152,7 @@ impl<'s> Saying<'s> {
 
     /// Returns what these facts say; `shown` are the numbers that their answer shows.
     pub(crate) fn by(mut facts: SaidFacts<'s>, shown: &'s [u64]) -> Saying<'s>
-        ensures says { saying_of result ≡ saying_by shown.now nothing facts.entry }
-        ensures small { HasSmall (saying_of result) }
+        ensures { saying_of result ≡ saying_by shown.now nothing facts.entry }
     {
         let mut saying = NOTHING;
         while let Some(fact) = facts.first() {
@@ -165,8 +164,7 @@ impl<'s> Saying<'s> {
 
     /// Says a fact too; `shown` are the numbers that its answer shows.
     fn add(&mut self, fact: &Fact<'s>, shown: &'s [u64])
-        ensures says { saying_of self.new ≡ saying_with shown.now (fact_of fact.now) (saying_of self.old) }
-        ensures small { HasSmall (saying_of self.old) → HasSmall (saying_of self.new) }
+        ensures { saying_of self.new ≡ saying_with shown.now (fact_of fact.now) (saying_of self.old) }
     {
         match fact {
             Fact::ThereIs(name) => self.there_is = Some(*name),
@@ -192,8 +190,7 @@ impl<'s> Saying<'s> {
 
     /// Says this too of the numbers of the group.
     fn add_ask(&mut self, name: &'s [u8], ask: Ask<'s>, shown: &'s [u64])
-        ensures says { saying_of self.new ≡ saying_with shown.now (Asks name.now (ask_of ask.entry)) (saying_of self.old) }
-        ensures small { HasSmall (saying_of self.old) → HasSmall (saying_of self.new) }
+        ensures { saying_of self.new ≡ saying_with shown.now (Asks name.now (ask_of ask.entry)) (saying_of self.old) }
     {
         let group = self.group.get_or_insert_with(|| GroupPart::nothing(name));
         group.numbers.say(ask, shown);
@@ -201,8 +198,7 @@ impl<'s> Saying<'s> {
 
     /// Says too that the number of the group has the id, and that this has an article.
     fn add_id(&mut self, name: &'s [u8], number: u64, id: &'s MessageId<'s>, shown: &'s [u64])
-        ensures says { saying_of self.new ≡ saying_with shown.now (IdIs name.now number id.now) (saying_of self.old) }
-        ensures small { HasSmall (saying_of self.old) → HasSmall (saying_of self.new) }
+        ensures { saying_of self.new ≡ saying_with shown.now (IdIs name.now number id.now) (saying_of self.old) }
     {
         let id = id.as_str();
         let group = self

@@ -1,6 +1,6 @@
 -- What each kind of answer that fits tells.
-use Rattle.std.proofs.Common.{◌≡◌, ℕ, ◌<◌, ◌^◌, get_or, true, IsTrue, List, [], ◌∷◌, Option, None, Some, is_some, inl, inr, refl, sym, ap, subst}
-use Rattle.std.{proofs.lemmas.Bool.{true≢false}, specs.Prelude.{IfSome, unwrap_or}}
+use Rattle.std.proofs.Common.{◌≡◌, ℕ, ◌<◌, ◌^◌, get_or, true, IsTrue, List, [], ◌∷◌, Option, None, Some, is_some, inl, inr, refl, sym, ap, subst, ◌∙◌}
+use Rattle.std.{proofs.lemmas.Bool.{true≢false}, specs.Prelude.{IfSome, option_map, unwrap_or}}
 use Rattle.nntp_article.specs.{Article.Parts.{Id}, Session.{Spool.{Name}, Machine.{Visible, fits}}, declared.session.profile.Profile.{Profile}}
 use Rattle.nntp_article.specs.Inner.Misfit.{groups_of, numbers_of}
 use Rattle.nntp_wire.specs.{Answer.{Asked, Response}, Listing.{ActiveValue, active_groups, listed_numbers}, declared.{marks.Marks.{Marks}, range.Range.{Range}}}
@@ -9,10 +9,12 @@ use Rattle.nntp_said.specs.{declared.position.Position.{Position}, Asks.{Ask, Es
 use Rattle.nntp_said.specs.{Asks.{IsTop, IsBottom}, Facts.{Fact, ThereIs, Asks, IdAt, here, facts_of, group_of}}
 use Rattle.nntp_theory.specs.Given.{is_shown_group}
 use Rattle.nntp_numbers.specs.Inner.{Part.{Said, Says, AreListable}, PartOf.{IsSmall, nothing_said, part_with}, Summary.{AreBounded}}
-use Rattle.nntp_numbers.proofs.{SaidInARange.{says_range}, SaidOfAsks.{says_marks, marks_bounded, says_has, says_lacks, says_stands, says_nowhere, says_up}}
-use Rattle.nntp_numbers.proofs.SaidOfAsks.{says_down, says_top, says_bottom}
-use Rattle.nntp_facts.specs.Inner.Saying.{AreListed, HasSmall, Saying, TellsHere, IsSelectedShown, IsShownThen, nothing, numbers_shown, saying_by}
-use Rattle.nntp_facts.proofs.Keeping.{KeptGroups.{bounded_more}, FittingAnswers.{listable, may_list, numbered}}
+use Rattle.nntp_numbers.proofs.{SaidInARange.{says_range}, SaidOfAsks.{said_small, says_marks, marks_bounded, says_has, says_lacks, says_stands, says_nowhere}}
+use Rattle.nntp_numbers.proofs.SaidOfAsks.{says_up, says_down, says_top, says_bottom}
+use Rattle.nntp_facts.specs.Inner.Saying.{AreListed, Saying, TellsHere, IsSelectedShown, IsShownThen, nothing, numbers_shown, saying_by}
+use Rattle.nntp_facts.{specs.declared.saying.GroupPart.{GroupPart}, proofs.Keeping.{KeptGroups.{bounded_more}, FittingAnswers.{listable, may_list, numbered}}}
+use Rattle.nntp_facts.specs.declared.saying.Saying as parts
+use Rattle.nntp_facts.specs.Inner.SayingView as view
 use Rattle.nntp_said.proofs.Rows as rows
 
 -- ---- sayings
@@ -20,6 +22,14 @@ use Rattle.nntp_said.proofs.Rows as rows
 -- something of the numbers of a group, and that there is such a group
 abbrev pub of_group : Name → Said → Saying
 of_group name p = record { there_is = Some name; there_is_no = None; group = Some (record { name = name; numbers = p; id = None }); article = None; groups = None }
+
+-- the ends of what is said of the numbers of the group are below 2^64
+abbrev HasSmall : Saying → Type 0
+HasSmall s = IfSome s.group (λ g. IsSmall g.numbers)
+
+has_small : (group : Option GroupPart) → IfSome (option_map view.of_group group) (λ g. IsSmall g.numbers)
+has_small None = tt
+has_small (Some g) = said_small g.numbers
 
 -- a group that is selected
 pub tells_marks : {selected : Name} → (facts : List Fact) (name : Name) (p : Said) (how : Marks) (m : WaterMarks) (s : Saying) (more : List Fact)
@@ -127,14 +137,14 @@ module _ (v : Visible) (facts : List Fact) (is_shown : IsSelectedShown v facts) 
       (said_row (subst (λ ns. (i : ℕ) → get_or ns i 0 < 2 ^ 64) is small) (rows.row profile v at asked response) may)
 
 -- what the facts of an answer that fits say, of which this is the group that is selected, tells them
-pub told_here : (how : Marks) (at : Position) (asked : Asked) (response : Response) (selected : Name) (listed shown : List ℕ) (more : List Fact)
-    → ((i : ℕ) → get_or listed i 0 < 2 ^ 64) → shown ≡ numbers_shown listed response → HasSmall (saying_by shown nothing more)
+pub told_here : (how : Marks) (at : Position) (asked : Asked) (response : Response) (selected : Name) (listed shown : List ℕ) (more : List Fact) (saying : parts.Saying)
+    → ((i : ℕ) → get_or listed i 0 < 2 ^ 64) → shown ≡ numbers_shown listed response → view.saying_of saying ≡ saying_by shown nothing more
     → ((v : Visible) → selected ≡ here v → more ≡ facts_of how v at asked response)
     → (profile : Profile) (v : Visible) (facts : List Fact) → IsTrue (fits profile v asked response) → IsSelectedShown v facts → selected ≡ here v → listed ≡ numbers_of response
-    → TellsHere selected facts (saying_by shown nothing more) (facts_of how v at asked response)
-told_here how at asked response selected listed shown more fit shows small said profile v facts may is_shown here_is listed_is =
+    → TellsHere selected facts (view.saying_of saying) (facts_of how v at asked response)
+told_here how at asked response selected listed shown more saying fit shows says said profile v facts may is_shown here_is listed_is =
     let same = said v here_is in
-    let made : saying_by shown nothing more ≡ saying_by (numbers_shown listed response) nothing (facts_of how v at asked response) = λ i. saying_by (shows i) nothing (same i) in
-    let told = answer_row v facts is_shown (record profile { marks = how }) at asked response listed fit listed_is may (subst HasSmall made small) in
+    let made : view.saying_of saying ≡ saying_by (numbers_shown listed response) nothing (facts_of how v at asked response) = says ∙ (λ i. saying_by (shows i) nothing (same i)) in
+    let told = answer_row v facts is_shown (record profile { marks = how }) at asked response listed fit listed_is may (subst HasSmall made (has_small saying.group)) in
     subst (λ s. TellsHere selected facts s (facts_of how v at asked response)) (sym made)
     (subst (λ name. TellsHere name facts (saying_by (numbers_shown listed response) nothing (facts_of how v at asked response)) (facts_of how v at asked response)) (sym here_is) told)

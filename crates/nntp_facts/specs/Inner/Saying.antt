@@ -4,7 +4,7 @@ use Rattle.nntp_article.specs.{Article.Parts.{Id, Line}, Session.{Spool.{Name}, 
 use Rattle.nntp_wire.specs.{declared.command.What.{What}, Answer.{Response, sends}, Listing.{ActiveValue}}
 use Rattle.nntp_said.specs.{Asks.{Ask, Has}, Facts.{Fact, ThereIs, ThereIsNo, Asks, IdAt, TextIs, NoArticle, GroupsAre, group_of}}
 use Rattle.nntp_theory.specs.Given.{is_shown_group}
-use Rattle.nntp_numbers.specs.Inner.{Part.{Said, Says}, PartOf.{IsSmall, nothing_said, part_with}, Summary.{AreBounded}}
+use Rattle.nntp_numbers.specs.Inner.{Part.{Said, Says}, PartOf.{nothing_said, part_with}, Summary.{AreBounded}}
 use Rattle.nntp_facts.specs.Inner.ListedGroups.{MayList}
 
 -- what is said of one group: of its numbers, and the id at a number, if one is shown
@@ -112,10 +112,6 @@ saying_with shown (GroupsAre p lines) s = record s { groups = Some (p, lines) }
 abbrev pub saying_by : List ℕ → Saying → List Fact → Saying
 saying_by shown s [] = s
 saying_by shown s (fact ∷ facts) = saying_by shown (saying_with shown fact s) facts
-
--- the ends of what is said of the numbers of the group are below 2^64
-abbrev pub HasSmall : Saying → Type 0
-HasSmall s = IfSome s.group (λ g. IsSmall g.numbers)
 
 -- ---- what is known of it, where the answer fits
 

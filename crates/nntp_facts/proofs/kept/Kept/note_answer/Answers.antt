@@ -1,8 +1,8 @@
 use Rattle.std.proofs.{Common.{true, not, map, ap, subst, sym, ◌∙◌}, lemmas.Result.{IfOk-weaker}}
 use Rattle.nntp_wire.specs.Inner.{View.{active_value, asked}, AnswerView.{response}}
 use Rattle.nntp_said.specs.{Facts.{facts_of}, Inner.FactView.{fact_of}}
-use Rattle.nntp_facts.{specs.Inner.{Kept.{AreAdded}, Saying.{AreListed, HasSmall, TellsHere, nothing, saying_by}}, proofs.Keeping.FactsSaid.{no_first}}
-use Rattle.nntp_facts.proofs.Keeping.{FactsSaid.{none_added}, SayingRows.{groups_said, told_here}}
+use Rattle.nntp_facts.{specs.Inner.{Kept.{AreAdded}, Saying.{AreListed, nothing, saying_by}}, proofs.Keeping.FactsSaid.{no_first, none_added}}
+use Rattle.nntp_facts.proofs.Keeping.SayingRows.{groups_said, told_here}
 use Rattle.nntp_facts.proofs.kept.Kept.note_answer.Goals as goal
 
 pub returns-then-is_none : goal.returns-then-is_none
@@ -15,10 +15,9 @@ returns g c = IfOk-weaker c.note.result _ _ (λ does adds profile v all may is_s
     let q = asked c.args.prompt.now in
     let r = response c.args.answer.now in
     let more = facts_of c.args.how v c.args.at q r in
-    let says = c.by-saying.ensures.says in
-    let tells = told_here c.args.how c.args.at q r c.args.selected.now c.args.numbers.now c.numbers_shown.result.now c.facts_of-facts.result (λ i. (c.type_inv.numbers i).fits)
-    c.numbers_shown.ensures (subst HasSmall says c.by-saying.ensures.small) c.facts_of-facts.ensures profile v all may is_shown here numbers in
+    let says = c.by-saying.ensures in
+    let tells = told_here c.args.how c.args.at q r c.args.selected.now c.args.numbers.now c.numbers_shown.result.now c.facts_of-facts.result c.by-saying.result (λ i. (c.type_inv.numbers i).fits)
+    c.numbers_shown.ensures says c.facts_of-facts.ensures profile v all may is_shown here numbers in
     let listed = subst (λ more. AreListed (saying_by c.numbers_shown.result.now nothing more) (map active_value c.args.groups.now)) (sym (c.facts_of-facts.ensures v here))
     (groups_said (record profile { marks = c.args.how }) v c.args.at q r c.numbers_shown.result.now (map active_value c.args.groups.now) groups) in
-    adds (subst (λ s. AreListed s (map active_value c.args.groups.now)) (sym says) listed) all more kept together formed
-    (subst (λ s. TellsHere c.args.selected.now all s more) (sym says) tells).tells) c.note.ensures
+    adds (subst (λ s. AreListed s (map active_value c.args.groups.now)) (sym says) listed) all more kept together formed tells.tells) c.note.ensures

@@ -1,10 +1,10 @@
 use Rattle.std.proofs.Common.{◌≡◌, length}
-use Rattle.nntp_facts.specs.Inner.{Saying.{HasSmall, nothing, saying_by}, SayingView.{saying_of}}
+use Rattle.nntp_facts.specs.Inner.{Saying.{nothing, saying_by}, SayingView.{saying_of}}
 use Rattle.nntp_facts.proofs.saying.Saying.by.Given as goal
 
 -- with the facts that are left, this is what all of them say
 abbrev pub invariant-loop-fact : goal.invariant-loop-fact
-invariant-loop-fact l = (saying_by l.shown (saying_of l.saying) l.facts ≡ saying_by l.shown nothing l.fn.facts) × HasSmall (saying_of l.saying)
+invariant-loop-fact l = saying_by l.shown (saying_of l.saying) l.facts ≡ saying_by l.shown nothing l.fn.facts
 
 abbrev pub decreases-loop-fact : goal.decreases-loop-fact
 decreases-loop-fact l = length l.facts

@@ -1,15 +1,13 @@
 use Rattle.std.proofs.Common.{Some, ap, refl, subst, sym, ◌∙◌}
 use Rattle.nntp_article.specs.{declared.session.profile.Profile.{Profile}, Session.Machine.{Visible, start}}
 use Rattle.nntp_wire.specs.Inner.{View.{asked}, AnswerView.{response}}
-use Rattle.nntp_said.specs.Facts.{facts_of}
-use Rattle.nntp_facts.{specs.Inner.Saying.{AreListed, HasSmall, TellsHere, nothing, saying_by}, proofs.Keeping.SayingRows.{told_here, groups_said}}
+use Rattle.nntp_facts.{specs.Inner.Saying.{AreListed, nothing, saying_by}, proofs.Keeping.SayingRows.{told_here, groups_said}}
 use Rattle.nntp_facts.proofs.saying.Saying.of.Goals as goal
 
 pub returns-clause-tells : goal.returns-clause-tells
-returns-clause-tells c profile v facts may is_shown here listed =
-    subst (λ s. TellsHere c.args.selected.now facts s (facts_of c.args.how v c.args.at (asked c.args.prompt.now) (response c.args.answer.now))) (sym c.by.ensures.says)
-    (told_here c.args.how c.args.at (asked c.args.prompt.now) (response c.args.answer.now) c.args.selected.now c.args.numbers.now c.numbers_shown.result.now _
-    (λ i. (c.type_inv.numbers i).fits) c.numbers_shown.ensures (subst HasSmall c.by.ensures.says c.by.ensures.small) c.facts_of-facts.ensures profile v facts may is_shown here listed)
+returns-clause-tells c =
+    told_here c.args.how c.args.at (asked c.args.prompt.now) (response c.args.answer.now) c.args.selected.now c.args.numbers.now c.numbers_shown.result.now _ c.by.result
+    (λ i. (c.type_inv.numbers i).fits) c.numbers_shown.ensures c.by.ensures c.facts_of-facts.ensures
 
 pub returns-clause-groups : goal.returns-clause-groups
 returns-clause-groups c groups e =
@@ -17,5 +15,5 @@ returns-clause-groups c groups e =
     let v : Visible = record start.visible { selected = Some c.args.selected.now } in
     let q = asked c.args.prompt.now in
     let r = response c.args.answer.now in
-    let made = c.by.ensures.says ∙ ap (saying_by c.numbers_shown.result.now nothing) (c.facts_of-facts.ensures v refl) in
+    let made = c.by.ensures ∙ ap (saying_by c.numbers_shown.result.now nothing) (c.facts_of-facts.ensures v refl) in
     subst (λ s. AreListed s groups) (sym made) (groups_said profile v c.args.at q r c.numbers_shown.result.now groups e)
