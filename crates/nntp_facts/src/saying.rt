@@ -146,13 +146,14 @@ impl<'s> Saying<'s> {
             → TellsHere selected.now facts (saying_of result) (facts_of how v at (asked prompt.now) (response answer.now)) }
         ensures groups { (groups : List ActiveValue) → groups ≡ groups_of (response answer.now) → AreListed (saying_of result) groups }
     {
-        let facts = facts_of(how, selected, at, prompt, answer);
-        Saying::by(facts, numbers_shown(answer, numbers))
+        let mut facts = facts_of(how, selected, at, prompt, answer);
+        Saying::by(&mut facts, numbers_shown(answer, numbers))
     }
 
-    /// Returns what these facts say; `shown` are the numbers that their answer shows.
-    pub(crate) fn by(mut facts: SaidFacts<'s>, shown: &'s [u64]) -> Saying<'s>
-        ensures { saying_of result ≡ saying_by shown.now nothing facts.entry }
+    /// Returns what the facts say that are left, and goes past them; `shown` are the numbers that their
+    /// answer shows.
+    pub(crate) fn by(facts: &mut SaidFacts<'s>, shown: &'s [u64]) -> Saying<'s>
+        ensures { saying_of result ≡ saying_by shown.now nothing facts.old }
     {
         let mut saying = NOTHING;
         while let Some(fact) = facts.first() {

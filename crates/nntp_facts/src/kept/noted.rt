@@ -39,11 +39,11 @@ impl<A: Allocator + Copy> Kept<A> {
             → IsKept all self.old → Together all → AllByRecursion IsWellFormed (facts_of how v at (asked prompt.now) (response answer.now))
             → AreAdded all (facts_of how v at (asked prompt.now) (response answer.now)) self.old self.new does) }
     {
-        let facts = facts_of(how, selected, at, prompt, answer);
+        let mut facts = facts_of(how, selected, at, prompt, answer);
         if facts.first().is_none() {
             return Ok(true);
         }
-        let saying = Saying::by(facts, numbers_shown(answer, numbers));
+        let saying = Saying::by(&mut facts, numbers_shown(answer, numbers));
         self.note(&saying, groups)
     }
 }
