@@ -252,14 +252,6 @@ impl<A: Allocator> Facts<A> {
         Profile::of(self.limit, self.marks)
     }
 
-    /// Returns the position in the selected group at which the accepted exchanges of the session leave
-    /// it.
-    pub fn position(&self) -> Position
-        ensures { result ≡ self.now.position }
-    {
-        self.position
-    }
-
     /// Returns the limit of article numbers (RFC 3977, section 6).
     pub fn limit(&self) -> Limit
         ensures { result ≡ self.now.limit }
