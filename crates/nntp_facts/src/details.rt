@@ -182,7 +182,7 @@ impl<A: Allocator> Details<A> {
         ensures { IsTrue result ↔ (get self.now.ids at.entry.number ≡ Some at.entry.id.now) }
     {
         match self.id(at.number) {
-            Some(id) => id.as_bytes() == at.id.as_bytes(),
+            Some(id) => id == at.id,
             None => false,
         }
     }

@@ -97,7 +97,7 @@ impl<'s, S: Allocator> LastGroup<'s, S> {
         ensures spool { self.new ≡ self.old }
     {
         match self.find(word) {
-            Some((_, _, Some((at, there)))) if at == number => there.as_bytes() == id.as_bytes(),
+            Some((_, _, Some((at, there)))) if at == number => there == id,
             Some((_, numbers, _)) => numbers.has_id(number, id),
             None => false,
         }

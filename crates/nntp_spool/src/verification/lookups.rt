@@ -66,7 +66,7 @@ impl<A: Allocator> Numbers<A> {
         ensures { IsTrue result ↔ (map.get self.now number ≡ Some id.now) }
     {
         match self.id(number) {
-            Some(found) => found.as_bytes() == id.as_bytes(),
+            Some(found) => found == id,
             None => false,
         }
     }
