@@ -1,9 +1,9 @@
 -- The ids of a group's numbers, and one more.
-use Rattle.std.proofs.Common.{arith, ◌≡◌, ℕ, Bool, true, false, List, [], ◌∷◌, Option, None, Some, is_some, option_map, refl, sym, ap, ◌∙◌}
-use Rattle.std.proofs.lemmas.{Bool.{true≢false, false≢true, and_parts, and_from, cases_Bool, Decides.{same_from_decides}}, Map.Text.{is_eq-slice_cmp}}
-use Rattle.std.{proofs.lemmas.Slice.Eq.{bytes_eq-Decides}, specs.{declared.{cmp.Ordering.{Ordering}, rc.RcStr.{RcStr}}, Prelude.{◌||◌, not, bytes_eq}}}
-use Rattle.std.specs.{Ordering.{nat_cmp, is_eq}, Cmp.{nat_cmp_total, Lexicographic.{slice_cmp}}, Bool.{Decides}, List.{list_all, list_any}, Set.{remove_key}}
-use Rattle.std.specs.{Rc.{rc_str_bytes}, BTreeSet.{insert_key}, FinMap.{get, insert, empty, entries, find, put, entries-insert, get-entries}}
+use Rattle.std.proofs.{Common.{arith, ◌≡◌, ℕ, Bool, true, false, List, [], ◌∷◌, None, Some, refl, sym, ap, ◌∙◌}, lemmas.Bool.{true≢false, false≢true}}
+use Rattle.std.proofs.lemmas.{Bool.{and_parts, and_from, cases_Bool, Decides.{same_from_decides}}, Map.Text.{is_eq-slice_cmp}, Slice.Eq.{bytes_eq-Decides}}
+use Rattle.std.specs.{declared.{cmp.Ordering.{Ordering}, rc.RcStr.{RcStr}}, Prelude.{◌||◌, not, bytes_eq}, Ordering.{nat_cmp, is_eq}, Cmp.{nat_cmp_total}}
+use Rattle.std.specs.{Cmp.Lexicographic.{slice_cmp}, Bool.{Decides}, List.{list_all, list_any}, Set.{remove_key}, Rc.{rc_str_bytes}, BTreeSet.{insert_key}}
+use Rattle.std.specs.FinMap.{get, insert, empty, entries, find, put, entries-insert, get-entries}
 use Rattle.nntp_article.{specs.{Session.Spool.{Numbers}, Article.Parts.{Id}}, proofs.SessionLemmas.SetKeys.{or_swap, any-insert_key}}
 use Rattle.nntp_spool.{specs.{Numbers.{has_id}, Inner.Numbers.{AreIdsOf}}, proofs.{NumbersInOrder.{either_false, entries-empty}, ShownMaps.{octet_keys}}}
 
@@ -14,10 +14,6 @@ some_none x e = cc
 any-put : {K X : Type 0} (R : K → K → Ordering) (t : K × X → Bool) (k : K) (v : X) (es : List (K × X)) → find R k es ≡ None → list_any t (put R k v es) ≡ (t (k, v) || list_any t es)
 any-put R t k v [] absent = refl
 any-put R t k v (e ∷ es) absent = grind (arith, any-put R t k v es, some_none, or_swap)
-
--- no value is there where none is found
-pub none_found : {V X : Type 0} (view : V → X) (found : Option V) (o : Option X) (b : Bool) → option_map view found ≡ o → b ≡ is_some found → b ≡ false → o ≡ None
-none_found view found o b is e f = grind arith
 
 pub has_id-insert : (N : Numbers) (n : ℕ) (new id : List ℕ) → get N n ≡ None → has_id (insert N n new) id ≡ (bytes_eq new id || has_id N id)
 has_id-insert N n new id absent =
