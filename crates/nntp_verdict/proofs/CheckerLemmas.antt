@@ -1,20 +1,20 @@
 -- What a checker holds, as octets and sessions come.
 use Rattle.std.proofs.Common.{◌≡◌, ◌≢◌, ◌∙◌, refl, sym, ap, subst, ℕ, ◌+◌, ◌<◌, ◌^◌, false, List, [], ◌∷◌, ◌++◌, length, take, Option, None, Some, slice_get}
-use Rattle.std.proofs.{Common.{inl, arith, append_assoc, append-nil, length-append, Result, MatchResult, OnOk, IfErr}, lemmas.Bool.{false≢true, true≢false}}
-use Rattle.std.{proofs.lemmas.Option.{slice_get_within}, specs.Prelude.{MatchOption}}
+use Rattle.std.proofs.{Common.{inl, arith, append_assoc, append-nil, length-append, Result, Ok, Err, MatchResult, IfOk, OnOk, IfErr}, lemmas.Bool.{false≢true}}
+use Rattle.std.{proofs.lemmas.{Bool.{true≢false}, Option.{slice_get_within}}, specs.Prelude.{MatchOption, ⊤}}
 use Rattle.nntp_article.specs.{Session.Limit.{profile_of}, declared.session.profile.Profile.{Profile}}
 use Rattle.nntp_wire.specs.{declared.{limit.Limit.{Limit}, marks.Marks.{Marks}, overviews.Overviews.TheVariants.{Opaque}}, Session.{ClientStream, taken}}
 use Rattle.nntp_pair.specs.{Pairing.{Paired, Unpaired, IsNext, bad as pair_end, HasNext}, declared.class.PairClass.{PairClass}}
 use Rattle.nntp_pair.specs.declared.{octet_counts.OctetCounts.{OctetCounts}, peek.Peek.{Peek}, side.Side.{Side, TheVariants.{Client, Server}}}
 use Rattle.nntp_pair.specs.{declared.pair_error.PairError.{PairError}, Inner.Feeding.{Fed, IsFed, IsTaken, IsPeek, EndsForGood, left_of, unfed, with_octets}}
 use Rattle.nntp_pair.{specs.Inner.Sides.{given, counted, count_of}, proofs.{FedLaws.{fed-paired}, NextLemmas.{next-no-end, next-shorter}}}
-use Rattle.nntp_facts.specs.Inner.Noted.{FactsKept, IsDue}
+use Rattle.nntp_facts.specs.Inner.Noted.{FactsKept, IsDue, profile_kept}
 use Rattle.nntp_several.{specs.{Sessions.{Recorded, BadBehind}, Told.{with_more}}, proofs.SessionsVerified.{as_many_counts}}
 use Rattle.nntp_verdict.specs.{Judging.{IsAnsweredThroughout, IsVerdictOfAll}, Inner.Judging.{IsVerdictFrom, IsNoForGood, IsNoAtWholeAnswer, HaveEnded, Passed}}
 use Rattle.nntp_verdict.specs.Inner.{Verdict.{verdict_of_last}, Checking.{Checked, judging, decided, failed, Keeps, HasPassed, IsHeld, StandsForAll, HasBegun}}
-use Rattle.nntp_verdict.specs.Inner.{Checking.{IsFinished, IsFinishedOfAll, has_failed, counts_of, unrecorded, IsTaken as IsTakenBy}, CheckerView.{IsUntaken}}
-use Rattle.nntp_verdict.specs.{Inner.CheckerView.{checked}, Verdict.{JudgementOfAll, consistent_of_all, bad_of_all}, declared.checker.Checker.{Checker}}
-use Rattle.nntp_verdict.proofs.JudgeLemmas.{is-due, alone}
+use Rattle.nntp_verdict.specs.Inner.Checking.{IsFinished, IsFinishedOfAll, has_failed, counts_of, unrecorded, IsTaken as IsTakenBy, IsUntaken}
+use Rattle.nntp_verdict.specs.{Inner.CheckerView.{settled}, Verdict.{JudgementOfAll, consistent_of_all, bad_of_all, sessions_verdict_shown}}
+use Rattle.nntp_verdict.{specs.declared.sessions_verdict.SessionsVerdict.{SessionsVerdict}, proofs.JudgeLemmas.{is-due, alone}}
 use Rattle.nntp_pair.specs.declared.peek.Peek.TheVariants as peek
 use Rattle.nntp_pair.specs.declared.pair_error.PairError.TheVariants as errors
 
@@ -158,8 +158,8 @@ stands-counts limit marks (decided j counts) before session s = (refl, s.1, s.2)
 stands-counts limit marks failed before session s = absurd s
 
 -- where there is room for octets, none but want of memory keeps it from taking them
-pub untaken-memory : {A : Type 0} (error : PairError) (side : Side) (octets : List ℕ) (before after : Checker A) (limit : Limit) (marks : Marks) (ended : List Recorded) (session : Recorded)
-    → StandsForAll limit marks (checked before) ended session → length session.client.octets + length session.server + length octets < 2 ^ 64 → IsUntaken error side octets before after → error
+pub untaken-memory : (error : PairError) (side : Side) (octets : List ℕ) (before after : Checked) (limit : Limit) (marks : Marks) (ended : List Recorded) (session : Recorded)
+    → StandsForAll limit marks before ended session → length session.client.octets + length session.server + length octets < 2 ^ 64 → IsUntaken error side octets before after → error
     ≡ errors.Memory
 untaken-memory error side octets before after limit marks ended session stands room is = grind (arith, false≢true, stands-counts)
 
@@ -199,6 +199,67 @@ pub begun-told : (facts : FactsKept) (answers : List ℕ) (fed : Fed) (j : Judge
     → IsVerdictFrom limit marks ended session j)
     → HasBegun (judging facts answers fed) (decided j (record { client = 0; server = 0 }))
 begun-told facts answers fed j told = search decided-ended
+
+-- ---- what a judgement tells of a step
+
+module _ {A : Type 0} (facts : FactsKept) (answers : List ℕ) (fed : Fed) (new : FactsKept) (counts : List ℕ) (last : Fed) where
+  -- octets are taken, where so many came then
+  pub taken-settled : (side : Side) (octets : List ℕ) (then : Fed) (told : Option (SessionsVerdict A)) → IsTaken side octets fed then
+      → ((limit : Limit) (marks : Marks) (before : List Recorded) (session : Recorded) → Keeps (profile_of limit marks) before session facts answers then
+      → MatchOption told (HasPassed (profile_of limit marks) before session new counts last × (last.has_failed ≡ false))
+      (λ verdict. StandsForAll limit marks (decided (sessions_verdict_shown verdict) then.counts) before session))
+      → IsTakenBy side octets (judging facts answers fed) (settled (judging new counts last) (counted (given Client side octets) (given Server side octets) fed.counts) told)
+  taken-settled side octets then None taken judged =
+      taken-judging side octets facts answers fed then (judging new counts last) taken (λ limit marks before session keeps. (judged limit marks before session keeps).0)
+  taken-settled side octets then (Some verdict) taken judged =
+      let j = sessions_verdict_shown verdict in
+      taken-judging side octets facts answers fed then (decided j (counted (given Client side octets) (given Server side octets) fed.counts)) taken
+      (λ limit marks before session keeps. subst (λ n. StandsForAll limit marks (decided j n) before session) (ap (λ (f : Fed). f.counts) taken.value) (judged limit marks before session keeps))
+
+  -- and what is held then is held of some sessions
+  pub taken-sound : (side : Side) (octets : List ℕ) (then : Fed) (told : Option (SessionsVerdict A)) → IsHeld facts answers fed → IsTaken side octets fed then
+      → ((limit : Limit) (marks : Marks) (before : List Recorded) (session : Recorded) → Keeps (profile_of limit marks) before session facts answers then
+      → MatchOption told (HasPassed (profile_of limit marks) before session new counts last × (last.has_failed ≡ false))
+      (λ verdict. StandsForAll limit marks (decided (sessions_verdict_shown verdict) then.counts) before session))
+      → MatchOption told (IsHeld new counts last) (λ _. ⊤)
+  taken-sound side octets then None was taken judged =
+      let session = with_more was.session (given Client side octets) (given Server side octets) in
+      let keeps = keeps-taken (profile_kept facts) was.before was.session facts answers fed then side octets was.passed taken in
+      let now = judged facts.limit facts.marks was.before session keeps in
+      held (profile_kept facts) was.before session new counts last now.0 now.1
+  taken-sound side octets then (Some verdict) was taken judged = tt
+
+  -- the next session begins
+  pub begun-settled : (told : Option (SessionsVerdict A)) → last ≡ unfed Opaque → IsFed last (taken Opaque []) [] []
+      → ((limit : Limit) (marks : Marks) (before : List Recorded) (session : Recorded) → Keeps (profile_of limit marks) before session facts answers fed
+      → MatchOption told (HaveEnded (profile_of limit marks) (before ++ session ∷ []) new counts) (λ verdict. IsVerdictFrom limit marks before session (sessions_verdict_shown verdict)))
+      → HasBegun (judging facts answers fed) (settled (judging new counts last) (record { client = 0; server = 0 }) told)
+  begun-settled None is fed_is ended = record {
+    worked = refl;
+    stands = λ limit marks before session passed.
+        session-begins (profile_of limit marks) (before ++ session ∷ []) new counts last is fed_is (ended limit marks before session passed.keeps);
+  }
+  begun-settled (Some verdict) is fed_is ended =
+      begun-told facts answers fed (sessions_verdict_shown verdict) (λ limit marks before session passed. ended limit marks before session passed.keeps)
+
+  pub begun-sound : (told : Option (SessionsVerdict A)) → IsHeld facts answers fed → last ≡ unfed Opaque → IsFed last (taken Opaque []) [] []
+      → ((limit : Limit) (marks : Marks) (before : List Recorded) (session : Recorded) → Keeps (profile_of limit marks) before session facts answers fed
+      → MatchOption told (HaveEnded (profile_of limit marks) (before ++ session ∷ []) new counts) (λ verdict. IsVerdictFrom limit marks before session (sessions_verdict_shown verdict)))
+      → MatchOption told (IsHeld new counts last) (λ _. ⊤)
+  begun-sound None was is fed_is ended =
+      let before = was.before ++ was.session ∷ [] in
+      held (profile_kept facts) before unrecorded new counts last
+      (session-begins (profile_kept facts) before new counts last is fed_is (ended facts.limit facts.marks was.before was.session was.passed.keeps))
+      (ap (λ (f : Fed). f.has_failed) is)
+  begun-sound (Some verdict) was is fed_is ended = tt
+
+-- so it is answered once that is settled
+pub settled-taken : {A E : Type 0} (told : Result (Option (SessionsVerdict A)) E) (answer : Result ⊤ PairError) (held now after : Checked) (counts : OctetCounts)
+    → MatchResult told (λ told. (answer ≡ Ok tt) × (after ≡ settled now counts told)) (λ _. (answer ≡ Err errors.Memory) × (after ≡ failed))
+    → (side : Side) (octets : List ℕ) → has_failed held ≡ false → count_of side (counts_of held) + length octets < 2 ^ 64
+    → IfOk told (λ told. IsTakenBy side octets held (settled now counts told))
+    → MatchResult answer (λ _. IsTakenBy side octets held after) (λ error. IsUntaken error side octets held after)
+settled-taken told answer held now after counts settles side octets worked room taken = grind arith
 
 -- what a checker gives of several sessions is what it gives of one
 pub finished-alone : (held : Checked) (j : JudgementOfAll) → IsFinishedOfAll held j → IsFinished held (verdict_of_last j)

@@ -1,10 +1,10 @@
 -- Sessions have one verdict, and it is a yes exactly if some spool explains them; that of one session is that of its two streams.
-use Rattle.std.proofs.Common.{arith, ◌++◌, refl, ◌≡◌, ◌∙◌, ◌↔◌, sym, ap, subst, ℕ, zero, suc, IsTrue, List, [], ◌∷◌, length, Option, None, Some, slice_get, ◌<◌}
-use Rattle.std.{proofs.Common.{◌^◌, map, Ok}, specs.Prelude.{MatchOption}}
+use Rattle.std.proofs.Common.{arith, ◌++◌, refl, ◌≡◌, ◌∙◌, ◌↔◌, sym, ap, subst, ℕ, zero, suc, IsTrue, List, [], ◌∷◌, length, Option, None, ◌<◌, ◌^◌, map, Ok}
+use Rattle.std.specs.Prelude.{MatchOption}
 use Rattle.nntp_wire.specs.{declared.{limit.Limit.{Limit}, marks.Marks.{Marks}}, Session.{ClientStream}}
 use Rattle.nntp_article.specs.Session.{Explains.{Explains}, Limit.{profile_of}, Spool.{Spool}}
 use Rattle.nntp_pair.specs.{Pairing.{Paired}, declared.class.Class.{Class}}
-use Rattle.nntp_theory.specs.{Outcome.{Yes, No}, Given.{IsGiven}, Inner.Given.{size}, Answered.{SomePermitsEach, facts_of_all}, Permitted.{exchanged}}
+use Rattle.nntp_theory.specs.{Outcome.{Yes}, Given.{IsGiven}, Inner.Given.{size}, Answered.{SomePermitsEach, facts_of_all}, Permitted.{exchanged}}
 use Rattle.nntp_spool.specs.{Limited.{LimitedSpool}, Verifying.{IsVerified}, declared.verification.verified.Verified.{Verified, TheVariants.{Permits, Refuses}}}
 use Rattle.nntp_spool.specs.{Reading.{spool_at}, Text.{spool_text}}
 use Rattle.nntp_several.specs.{Verifying.{VerifiedOfAll, PermitsAll, RefusesOne, IsVerifiedOfAll}, Sessions.{Recorded, ExplainsAll, OfEach}}

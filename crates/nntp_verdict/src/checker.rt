@@ -1,17 +1,19 @@
 //! The verdict on streams as they come, in pieces.
-ghost use Rattle.std.specs.Prelude.{◌≡◌, [], ◌∷◌, ◌++◌, ℕ, List, true, false, None, IfOk, MatchOption, MatchResult};
+ghost use Rattle.std.specs.Prelude.{◌≡◌, [], ◌∷◌, ◌++◌, ℕ, List, true, false, None, Ok, Err, IfOk, MatchOption, MatchResult, ⊤};
 ghost use Rattle.nntp_article.specs.Session.Limit.{profile_of};
 ghost use Rattle.nntp_article.specs.declared.session.profile.Profile.{Profile};
 ghost use Rattle.nntp_pair.specs.Pairing.{HasNext};
 ghost use Rattle.nntp_pair.specs.Inner.Feeding.{left_of};
+ghost use Rattle.nntp_pair.specs.Inner.Sides.{counted, given};
+ghost use Rattle.nntp_pair.specs.declared.pair_error.PairError.TheVariants.{Memory};
 ghost use Rattle.nntp_pair.specs.declared.side.Side.TheVariants.{Client, Server};
 ghost use Rattle.nntp_several.specs.Sessions.{Recorded};
 ghost use Rattle.nntp_several.specs.Told.{IsToldBadOfAll};
-ghost use Rattle.nntp_verdict.specs.Inner.Checking.{Keeps, HasPassed, StandsFor, StandsForAll, IsTaken, HasBegun, IsToldWithoutSession, IsFinished};
-ghost use Rattle.nntp_verdict.specs.Inner.Checking.{IsFinishedOfAll, IsUnfinished, judging, decided, told_bad, without_session, has_failed, counts_of};
-ghost use Rattle.nntp_verdict.specs.Inner.Checking.{unrecorded};
+ghost use Rattle.nntp_verdict.specs.Inner.Checking.{Keeps, HasPassed, IsSound, StandsFor, StandsForAll, IsTaken, IsUntaken, HasBegun, IsUnbegun};
+ghost use Rattle.nntp_verdict.specs.Inner.Checking.{IsToldWithoutSession, IsFinished, IsFinishedOfAll, IsUnfinished, decided, told_bad, without_session};
+ghost use Rattle.nntp_verdict.specs.Inner.Checking.{unrecorded, failed, has_failed, counts_of};
 ghost use Rattle.nntp_verdict.specs.Checking.{IsToldBad};
-ghost use Rattle.nntp_verdict.specs.Inner.CheckerView.{IsUntaken, IsUnbegun, checked, of_state};
+ghost use Rattle.nntp_verdict.specs.Inner.CheckerView.{going_on, of_state, settled};
 ghost use Rattle.nntp_verdict.specs.Judging.{IsVerdictOfAll};
 ghost use Rattle.nntp_verdict.specs.Inner.Judging.{IsVerdictFrom, HaveEnded};
 ghost use Rattle.nntp_verdict.specs.Verdict.{JudgementOfAll, sessions_verdict_shown, verdict_shown};
@@ -27,7 +29,12 @@ use nntp_pair::{Class, Ending, Feed, OctetCounts, PairClass, PairError, Peek, Si
 use nntp_wire::{Limit, Marks};
 use std::alloc::{AllocError, Allocator, Global};
 use std::marker::Model;
-use std::mem;
+
+/// Of a session that has begun, no octet has come yet.
+const NO_OCTETS: OctetCounts = OctetCounts {
+    client: 0,
+    server: 0,
+};
 
 /// Judges both streams of a session as they come, in pieces of any size and in any order between the streams, and then
 /// those of a further session, if one [begins](Checker::begin_session). It holds what the exchanges say that have passed,
@@ -35,6 +42,20 @@ use std::mem;
 #[derive(Drop)]
 pub struct Checker<A: Allocator = Global> {
     state: State<A>,
+}
+
+impl<A: Allocator> Model for Checker<A> {
+    ghost use Rattle.nntp_verdict.specs.Inner.Checking.{Checked, IsSound};
+    ghost use Rattle.nntp_verdict.specs.Inner.Coded.{coded_checked};
+    ghost use Rattle.nntp_verdict.specs.Inner.CheckerView.{of_state};
+
+    ghost Value = { Checked };
+
+    ghost coded = { coded_checked };
+
+    ghost view = { λ c. of_state c.state };
+
+    ghost invariant = { λ c. IsSound (of_state c.state) };
 }
 
 /// How far the judgement is.
@@ -58,24 +79,11 @@ struct Ongoing<A: Allocator> {
     feed: Feed<A>,
 }
 
-impl<A: Allocator> Model for Ongoing<A> {
-    ghost use Rattle.nntp_verdict.specs.Inner.Checking.{Held, IsHeld};
-    ghost use Rattle.nntp_verdict.specs.Inner.Coded.{coded_held};
-
-    ghost Value = { Held };
-
-    ghost coded = { coded_held };
-
-    ghost view = { λ o. record { facts = o.judge.facts; answers = o.judge.answers.items; fed = o.feed } };
-
-    ghost invariant = { λ o. IsHeld o.judge.facts o.judge.answers.items o.feed };
-}
-
 impl<A: Allocator + Copy> Checker<A> {
     /// A checker to which no octet has come. It judges by the limit and the marks as [`check`](crate::check) does, and
     /// takes no memory yet.
     pub fn new(alloc: A, limit: Limit, marks: Marks) -> Checker<A>
-        ensures { StandsFor limit marks (checked result) (taken Opaque []) [] }
+        ensures { StandsFor limit marks result (taken Opaque []) [] }
     {
         Checker {
             state: State::Judging(Ongoing::new(alloc, limit, marks)),
@@ -90,7 +98,7 @@ impl<A: Allocator + Copy> Checker<A> {
     /// 2^64 - 1 octets; both leave the checker as it was. `Memory` where memory is refused: then each later call answers
     /// `Failed`, and [`bad`](Checker::bad) tells of no answer.
     pub fn feed_client(&mut self, piece: &[u8]) -> Result<(), PairError>
-        ensures { MatchResult result (λ _. IsTaken Client piece.now (checked self.old) (checked self.new))
+        ensures { MatchResult result (λ _. IsTaken Client piece.now self.old self.new)
             (λ error. IsUntaken error Client piece.now self.old self.new) }
     {
         self.take(Side::Client, piece)
@@ -102,7 +110,7 @@ impl<A: Allocator + Copy> Checker<A> {
     ///
     /// Those of [`feed_client`](Checker::feed_client).
     pub fn feed_server(&mut self, piece: &[u8]) -> Result<(), PairError>
-        ensures { MatchResult result (λ _. IsTaken Server piece.now (checked self.old) (checked self.new))
+        ensures { MatchResult result (λ _. IsTaken Server piece.now self.old self.new)
             (λ error. IsUntaken error Server piece.now self.old self.new) }
     {
         self.take(Side::Server, piece)
@@ -110,7 +118,7 @@ impl<A: Allocator + Copy> Checker<A> {
 
     /// Takes the next octets of a side's stream, and judges the answers that are whole then.
     fn take(&mut self, side: Side, piece: &[u8]) -> Result<(), PairError>
-        ensures { MatchResult result (λ _. IsTaken side piece.now (checked self.old) (checked self.new))
+        ensures { MatchResult result (λ _. IsTaken side piece.now self.old self.new)
             (λ error. IsUntaken error side piece.now self.old self.new) }
     {
         let Some(counts) = self.state.counts() else {
@@ -119,19 +127,17 @@ impl<A: Allocator + Copy> Checker<A> {
         let Some(counts) = counts.with(side, piece) else {
             return Err(PairError::TooLong);
         };
-        match mem::replace(&mut self.state, State::Failed) {
-            State::Judging(ongoing) => self.hold(ongoing.take(side, piece)?),
-            State::Decided { verdict, .. } => self.hold(State::Decided { verdict, counts }),
+        match &mut self.state {
+            State::Judging(ongoing) => {
+                let told = ongoing.take(side, piece);
+                self.state.settle(told, counts)
+            }
+            State::Decided { counts: held, .. } => {
+                *held = counts;
+                Ok(())
+            }
             State::Failed => unreachable!(),
         }
-        Ok(())
-    }
-
-    /// Goes on with a state. What the old one holds is dropped here alone: a drop is checked wherever it stands.
-    fn hold(&mut self, state: State<A>)
-        ensures { self.new.state ≡ state }
-    {
-        self.state = state;
     }
 
     /// Ends the session, and begins a further one of the same spool, of which no octet has come: the octets that
@@ -143,14 +149,19 @@ impl<A: Allocator + Copy> Checker<A> {
     /// `Failed` where memory was refused to an earlier call: that leaves the checker as it was. `Memory` where memory is
     /// refused: then each later call answers `Failed`, and [`bad`](Checker::bad) tells of no answer.
     pub fn begin_session(&mut self) -> Result<(), PairError>
-        ensures { MatchResult result (λ _. HasBegun (checked self.old) (checked self.new)) (λ error. IsUnbegun error self.old self.new) }
+        ensures { MatchResult result (λ _. HasBegun self.old self.new) (λ error. IsUnbegun error self.old self.new) }
     {
-        match mem::replace(&mut self.state, State::Failed) {
-            State::Judging(ongoing) => self.hold(ongoing.begin_session()?),
-            State::Decided { verdict, .. } => self.hold(unfed(verdict)),
-            State::Failed => return Err(PairError::Failed),
+        match &mut self.state {
+            State::Judging(ongoing) => {
+                let told = ongoing.begin_session();
+                self.state.settle(told, NO_OCTETS)
+            }
+            State::Decided { counts, .. } => {
+                *counts = NO_OCTETS;
+                Ok(())
+            }
+            State::Failed => Err(PairError::Failed),
         }
-        Ok(())
     }
 
     /// The verdict on the octets that came, as [`check`](crate::check) gives it of the joined pieces. Of several sessions
@@ -160,8 +171,8 @@ impl<A: Allocator + Copy> Checker<A> {
     ///
     /// `Failed` where memory was refused to an earlier call, `Memory` where memory is refused to this one.
     pub fn finish(self) -> Result<Verdict<A>, PairError>
-        ensures alone { MatchResult result (λ verdict. IsFinished (checked self) (verdict_shown verdict)) (λ error. IsUnfinished error (checked self)) }
-        ensures sessions { IfOk result (λ verdict. (all : JudgementOfAll) × IsFinishedOfAll (checked self) all
+        ensures alone { MatchResult result (λ verdict. IsFinished self (verdict_shown verdict)) (λ error. IsUnfinished error self) }
+        ensures sessions { IfOk result (λ verdict. (all : JudgementOfAll) × IsFinishedOfAll self all
             × (verdict_shown verdict ≡ verdict_of_last all)) }
     {
         let verdict = self.finish_sessions()?;
@@ -175,7 +186,7 @@ impl<A: Allocator + Copy> Checker<A> {
     ///
     /// Those of [`finish`](Checker::finish).
     pub fn finish_sessions(self) -> Result<SessionsVerdict<A>, PairError>
-        ensures { MatchResult result (λ verdict. IsFinishedOfAll (checked self) (sessions_verdict_shown verdict)) (λ error. IsUnfinished error (checked self)) }
+        ensures { MatchResult result (λ verdict. IsFinishedOfAll self (sessions_verdict_shown verdict)) (λ error. IsUnfinished error self) }
     {
         match self.state {
             State::Judging(ongoing) => Ok(ongoing.finish()?),
@@ -189,11 +200,11 @@ impl<A: Allocator + Copy> Checker<A> {
     /// is for the k-th line of the client, counted from 1. None where memory was refused. Of several sessions it is what
     /// [`bad_of_sessions`](Checker::bad_of_sessions) tells, without the session.
     pub fn bad(&self) -> Option<(u64, Class)>
-        ensures told { (limit : Limit) (marks : Marks) (client : ClientStream) (server : List ℕ) → StandsFor limit marks (checked self.now) client server
+        ensures told { (limit : Limit) (marks : Marks) (client : ClientStream) (server : List ℕ) → StandsFor limit marks self.now client server
             → IsToldBad (profile_of limit marks) client server result }
-        ensures failed { has_failed (checked self.now) ≡ true → result ≡ None }
+        ensures failed { has_failed self.now ≡ true → result ≡ None }
         ensures sessions { (limit : Limit) (marks : Marks) (before : List Recorded) (session : Recorded)
-            → StandsForAll limit marks (checked self.now) before session → IsToldWithoutSession (profile_of limit marks) before session result }
+            → StandsForAll limit marks self.now before session → IsToldWithoutSession (profile_of limit marks) before session result }
     {
         without_session(self.bad_of_sessions())
     }
@@ -203,8 +214,8 @@ impl<A: Allocator + Copy> Checker<A> {
     /// ended any bad answer. None where memory was refused.
     pub fn bad_of_sessions(&self) -> Option<(u64, u64, Class)>
         ensures told { (limit : Limit) (marks : Marks) (before : List Recorded) (session : Recorded)
-            → StandsForAll limit marks (checked self.now) before session → IsToldBadOfAll (profile_of limit marks) before session result }
-        ensures failed { has_failed (checked self.now) ≡ true → result ≡ None }
+            → StandsForAll limit marks self.now before session → IsToldBadOfAll (profile_of limit marks) before session result }
+        ensures failed { has_failed self.now ≡ true → result ≡ None }
     {
         match &self.state {
             State::Judging(ongoing) => ongoing.bad(),
@@ -226,17 +237,28 @@ impl<A: Allocator + Copy> State<A> {
             State::Failed => None,
         }
     }
-}
 
-/// The state of a verdict that stands, where no octets of the last session have come.
-fn unfed<A: Allocator>(verdict: SessionsVerdict<A>) -> State<A>
-    ensures { of_state result ≡ decided (sessions_verdict_shown verdict) (record { client = 0; server = 0 }) }
-{
-    let counts = OctetCounts {
-        client: 0,
-        server: 0,
-    };
-    State::Decided { verdict, counts }
+    /// Goes on as a judgement told: as it is, with the verdict that stands behind so many octets, or without memory.
+    fn settle(
+        &mut self,
+        told: Result<Option<SessionsVerdict<A>>, AllocError>,
+        counts: OctetCounts,
+    ) -> Result<(), PairError>
+        ensures { MatchResult told (λ told. (result ≡ Ok tt) × (of_state self.new ≡ settled (of_state self.old) counts told))
+            (λ _. (result ≡ Err Memory) × (of_state self.new ≡ failed)) }
+    {
+        match told {
+            Ok(None) => Ok(()),
+            Ok(Some(verdict)) => {
+                *self = State::Decided { verdict, counts };
+                Ok(())
+            }
+            Err(_) => {
+                *self = State::Failed;
+                Err(PairError::Memory)
+            }
+        }
+    }
 }
 
 /// The answer that a verdict calls bad, its session and its class.
@@ -267,7 +289,8 @@ fn without_session(bad: Option<(u64, u64, Class)>) -> Option<(u64, Class)>
 impl<A: Allocator + Copy> Ongoing<A> {
     /// Nothing has come.
     fn new(alloc: A, limit: Limit, marks: Marks) -> Ongoing<A>
-        ensures { HasPassed (profile_of limit marks) [] unrecorded result.facts result.answers result.fed }
+        ensures passed { HasPassed (profile_of limit marks) [] unrecorded result.judge.facts result.judge.answers.items result.feed }
+        ensures sound { IsSound (going_on result) }
     {
         Ongoing {
             judge: Judge::new(alloc, limit, marks),
@@ -275,45 +298,38 @@ impl<A: Allocator + Copy> Ongoing<A> {
         }
     }
 
-    /// Takes the next octets of a side's stream, for which there is room, and judges the answers that are whole then.
-    fn take(self, side: Side, piece: &[u8]) -> Result<State<A>, AllocError>
-        ensures { IfOk result (λ state. IsTaken side piece.now (judging self.facts self.answers self.fed) (of_state state)) }
+    /// Takes the next octets of a side's stream, for which there is room, and judges the answers that are whole then:
+    /// it gives the verdict where one is bad.
+    fn take(&mut self, side: Side, piece: &[u8]) -> Result<Option<SessionsVerdict<A>>, AllocError>
+        requires { IsSound (going_on self.old) }
+        ensures taken { IfOk result (λ told. IsTaken side piece.now (going_on self.old)
+            (settled (going_on self.new) (counted (given Client side piece.now) (given Server side piece.now) self.old.feed.counts) told)) }
+        ensures sound { IfOk result (λ told. MatchOption told (IsSound (going_on self.new)) (λ _. ⊤)) }
     {
-        let Ongoing {
-            mut judge,
-            mut feed,
-        } = self;
         // There is room, so it is memory that is refused.
-        let Ok(()) = feed.feed(side, piece) else {
+        let Ok(()) = self.feed.feed(side, piece) else {
             return Err(AllocError);
         };
-        match go_on(&mut judge, &mut feed)? {
-            Some(verdict) => Ok(State::Decided {
-                verdict,
-                counts: feed.counts(),
-            }),
-            None => Ok(State::Judging(Ongoing { judge, feed })),
-        }
+        go_on(&mut self.judge, &mut self.feed)
     }
 
-    /// Ends the session, and begins the next one, of which nothing has come.
-    fn begin_session(self) -> Result<State<A>, AllocError>
-        ensures { IfOk result (λ state. HasBegun (judging self.facts self.answers self.fed) (of_state state)) }
+    /// Ends the session, and begins the next one, of which nothing has come: it gives the verdict where the session
+    /// ends with a bad answer.
+    fn begin_session(&mut self) -> Result<Option<SessionsVerdict<A>>, AllocError>
+        requires { IsSound (going_on self.old) }
+        ensures begun { IfOk result (λ told. HasBegun (going_on self.old) (settled (going_on self.new) (record { client = 0; server = 0 }) told)) }
+        ensures sound { IfOk result (λ told. MatchOption told (IsSound (going_on self.new)) (λ _. ⊤)) }
     {
-        let Ongoing { mut judge, feed } = self;
-        match end_session(&mut judge, &feed)? {
-            Some(verdict) => Ok(unfed(verdict)),
-            None => {
-                let feed = Feed::new(judge.alloc());
-                Ok(State::Judging(Ongoing { judge, feed }))
-            }
-        }
+        let told = end_session(&mut self.judge, &self.feed)?;
+        self.feed = Feed::new(self.judge.alloc());
+        Ok(told)
     }
 
     /// The verdict, if no more octets come.
     fn finish(self) -> Result<SessionsVerdict<A>, AllocError>
+        requires { IsSound (going_on self) }
         ensures { IfOk result (λ verdict. (limit : Limit) (marks : Marks) (before : List Recorded) (session : Recorded)
-            → HasPassed (profile_of limit marks) before session self.facts self.answers self.fed
+            → HasPassed (profile_of limit marks) before session self.judge.facts self.judge.answers.items self.feed
             → IsVerdictOfAll limit marks (before ++ session ∷ []) (sessions_verdict_shown verdict)) }
     {
         let Ongoing { mut judge, feed } = self;
@@ -325,8 +341,9 @@ impl<A: Allocator + Copy> Ongoing<A> {
 
     /// The place of octets that answer nothing, whatever follows, and their class.
     fn bad(&self) -> Option<(u64, u64, Class)>
+        requires { IsSound (going_on self.now) }
         ensures { (profile : Profile) (before : List Recorded) (session : Recorded)
-            → HasPassed profile before session self.now.facts self.now.answers self.now.fed
+            → HasPassed profile before session self.now.judge.facts self.now.judge.answers.items self.now.feed
             → IsToldBadOfAll profile before session result }
     {
         match self.feed.peek() {
@@ -374,7 +391,7 @@ fn go_on<A: Allocator + Copy>(
     ensures { IfOk result (λ told. (limit : Limit) (marks : Marks) (before : List Recorded) (session : Recorded)
         → Keeps (profile_of limit marks) before session judge.old.facts judge.old.answers.items feed.old
         → MatchOption told (HasPassed (profile_of limit marks) before session judge.new.facts judge.new.answers.items feed.new × (feed.new.has_failed ≡ false))
-        (λ verdict. StandsForAll limit marks (decided (sessions_verdict_shown verdict) feed.new.counts) before session)) }
+        (λ verdict. StandsForAll limit marks (decided (sessions_verdict_shown verdict) feed.old.counts) before session)) }
 {
     loop {
         let exchange = match feed.peek() {

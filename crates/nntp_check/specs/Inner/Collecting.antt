@@ -2,7 +2,7 @@
 use Rattle.std.specs.Prelude.{◌≡◌, ℕ, Bool, List}
 use Rattle.nntp_wire.specs.{declared.{limit.Limit.{Limit}, marks.Marks.{Marks}}, Inner.Held.{held as names_in}}
 use Rattle.nntp_several.specs.Sessions.{unnamed}
-use Rattle.nntp_verdict.specs.{Inner.{Checking.{StandsForAll}, CheckerView.{checked}}, Verdict.{sessions_verdict_shown}}
+use Rattle.nntp_verdict.specs.{Inner.Checking.{StandsForAll}, Verdict.{sessions_verdict_shown}}
 use Rattle.nntp_check.specs.{Capture.{Held}, Report.{names_of, report_of}, declared.capture_checker.JudgedCapture.{JudgedCapture}}
 use Rattle.nntp_check.specs.declared.{capture_checker.CaptureChecker.{CaptureChecker}, streams.Streams.{Streams}}
 
@@ -12,7 +12,7 @@ held_in s = record { ended = s.ended.items; last = s.last; spool = s.spool.items
 
 -- the checker holds what it has to of these sessions, to judge them by the limit and the marks, and their names
 pub record Judges {A : Type 0} (limit : Limit) (marks : Marks) (c : CaptureChecker A) (held : Held) : Type 0 where
-  pub checks : StandsForAll limit marks (checked c.checker) (unnamed held.ended) held.last.session
+  pub checks : StandsForAll limit marks c.checker (unnamed held.ended) held.last.session
   pub names : names_in c.names.items ≡ names_of held.ended
   pub last_name : c.last_name.items ≡ held.last.name
 

@@ -1,5 +1,5 @@
 -- What is said with the words of `Checking.antt`, and needn't be believed.
-use Rattle.std.specs.Prelude.{◌≡◌, ℕ, ◌+◌, ◌^◌, ◌<◌, Bool, true, false, List, [], ◌∷◌, ◌++◌, length, map, Option, None, Some}
+use Rattle.std.specs.Prelude.{◌≡◌, ℕ, ◌+◌, ◌^◌, ◌<◌, ◌≤◌, ⊤, Bool, true, false, List, [], ◌∷◌, ◌++◌, length, map, Option, None, Some}
 use Rattle.nntp_wire.specs.{declared.{limit.Limit.{Limit}, marks.Marks.{Marks}, overviews.Overviews.TheVariants.{Opaque}}, Session.{ClientStream, taken}}
 use Rattle.nntp_article.specs.{Session.Limit.{profile_of}, declared.session.profile.Profile.{Profile}}
 use Rattle.nntp_pair.specs.{Pairing.{Paired, HasNext}, Inner.{Sides.{given, count_of}, Feeding.{Fed, IsFed, left_of}}}
@@ -52,18 +52,17 @@ pub record HasPassed (profile : Profile) (before : List Recorded) (session : Rec
   pub keeps : Keeps profile before session facts answers fed
   pub all : ¬ (HasNext (left_of fed))
 
--- what is held of sessions while the judgement goes on
-pub record Held : Type 0 where
-  pub facts : FactsKept
-  pub answers : List ℕ
-  pub fed : Fed
-
 -- it is held of some sessions, by the limit and the marks that the facts hold, and memory wasn't refused
 pub record IsHeld (facts : FactsKept) (answers : List ℕ) (fed : Fed) : Type 0 where
   pub before : List Recorded
   pub session : Recorded
   pub passed : HasPassed (profile_kept facts) before session facts answers fed
   pub is_whole : fed.has_failed ≡ false
+
+-- what a checker holds while its judgement goes on, it holds of some sessions
+abbrev pub IsSound : Checked → Type 0
+IsSound (judging facts answers fed) = IsHeld facts answers fed
+IsSound held = ⊤
 
 -- the judgement is the verdict, whatever octets of the last session and whatever sessions follow: a no that nothing can mend
 pub record IsDecided (limit : Limit) (marks : Marks) (judgement : JudgementOfAll) (before : List Recorded) (session : Recorded) : Type 0 where
@@ -90,11 +89,25 @@ pub record IsTaken (side : Side) (octets : List ℕ) (before after : Checked) : 
   pub stands : (limit : Limit) (marks : Marks) (ended : List Recorded) (session : Recorded) → StandsForAll limit marks before ended session
       → StandsForAll limit marks after ended (with_more session (given Client side octets) (given Server side octets))
 
+-- no octets of this side were taken, for this reason, and this is left
+abbrev pub IsUntaken : PairError → Side → List ℕ → Checked → Checked → Type 0
+IsUntaken errors.Failed side octets before after = (has_failed before ≡ true) × (after ≡ before)
+IsUntaken errors.TooLong side octets before after =
+    (has_failed before ≡ false) × (2 ^ 64 ≤ count_of side (counts_of before) + length octets) × (after ≡ before)
+IsUntaken errors.Memory side octets before after =
+    (has_failed before ≡ false) × (count_of side (counts_of before) + length octets < 2 ^ 64) × (has_failed after ≡ true)
+
 -- the next session has begun: the checker holds what it has to of those that came before, and of one of which nothing came
 pub record HasBegun (before after : Checked) : Type 0 where
   pub worked : has_failed before ≡ false
   pub stands : (limit : Limit) (marks : Marks) (ended : List Recorded) (session : Recorded) → StandsForAll limit marks before ended session
       → StandsForAll limit marks after (ended ++ session ∷ []) unrecorded
+
+-- no session has begun, for this reason, and this is left
+abbrev pub IsUnbegun : PairError → Checked → Checked → Type 0
+IsUnbegun errors.Failed before after = (has_failed before ≡ true) × (after ≡ before)
+IsUnbegun errors.TooLong before after = ⊥
+IsUnbegun errors.Memory before after = (has_failed before ≡ false) × (has_failed after ≡ true)
 
 -- the judgement is the verdict on the sessions that came
 pub record IsFinishedOfAll (held : Checked) (judgement : JudgementOfAll) : Type 0 where

@@ -11,6 +11,7 @@ invariant-loop-exchange g l = record {
       → Keeps (profile_of limit marks) before session l.fn.judge.facts l.fn.judge.answers.items l.fn.feed
       → Keeps (profile_of limit marks) before session l.judge.facts l.judge.answers.items l.feed;
   whole : l.feed.has_failed ≡ false;
+  counts : l.feed.counts ≡ l.fn.feed.counts;
 }
 
 abbrev pub decreases-loop-exchange : goal.decreases-loop-exchange

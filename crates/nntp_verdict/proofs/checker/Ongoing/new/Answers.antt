@@ -4,15 +4,11 @@ use Rattle.nntp_article.specs.Session.Limit.{profile_of}
 use Rattle.nntp_verdict.{specs.Inner.Checking.{unrecorded}, proofs.CheckerLemmas.{held, session-begins}}
 use Rattle.nntp_verdict.proofs.checker.Ongoing.new.Goals as goal
 
-pub invariant_of-result : goal.invariant_of-result
-invariant_of-result g c =
+pub returns : goal.returns
+returns g c =
     let profile = profile_of c.args.limit c.args.marks in
     let facts = c.new.result.facts in
     let answers = c.new.result.answers.items in
     let feed = c.new-2.result in
-    held profile [] unrecorded facts answers feed (session-begins profile [] facts answers feed c.new-2.ensures.value c.new-2.ensures.fed c.new.ensures)
-    (ap (λ (f : Fed). f.has_failed) c.new-2.ensures.value)
-
-pub returns : goal.returns
-returns g c =
-    session-begins (profile_of c.args.limit c.args.marks) [] c.new.result.facts c.new.result.answers.items c.new-2.result c.new-2.ensures.value c.new-2.ensures.fed c.new.ensures
+    let passed = session-begins profile [] facts answers feed c.new-2.ensures.value c.new-2.ensures.fed c.new.ensures in
+    record { passed = passed; sound = held profile [] unrecorded facts answers feed passed (ap (λ (f : Fed). f.has_failed) c.new-2.ensures.value) }
