@@ -1,12 +1,12 @@
 -- What is shown of the articles that are kept.
-use Rattle.std.proofs.Common.{◌≡◌, Bool, true, false, not, cond, IsTrue, List, [], ◌∷◌, map, Option, None, Some, refl, sym, ap, subst, ◌∙◌}
+use Rattle.std.proofs.Common.{◌≡◌, Bool, not, cond, IsTrue, List, [], ◌∷◌, map, Option, None, Some, refl, sym, ap, subst, ◌∙◌, arith}
 use Rattle.std.{proofs.lemmas.Bool.{true≢false}, specs.{List.{list_any, filter, AllByRecursion, Sorted.{IsStrictlySortedBy}}, declared.cmp.Ordering.{Ordering}}}
 use Rattle.std.specs.{declared.cmp.Ordering.TheVariants.{Less}, Ordering.{nat_cmp}, Cmp.{both_ways, Lexicographic.{slice_cmp, same_text}}, FinMap.{FinMap, get}}
 use Rattle.std.specs.FinMap.{entries, entries_sorted}
 use Rattle.nntp_article.specs.{Article.Parts.{Id}, Session.Machine.{is_same}}
 use Rattle.nntp_said.specs.Facts.{Fact}
-use Rattle.nntp_theory.{specs.{Together.{shows_article}, Inner.Together.{SaidOfArticle, said_of}}, proofs.{Maps.{sorted_keys}, Members.{in_map, from_map}}}
-use Rattle.nntp_theory.proofs.{Members.{any_in, found_in}, Together.FactsOfASpoolStand.{same_itself}}
+use Rattle.nntp_theory.{specs.{Together.{shows_article}, Inner.Together.{said_of}}, proofs.{Maps.{sorted_keys}, Members.{in_map, from_map, any_in, found_in}}}
+use Rattle.nntp_theory.proofs.Together.FactsOfASpoolStand.{same_itself}
 use Rattle.nntp_facts.specs.Inner.{Kept.{KeptArticle, said_kept, AreKeptArticles}, Articles.{is_there, articles_in}, Readers.{ShownArticle, IsShownArticle}}
 use Rattle.nntp_facts.{specs.Inner.Readers.{AreShownArticles, shown_article, shown_articles}, proofs.Keeping.KeptArticles.{shown_kept, listed}}
 use Rattle.nntp_facts.proofs.Keeping.GroupReaders.{read_off, all_along}
@@ -20,8 +20,7 @@ module _ {K X : Type 0} (R : K → K → Ordering) (p : K × X → Bool) where
   below_left k (e ∷ es) h = by (p e) (below_left k es h.1)
     where
       by : (b : Bool) → AllByRecursion (λ y. R k y ≡ Less) (map (λ e. e.0) (filter p es)) → AllByRecursion (λ y. R k y ≡ Less) (map (λ e. e.0) (cond b (e ∷ filter p es) (filter p es)))
-      by true rest = (h.0, rest)
-      by false rest = rest
+      by b rest = grind arith
 
   -- keys that are left are in order
   sorted_left : (es : List (K × X)) → IsStrictlySortedBy R (map (λ e. e.0) es) → IsStrictlySortedBy R (map (λ e. e.0) (filter p es))
@@ -30,18 +29,13 @@ module _ {K X : Type 0} (R : K → K → Ordering) (p : K × X → Bool) where
   sorted_left (e ∷ es) h = by (p e) (sorted_left es h.1)
     where
       by : (b : Bool) → IsStrictlySortedBy R (map (λ e. e.0) (filter p es)) → IsStrictlySortedBy R (map (λ e. e.0) (cond b (e ∷ filter p es) (filter p es)))
-      by true rest = (below_left e.0 es h.0, rest)
-      by false rest = rest
+      by b rest = grind (arith, below_left)
 
 -- ---- the articles
 
 -- what is shown of an article that is kept is what the facts say
 article_is : (facts : List Fact) (id : Id) (a : KeptArticle) → said_of facts id ≡ said_kept (Some a) → IsShownArticle facts (shown_article id a)
-article_is facts id a kept = record {
-  sent = ap (λ (s : SaidOfArticle). s.is_sent) (sym kept);
-  head = ap (λ (s : SaidOfArticle). s.head) (sym kept);
-  body = ap (λ (s : SaidOfArticle). s.body) (sym kept);
-}
+article_is facts id a kept = grind arith
 
 -- what is shown of the articles that are kept is what the facts say
 pub articles_shown : (facts : List Fact) (articles : FinMap (slice_cmp nat_cmp) KeptArticle) → AreKeptArticles facts articles → AreShownArticles facts (shown_articles articles)

@@ -1,13 +1,13 @@
 -- Finding the answers with which a bad one conflicts.
-use Rattle.std.proofs.Common.{arith, zero, suc, ◌+◌, ◌*◌, ◌^◌, ◌<◌, ◌≤◌, ◌≡◌, ℕ, Bool, true, false, IsTrue, Option, None, Some, inl, inr, refl, sym, ap, subst}
-use Rattle.std.proofs.{Common.{◌∙◌, List, [], ◌∷◌, ◌++◌, length, length-append, append-nil, append_assoc, take, get_or}, lemmas.Bool.{and_from, cases_lt}}
-use Rattle.std.{proofs.lemmas.{Bool.Decides.{nat_tests}, List.{take_more}}, specs.{Prelude.{MatchOption, nat_lt}, Bool.{then_some}, List.{AllByRecursion}}}
+use Rattle.std.proofs.Common.{arith, zero, suc, ◌+◌, ◌^◌, ◌<◌, ◌≤◌, ◌≡◌, ℕ, Bool, true, false, IsTrue, Option, None, Some, inl, inr, refl, sym, ap, subst, ◌∙◌}
+use Rattle.std.proofs.{Common.{List, [], ◌∷◌, ◌++◌, length, length-append, append-nil, append_assoc, take, get_or}, lemmas.Bool.{and_from, cases_lt}}
+use Rattle.std.{proofs.lemmas.List.{take_more}, specs.{Prelude.{MatchOption}, Bool.{then_some}, List.{AllByRecursion}}}
 use Rattle.nntp_article.specs.{Session.Machine.{is_ascending}, declared.session.profile.Profile.{Profile}}
 use Rattle.nntp_theory.specs.{Inner.{Given.{size}, Together.{Together}, Conflict.{FitsThere, AreFound, IsPartOfCore}}, Conflict.{Placed, told, told_with}}
 use Rattle.nntp_theory.{specs.Conflict.{SomeHas, below, IsFound}, proofs.Members.{In, all_at, all_from, in_front, in_back, in_cases, contains_in, in_contains}}
 use Rattle.nntp_theory.proofs.{Members.{every}, Given.FirstBadAnswer.{none_permitted}, Together.FactsOfASpoolStand.{stand}, Conflicts.{with_told}}
 use Rattle.nntp_theory.proofs.Conflicts.{told_together, fewer_places, core_step, core_done, found_in_each}
-use Rattle.nntp_facts.specs.Inner.{Kept.{Kept, IsKept}, Told.{AreTold, AreToldWith, PlacesTold}}
+use Rattle.nntp_facts.specs.Inner.{Kept.{Kept}, Told.{AreTold, AreToldWith, PlacesTold}}
 
 -- ---- places
 
@@ -40,10 +40,7 @@ found_from Stand bound (j ∷ places) f k (inr i) = let le = f.0 in let rest = f
 -- each is below the next
 pub found_ascend : (Stand : List ℕ → Type 0) (bound : ℕ) (places : List ℕ) → AreFound Stand bound places → IsTrue (is_ascending places)
 found_ascend Stand bound [] f = refl
-found_ascend Stand bound (j ∷ places) f =
-    and_from _ (is_ascending places)
-    (every (λ m. nat_lt j m) places (λ k i. let le = found_from Stand (j + 1) places f.2 k i in grind (arith, nat_tests, le)))
-    (found_ascend Stand (j + 1) places f.2)
+found_ascend Stand bound (j ∷ places) f = grind (arith, and_from, every, found_from, found_ascend Stand (j + 1) places f.2)
 
 -- so they are few
 found_few : (Stand : List ℕ → Type 0) (bound n : ℕ) (places : List ℕ) → bound ≤ n → AreFound Stand bound places → AllByRecursion (λ k. k < n) places → length places + bound ≤ n
@@ -62,13 +59,7 @@ nothing_together profile = let n = none_permitted profile [] [] in stand profile
 
 -- of a bad answer alone
 pub bad_told : (profile : Profile) (bad : Placed) (answers : List Placed) (new : Kept) (does : Bool) → AreTold profile [] (told profile bad) new does → PlacesTold profile bad answers [] new does
-bad_told profile bad answers new true t = record {
-  kept = subst (λ facts. IsKept facts new) (sym (append-nil (told profile bad))) t.1;
-  together = subst Together (sym (append-nil (told profile bad))) t.0;
-  small = (let few = t.2 in
-      let le : size (told profile bad) ≤ 2 ^ 65 * (0 + 1) = omega (arith, few) in
-      subst (λ facts. size facts ≤ 2 ^ 65 * (0 + 1)) (sym (append-nil (told profile bad))) le);
-}
+bad_told profile bad answers new true t = grind (arith, append-nil)
 bad_told profile bad answers new false none = subst (λ facts. SomeHas profile facts → ⊥) (sym (append-nil (told profile bad))) none
 
 module _ (profile : Profile) (bad : Placed) (answers : List Placed) where
@@ -89,15 +80,12 @@ module _ (profile : Profile) (bad : Placed) (answers : List Placed) where
   -- they are handed on where they stand
   pub kept_where_told : (places : List ℕ) (k : Kept) (does : Bool) (o : Option Kept) → o ≡ then_some does k → PlacesTold profile bad answers places k does
       → MatchOption o (SomeHas profile (told_with profile bad answers places) → ⊥) (AreToldWith profile bad answers places)
-  kept_where_told places k true o is t = subst (λ o. MatchOption o (SomeHas profile (told_with profile bad answers places) → ⊥) (AreToldWith profile bad answers places)) (sym is) t
-  kept_where_told places k false o is none = subst (λ o. MatchOption o (SomeHas profile (told_with profile bad answers places) → ⊥) (AreToldWith profile bad answers places)) (sym is) none
+  kept_where_told places k does o is t = grind arith
 
   -- of all of them, where they are kept
   pub kept_told : (o : Option Kept) (k : Kept) (these places : List ℕ) → o ≡ Some k → these ≡ places
       → MatchOption o (SomeHas profile (told_with profile bad answers these) → ⊥) (AreToldWith profile bad answers these) → AreToldWith profile bad answers places k
-  kept_told o k these places is same t =
-      subst (λ places. AreToldWith profile bad answers places k) same
-      (subst (λ o. MatchOption o (SomeHas profile (told_with profile bad answers these) → ⊥) (AreToldWith profile bad answers these)) is t)
+  kept_told o k these places is same t = grind arith
 
   -- where they aren't, they conflict
   pub none_kept : (o : Option Kept) (these places : List ℕ) → ((k : Kept) → o ≡ Some k → ⊥) → these ≡ places
@@ -156,18 +144,14 @@ module _ (profile : Profile) (bad : Placed) (answers : List Placed) where
 
       -- all of it
       pub whole_found : (SomeHas profile (told_with profile bad answers places) → ⊥) → IsFound profile bad answers (record { places = places; rest = None })
-      whole_found none = record {
-        ascending = found_ascend (λ places. SomeHas profile (told_with profile bad answers places)) bound places p.found;
-        found = core_done profile bad answers bound places p none;
-      }
+      whole_found none = grind (arith, found_ascend, core_done)
 
       -- the end of it
       pub end_found : SomeHas profile (told_with profile bad answers places) → IsFound profile bad answers (record { places = places; rest = Some bound })
       end_found stand = record {
         ascending = found_ascend (λ places. SomeHas profile (told_with profile bad answers places)) bound places p.found;
         found = record {
-          there = all_from (λ k. (bound ≤ k) × (k < length answers)) places
-              (λ k i. (found_from (λ places. SomeHas profile (told_with profile bad answers places)) bound places p.found k i, all_at (λ k. k < length answers) k places p.there i));
+          there = grind (arith, all_from, found_from, all_at);
           conflict = p.conflict;
           stand = stand;
           in_each = λ some among none k i.

@@ -1,5 +1,5 @@
 -- How many groups that are listed are shown already: as many as are shown and match exactly if none is missing.
-use Rattle.std.proofs.Common.{◌≡◌, ℕ, Bool, true, false, ◌||◌, ◌&&◌, cond, not, IsTrue, is_some, List, [], ◌∷◌, ◌++◌, length, Option, refl, sym, ap, subst, ◌∙◌}
+use Rattle.std.proofs.Common.{◌≡◌, ℕ, Bool, true, ◌||◌, ◌&&◌, not, IsTrue, is_some, List, [], ◌∷◌, ◌++◌, length, Option, refl, sym, ap, subst, ◌∙◌, arith}
 use Rattle.std.{proofs.lemmas.{Bool.{true≢false, and_parts, and_from}, Map.Views.{any-filter_same}}, specs.{Prelude.{◌↔◌, IsFalse}, List.{AllByRecursion}}}
 use Rattle.std.specs.{List.{list_any, list_all, filter}, Option.{option_map_or}, FinMap.{get}, Cmp.Lexicographic.{same_text, nat_list_eq_equiv}}
 use Rattle.nntp_wire.{specs.{Decided.{is_group_name, matches_name}, Inner.Decided.{is_asked}, Listing.{ActiveValue}}, proofs.DecidedLemmas.{group_name-iff}}
@@ -12,12 +12,7 @@ use Rattle.nntp_facts.proofs.Keeping.KeptGroups.{Groups, shown_kept}
 
 -- groups that were listed are so behind more facts
 pub listed_still : (facts more : List Fact) (p : Option (List ℕ)) (count : ℕ) → WereListed facts p count → WereListed (facts ++ more) p count
-listed_still facts more p count were = record {
-  lines = were.lines;
-  said = contains_in (GroupsAre p were.lines) (facts ++ more) (in_front (GroupsAre p were.lines) facts more (in_contains (GroupsAre p were.lines) facts were.said));
-  may = were.may;
-  counted = were.counted;
-}
+listed_still facts more p count were = grind (arith, contains_in, in_front, in_contains)
 
 -- ---- some of the lines
 
@@ -25,10 +20,7 @@ listed_still facts more p count were = record {
 all_filtered : (test : ActiveValue → Bool) (p : Name → Bool) (lines : List ActiveValue) → list_all p (group_names lines) ≡ true → list_all p (group_names (filter test lines)) ≡ true
 all_filtered test p [] e = refl
 all_filtered test p (line ∷ lines) e = let both = and_parts (p line.name) (list_all p (group_names lines)) e in
-    elim (test line) as (λ b. list_all p (group_names (cond b (line ∷ filter test lines) (filter test lines))) ≡ true) [
-      | true ↦ and_from (p line.name) (list_all p (group_names (filter test lines))) both.0 (all_filtered test p lines both.1)
-      | false ↦ all_filtered test p lines both.1
-    ]
+    grind (arith, all_filtered test p lines both.1)
 
 -- where no group is listed twice, none is in those
 still_differ : (test : ActiveValue → Bool) (lines : List ActiveValue) → names_differ lines ≡ true → names_differ (filter test lines) ≡ true
@@ -36,10 +28,7 @@ still_differ test [] e = refl
 still_differ test (line ∷ lines) e =
     let other = λ (word : Name). not (is_same line.name word) in
     let both = and_parts (list_all other (group_names lines)) (names_differ lines) e in
-    elim (test line) as (λ b. names_differ (cond b (line ∷ filter test lines) (filter test lines)) ≡ true) [
-      | true ↦ and_from (list_all other (group_names (filter test lines))) (names_differ (filter test lines)) (all_filtered test other lines both.0) (still_differ test lines both.1)
-      | false ↦ still_differ test lines both.1
-    ]
+    grind (arith, all_filtered, still_differ test lines both.1)
 
 -- the names of the lines are compared the other way round
 listed_by : (lines : List ActiveValue) (name : Name) → list_any (λ line. is_same name line.name) lines ≡ is_listed lines name
@@ -51,13 +40,7 @@ listed_by (line ∷ lines) name = λ i. nat_list_eq_equiv.symm name line.name i 
 module _ (facts : List Fact) (p : Option (List ℕ)) (t : Together facts) (before : List ActiveValue) (said : In (GroupsAre p before) facts) where
   -- a name that matches and isn't denied was listed
   was_listed : (name : Name) → option_map_or (λ w. matches_name w name) p true ≡ true → IsFalse (list_any (denies_group name) facts) → is_listed before name ≡ true
-  was_listed name matching free = by (is_listed before name) refl
-    where
-      by : (b : Bool) → is_listed before name ≡ b → b ≡ true
-      by true e = refl
-      by false e =
-          let denied : denies_group name (GroupsAre p before) ≡ true = and_from (option_map_or (λ w. matches_name w name) p true) (not (is_listed before name)) matching (ap not e) in
-          absurd (true≢false (sym (any_in (denies_group name) (GroupsAre p before) facts said denied) ∙ free))
+  was_listed name matching free = grind (arith, and_from, true≢false, any_in)
 
   -- a group that was listed is shown
   was_shown : (name : Name) → is_listed before name ≡ true → is_shown_group facts name ≡ true

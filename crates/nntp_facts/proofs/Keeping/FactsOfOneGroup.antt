@@ -1,7 +1,7 @@
 -- Facts of one group: what they ask of its numbers, and the id that they give at one of them.
-use Rattle.std.proofs.Common.{◌≡◌, ℕ, Bool, true, false, ◌&&◌, ◌==◌, cond, List, [], Option, None, Some, inl, inr, refl, sym, ap, subst, ◌∙◌}
-use Rattle.std.{proofs.lemmas.Bool.{and_parts, and_from, eqb-true, eq-eqb, cases_eq, ne_eqb}, specs.{Prelude.{IfSome, ◌↔◌}, Ordering.{nat_cmp, eq_by_cmp}}}
-use Rattle.std.specs.Cmp.{unsigned_tied, Lexicographic.{slice_cmp, same_text, texts_ties, nat_list_eq_equiv}}
+use Rattle.std.proofs.Common.{◌≡◌, ℕ, Bool, true, false, ◌&&◌, ◌==◌, cond, List, [], Option, None, Some, refl, sym, ap, subst, ◌∙◌, arith}
+use Rattle.std.{proofs.lemmas.Bool.{and_parts, and_from, eqb-true, eq-eqb}, specs.{Prelude.{IfSome, ◌↔◌}, Ordering.{nat_cmp, eq_by_cmp}}}
+use Rattle.std.specs.Cmp.Lexicographic.{slice_cmp, same_text, texts_ties, nat_list_eq_equiv}
 use Rattle.nntp_article.specs.{Article.Parts.{Id}, Session.{Spool.{Name}, Machine.{is_same}}}
 use Rattle.nntp_said.specs.{Asks.{Ask}, Facts.{Fact}}
 use Rattle.nntp_theory.specs.{Given.{asks_of, first_given, id_in}, Together.{number_in}, Inner.Together.{GiveSame, JoinIds}}
@@ -33,8 +33,7 @@ IsOr o x = IfSome o (λ y. x ≡ y)
 
 give_same_if : {A : Type 0} (f : Fact → Option A) (facts more : List Fact) (b : Bool) (x : A)
     → first_given f more ≡ cond b (Some x) None → (b ≡ true → IsOr (first_given f facts) x) → GiveSame f facts more
-give_same_if {A} f facts more true x is h = subst (λ o. IfSome o (λ x. IfSome (first_given f facts) (λ y. x ≡ y))) (sym is) (h refl)
-give_same_if f facts more false x is h = rw is tt
+give_same_if f facts more b x is h = grind arith
 
 -- an id joins exactly if its number had none or this, and it had no number or this
 pub id_joins : (facts more : List Fact) (here : Name) (n : ℕ) (id : Id) → GiveId here n id more
@@ -86,10 +85,7 @@ gives_joins facts more here (Some e) is =
 -- ---- the same key, either way
 
 pub flip_number : (k n : ℕ) → eq_by_cmp nat_cmp k n ≡ (n == k)
-flip_number k n = elim (cases_eq n k) [
-  | inl e ↦ unsigned_tied k n ∙ eq-eqb k n (sym e) ∙ sym (eq-eqb n k e)
-  | inr ne ↦ unsigned_tied k n ∙ ne_eqb k n (λ e. ne (sym e)) ∙ sym (ne_eqb n k ne)
-]
+flip_number k n = grind arith
 
 -- the same octets, either way
 pub flip_text : (i id : Id) → eq_by_cmp (slice_cmp nat_cmp) i id ≡ is_same id i

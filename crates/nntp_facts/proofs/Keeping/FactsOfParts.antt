@@ -1,13 +1,13 @@
 -- What the parts of an answer say, read off their facts.
-use Rattle.std.proofs.Common.{◌≡◌, ℕ, Bool, true, false, ◌||◌, ◌==◌, cond, List, [], ◌∷◌, ◌++◌, map, Option, None, Some, refl, sym, ap, ◌∙◌, append-nil}
+use Rattle.std.proofs.Common.{◌≡◌, ℕ, Bool, true, false, ◌||◌, cond, List, [], ◌∷◌, ◌++◌, map, Option, None, Some, refl, ap, ◌∙◌, append-nil, arith}
 use Rattle.std.{proofs.lemmas.List.Folds.{list_any-append}, specs.{List.{list_any}, Option.{option_map_or, option_or}}}
 use Rattle.nntp_wire.specs.declared.command.What.{What}
 use Rattle.nntp_article.specs.{Article.Parts.{Id, Line}, Session.{Spool.{Name}, Machine.{is_same}}}
-use Rattle.nntp_said.specs.{Asks.{Ask, Has}, Facts.{Fact, ThereIs, ThereIsNo, Asks, IdAt, TextIs, NoArticle}}
+use Rattle.nntp_said.specs.{Asks.{Ask}, Facts.{Fact, ThereIs, ThereIsNo, Asks, IdAt, TextIs, NoArticle}}
 use Rattle.nntp_theory.specs.{Given.{asks_of, shows_group, is_shown_group, first_given, id_in}, Together.{denies_group, number_in}}
-use Rattle.nntp_theory.proofs.Together.{TwoListsOfFacts.{given_append, or_none, none_if, both_if}, FactsJoin.{asks_append}}
-use Rattle.nntp_facts.specs.Inner.Saying.{OfGroup, OfArticle, Lacks, Exists, Sends, Saying, asked_id, sent_facts, lack_facts, id_facts, group_facts}
-use Rattle.nntp_facts.specs.Inner.{Saying.{there_facts, missing_facts, groups_facts, facts_in}, Kept.{id_of, place_of}}
+use Rattle.nntp_theory.proofs.Together.{TwoListsOfFacts.{given_append, or_none}, FactsJoin.{asks_append}}
+use Rattle.nntp_facts.specs.Inner.Saying.{OfGroup, OfArticle, Saying, asked_id, sent_facts, lack_facts, id_facts, group_facts, there_facts, missing_facts}
+use Rattle.nntp_facts.specs.Inner.{Saying.{facts_in}, Kept.{id_of, place_of}}
 
 -- the id at a number of a group
 abbrev pub ids_in : Option OfGroup → List Fact
@@ -24,11 +24,7 @@ pub record IsRead {M : Type 0} (read : List Fact → M) (both : M → M → M) (
   pub right : (m : M) → both m nothing ≡ m
 
 pub any_is_read : (p : Fact → Bool) → IsRead (list_any p) (λ a b. a || b) false
-any_is_read p = record { none = refl; append = list_any-append p; left = λ b. refl; right = or_no }
-  where
-    or_no : (b : Bool) → (b || false) ≡ b
-    or_no true = refl
-    or_no false = refl
+any_is_read p = grind (arith, list_any-append)
 
 pub given_is_read : {A : Type 0} (f : Fact → Option A) → IsRead (first_given f) option_or None
 given_is_read f = record { none = refl; append = given_append f; left = λ o. refl; right = or_none }
@@ -45,24 +41,16 @@ module _ {M : Type 0} (read : List Fact → M) (both : M → M → M) (nothing :
   before xs ys silent = is.append xs ys ∙ ap (both (read xs)) silent ∙ is.right (read xs)
 
   no_sent : ((what : What) (id : Id) (lines : Option (List Line)) → read (TextIs what id lines ∷ []) ≡ nothing) → (a : Option (Id × OfArticle)) → read (sent_facts a) ≡ nothing
-  no_sent silent None = is.none
-  no_sent silent (Some (id, Lacks)) = is.none
-  no_sent silent (Some (id, Exists)) = is.none
-  no_sent silent (Some (id, Sends what lines)) = silent what id lines
+  no_sent silent a = grind arith
 
   no_lack : ((id : Id) → read (NoArticle id ∷ []) ≡ nothing) → (a : Option (Id × OfArticle)) → read (lack_facts a) ≡ nothing
-  no_lack silent None = is.none
-  no_lack silent (Some (id, Lacks)) = silent id
-  no_lack silent (Some (id, Exists)) = is.none
-  no_lack silent (Some (id, Sends what lines)) = is.none
+  no_lack silent a = grind arith
 
   no_there : ((name : Name) → read (ThereIs name ∷ []) ≡ nothing) → (o : Option Name) → read (there_facts o) ≡ nothing
-  no_there silent None = is.none
-  no_there silent (Some name) = silent name
+  no_there silent o = grind arith
 
   no_missing : ((name : Name) → read (ThereIsNo name ∷ []) ≡ nothing) → (o : Option Name) → read (missing_facts o) ≡ nothing
-  no_missing silent None = is.none
-  no_missing silent (Some name) = silent name
+  no_missing silent o = grind arith
 
   no_asks : (name : Name) → ((ask : Ask) → read (Asks name ask ∷ []) ≡ nothing) → (asks : List Ask) → read (map (Asks name) asks) ≡ nothing
   no_asks name silent [] = is.none
@@ -73,48 +61,26 @@ module _ {M : Type 0} (read : List Fact → M) (both : M → M → M) (nothing :
   only_ids silent (Some g) asks = past (map (Asks g.name) asks) (id_facts g.name g.id) (no_asks g.name (silent g.name) asks)
 
   no_ids : ((name : Name) (n : ℕ) (id : Id) → read (IdAt name n id ∷ []) ≡ nothing) → (g : Option OfGroup) → read (ids_in g) ≡ nothing
-  no_ids silent None = is.none
-  no_ids silent (Some g) = at g.name g.id
-    where
-      at : (name : Name) (id : Option (ℕ × Id)) → read (id_facts name id) ≡ nothing
-      at name None = is.none
-      at name (Some e) = silent name e.0 e.1
+  no_ids silent g = grind arith
 
   -- ---- of all that an answer says, where no groups are listed
   module _ (s : Saying) (asks : List Ask) (no_list : s.groups ≡ None) where
-    no_groups : read (groups_facts s.groups) ≡ nothing
-    no_groups = ap (λ o. read (groups_facts o)) no_list ∙ is.none
-
     -- what speaks of names alone
     pub of_names : ((what : What) (id : Id) (lines : Option (List Line)) → read (TextIs what id lines ∷ []) ≡ nothing) → ((id : Id) → read (NoArticle id ∷ []) ≡ nothing)
         → ((name : Name) (ask : Ask) → read (Asks name ask ∷ []) ≡ nothing) → ((name : Name) (n : ℕ) (id : Id) → read (IdAt name n id ∷ []) ≡ nothing)
         → read (facts_in s asks) ≡ both (read (there_facts s.there_is)) (read (missing_facts s.there_is_no))
-    of_names text lack ask id =
-        past (sent_facts s.article) _ (no_sent text s.article) ∙ is.append (there_facts s.there_is) _
-        ∙ ap (both (read (there_facts s.there_is)))
-        (past (group_facts s.group asks) _ (only_ids ask s.group asks ∙ no_ids id s.group)
-        ∙ before (missing_facts s.there_is_no) _ (past (lack_facts s.article) (groups_facts s.groups) (no_lack lack s.article) ∙ no_groups))
+    of_names text lack ask id = grind (arith, past, no_sent, only_ids, no_ids, before, no_lack)
 
     -- of articles alone
     pub of_articles : ((name : Name) → read (ThereIs name ∷ []) ≡ nothing) → ((name : Name) → read (ThereIsNo name ∷ []) ≡ nothing) → ((name : Name) (ask : Ask) → read (Asks name ask ∷ []) ≡ nothing)
         → read (facts_in s asks) ≡ both (read (sent_facts s.article)) (both (read (ids_in s.group)) (read (lack_facts s.article)))
-    of_articles there missing ask =
-        is.append (sent_facts s.article) _
-        ∙ ap (both (read (sent_facts s.article)))
-        (past (there_facts s.there_is) _ (no_there there s.there_is)
-        ∙ is.append (group_facts s.group asks) _
-        ∙ (λ i. both (only_ids ask s.group asks i)
-        ((past (missing_facts s.there_is_no) (lack_facts s.article ++ groups_facts s.groups)
-        (no_missing missing s.there_is_no) ∙ before (lack_facts s.article) (groups_facts s.groups) no_groups) i)))
+    of_articles there missing ask = grind (arith, past, no_there, only_ids, no_missing, before)
 
     -- of a group alone
     pub of_group : ((what : What) (id : Id) (lines : Option (List Line)) → read (TextIs what id lines ∷ []) ≡ nothing) → ((id : Id) → read (NoArticle id ∷ []) ≡ nothing)
         → ((name : Name) → read (ThereIs name ∷ []) ≡ nothing) → ((name : Name) → read (ThereIsNo name ∷ []) ≡ nothing)
         → read (facts_in s asks) ≡ read (group_facts s.group asks)
-    of_group text lack there missing =
-        past (sent_facts s.article) _ (no_sent text s.article) ∙ past (there_facts s.there_is) _ (no_there there s.there_is)
-        ∙ before (group_facts s.group asks) _
-        (past (missing_facts s.there_is_no) _ (no_missing missing s.there_is_no) ∙ past (lack_facts s.article) (groups_facts s.groups) (no_lack lack s.article) ∙ no_groups)
+    of_group text lack there missing = grind (arith, past, no_sent, no_there, before, no_missing, no_lack)
 
 -- ---- what is asked of a group
 
@@ -127,16 +93,10 @@ asks_only here name [] = by (is_same here name)
 asks_only here name (ask ∷ asks) = by (is_same here name) (asks_only here name asks)
   where
     by : (b : Bool) → asks_of name (map (Asks here) asks) ≡ cond b asks [] → cond b (ask ∷ []) [] ++ asks_of name (map (Asks here) asks) ≡ cond b (ask ∷ asks) []
-    by true e = ap (λ asks. ask ∷ asks) e
-    by false e = e
+    by b e = grind arith
 
 id_asks : (here name : Name) (id : Option (ℕ × Id)) → asks_of name (id_facts here id) ≡ cond (is_same here name) (asked_id id) []
-id_asks here name None = by (is_same here name)
-  where
-    by : (b : Bool) → [] ≡ cond {A = List Ask} b [] []
-    by true = refl
-    by false = refl
-id_asks here name (Some e) = append-nil (cond (is_same here name) (Has e.0 ∷ []) [])
+id_asks here name id = grind arith
 
 -- what is asked of the group, and of no other
 pub group_asks : (name : Name) (g : OfGroup) (asks : List Ask) → asks_of name (group_facts (Some g) asks) ≡ cond (is_same g.name name) (asks ++ asked_id g.id) []
@@ -144,18 +104,15 @@ group_asks name g asks =
     asks_append name (map (Asks g.name) asks) (id_facts g.name g.id) ∙ (λ i. asks_only g.name name asks i ++ id_asks g.name name g.id i) ∙ by (is_same g.name name)
   where
     by : (b : Bool) → cond b asks [] ++ cond b (asked_id g.id) [] ≡ cond b (asks ++ asked_id g.id) []
-    by true = refl
-    by false = refl
+    by b = grind arith
 
 -- ---- the id at a number
 
 id_given : (here name : Name) (id : Option (ℕ × Id)) (n : ℕ) → first_given (id_in name n) (id_facts here id) ≡ cond (is_same here name) (id_of id n) None
-id_given here name None n = sym (none_if (is_same here name))
-id_given here name (Some e) n = or_none _ ∙ sym (both_if (is_same here name) (e.0 == n) e.1)
+id_given here name id n = grind arith
 
 place_given : (here name : Name) (id : Option (ℕ × Id)) (other : Id) → first_given (number_in name other) (id_facts here id) ≡ cond (is_same here name) (place_of id other) None
-place_given here name None other = sym (none_if (is_same here name))
-place_given here name (Some e) other = or_none _ ∙ sym (both_if (is_same here name) (is_same e.1 other) e.0)
+place_given here name id other = grind arith
 
 -- the id that is given at a number of the group, and at none of another
 pub group_ids : (g : OfGroup) (asks : List Ask) (name : Name) (n : ℕ) → first_given (id_in name n) (group_facts (Some g) asks) ≡ cond (is_same g.name name) (id_of g.id n) None
@@ -174,10 +131,7 @@ module _ (s : Saying) (asks : List Ask) (no_list : s.groups ≡ None) where
       (λ what id lines. refl) (λ id. refl) (λ g ask. refl) (λ g n id. refl) ∙ by s.there_is s.there_is_no
     where
       by : (o m : Option Name) → (list_any (shows_group name) (there_facts o) || list_any (shows_group name) (missing_facts m)) ≡ option_map_or (λ g. is_same g name) o false
-      by None None = refl
-      by None (Some h) = refl
-      by (Some g) None = (any_is_read (shows_group name)).right (is_same g name || false) ∙ (any_is_read (shows_group name)).right (is_same g name)
-      by (Some g) (Some h) = (any_is_read (shows_group name)).right (is_same g name || false) ∙ (any_is_read (shows_group name)).right (is_same g name)
+      by o m = grind (arith, any_is_read)
 
   -- and the one that is denied
   pub denied_group : (name : Name) → list_any (denies_group name) (facts_in s asks) ≡ option_map_or (λ g. is_same g name) s.there_is_no false
@@ -186,7 +140,4 @@ module _ (s : Saying) (asks : List Ask) (no_list : s.groups ≡ None) where
       (λ what id lines. refl) (λ id. refl) (λ g ask. refl) (λ g n id. refl) ∙ by s.there_is s.there_is_no
     where
       by : (o m : Option Name) → (list_any (denies_group name) (there_facts o) || list_any (denies_group name) (missing_facts m)) ≡ option_map_or (λ g. is_same g name) m false
-      by None None = refl
-      by (Some h) None = refl
-      by None (Some g) = (any_is_read (denies_group name)).right (is_same g name)
-      by (Some h) (Some g) = (any_is_read (denies_group name)).right (is_same g name)
+      by o m = grind (arith, any_is_read)

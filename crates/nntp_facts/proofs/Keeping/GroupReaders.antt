@@ -1,5 +1,5 @@
 -- What is shown of the groups that are kept.
-use Rattle.std.{proofs.Common.{◌≡◌, Bool, ◌==◌, ◌||◌, List, [], ◌∷◌, map, Some, refl, sym, ap, subst, ◌∙◌}, specs.List.{list_any, AllByRecursion}}
+use Rattle.std.{proofs.Common.{◌≡◌, Bool, ◌==◌, ◌||◌, List, [], ◌∷◌, map, Some, refl, sym, ap, subst, ◌∙◌, arith}, specs.List.{list_any, AllByRecursion}}
 use Rattle.std.specs.{List.Sorted.{IsStrictlySortedBy}, BTreeMap.{is_at}, Ordering.{nat_cmp, eq_by_cmp}, Cmp.Lexicographic.{slice_cmp, nat_list_cmp_total}}
 use Rattle.std.specs.FinMap.{FinMap, get, entries, entries_sorted, contains_key-keys, IsAntisymmetric, slice_cmp-IsAntisymmetric, nat_cmp-IsAntisymmetric}
 use Rattle.nntp_article.specs.Session.{Spool.{Name}, Machine.{is_same}}
@@ -53,9 +53,7 @@ module _ (facts : List Fact) (name : Name) (g : KeptGroup) (stand : AsksStand (a
 pub groups_shown : (facts : List Fact) (groups : FinMap (slice_cmp nat_cmp) KeptGroup)
     → ((name : Name) → AsksStand (asks_of name facts)) → AreKeptGroups facts groups → AreShownGroups facts (shown_groups groups)
 groups_shown facts groups stand kept = record {
-  ascending = subst (IsStrictlySortedBy (slice_cmp nat_cmp))
-      (sym (read_off one (λ g. g.name) (λ e. e.0) (entries groups) (λ e. refl)))
-      (sorted_keys (slice_cmp nat_cmp) (entries groups) (entries_sorted groups));
+  ascending = grind (arith, read_off, entries_sorted, sorted_keys (slice_cmp nat_cmp) (entries groups) (entries_sorted groups));
   all = λ name. any_along one (λ e. e.0) (λ g. is_same g.name name) (eq_by_cmp (slice_cmp nat_cmp) name) (entries groups) (λ e. sym (flip_text name e.0))
       ∙ sym (contains_key-keys groups name) ∙ shown_kept (told facts) groups name kept;
   each = all_along (HasShownNumbers facts) one (entries groups) (λ e i.

@@ -1,6 +1,6 @@
 -- What is held of answers that conflict: all but the last of them stand together.
-use Rattle.std.proofs.Common.{◌≡◌, ℕ, ◌<◌, ◌≤◌, ◌^◌, List, [], ◌∷◌, ◌++◌, Option, None, Some, length, slice_get, Bool, IsTrue, true, false, arith, refl, sym}
-use Rattle.std.{proofs.{Common.{ap, subst, ◌∙◌, append-nil, inl, inr}, lemmas.Bool.{and_parts, Decides.{nat_tests}}}, specs.Prelude.{⊤, MatchOption, nat_lt}}
+use Rattle.std.proofs.Common.{◌≡◌, ℕ, ◌<◌, ◌≤◌, ◌^◌, List, [], ◌∷◌, ◌++◌, Option, None, Some, length, slice_get, Bool, IsTrue, true, arith, refl, sym, ap}
+use Rattle.std.{proofs.{Common.{subst, append-nil, inl, inr}, lemmas.Bool.{and_parts, Decides.{nat_tests}}}, specs.Prelude.{⊤, MatchOption, nat_lt}}
 use Rattle.std.specs.{List.{AllByRecursion, list_all}, Option.{option_map_or}}
 use Rattle.nntp_article.specs.{Session.Machine.{is_ascending}, declared.session.profile.Profile.{Profile}}
 use Rattle.nntp_pair.specs.Inner.Pairing.{lines_in}
@@ -28,9 +28,7 @@ last_of (x ∷ xs) (y ∷ ys) [] k some e = absurd (none xs (cc))
     none (z ∷ zs) e = cc
 last_of (x ∷ xs) (y ∷ ys) (f ∷ front) k some e =
     let rest : xs ++ y ∷ ys ≡ front ++ k ∷ [] = cc in
-    let same : f ≡ x = cc in
-    let r = last_of xs (y ∷ ys) front k some rest in
-    (r.0, r.1, ap (λ z. z ∷ front) same ∙ ap (λ zs. x ∷ zs) r.2)
+    grind (arith, last_of xs (y ∷ ys) front k some rest)
 
 -- the last of ascending places is none of those before it
 not_before : (ps : List ℕ) (k : ℕ) → IsTrue (is_ascending (ps ++ k ∷ [])) → In k ps → ⊥
@@ -92,8 +90,7 @@ module _ (profile : Profile) (bad : Placed) (answers : List Placed) where
   -- so they are told
   pub told_front : (front : List ℕ) (k : Kept) (does : Bool) → ((SomeHas profile (told_with profile bad answers front) → ⊥) → ⊥) → PlacesTold profile bad answers front k does
       → AreToldWith profile bad answers front k
-  told_front front k true stand told = told
-  told_front front k false stand none = absurd (stand none)
+  told_front front k does stand told = grind arith
 
 -- ---- what is held
 
@@ -118,9 +115,7 @@ module _ (profile : Profile) (bad : Placed) (answers : List Placed) (fits : AllB
   }
     where
       small : size (told_with profile bad answers []) < 2 ^ 210
-      small = let one = told_size profile bad few in
-          let le : size (told profile bad) < 2 ^ 210 = omega (arith, one) in
-          subst (λ facts. size facts < 2 ^ 210) (sym (append-nil (told profile bad))) le
+      small = grind (arith, told_size, append-nil)
 
   -- of one that conflicts with others
   pub held_behind : (front : List ℕ) (k : ℕ) → (SomeHas profile (told_with profile bad answers (front ++ k ∷ [])) → ⊥) → (last : Placed) → slice_get answers k ≡ Some last

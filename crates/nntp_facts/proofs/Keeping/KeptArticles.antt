@@ -1,14 +1,14 @@
 -- What is kept of articles, and what once something is said of an id.
-use Rattle.std.proofs.Common.{inl, inr, ◌≡◌, ◌↔◌, Bool, true, false, cond, ◌||◌, not, IsTrue, List, [], ◌∷◌, Option, None, Some, is_some, refl, sym, ap, subst}
-use Rattle.std.{proofs.{Common.{◌∙◌}, lemmas.Bool.{true≢false, false_from_ne_true, not-true}}, specs.Prelude.{IsFalse, MatchOption, ⊤, unwrap_or}}
-use Rattle.std.specs.{List.{list_any, filter}, Option.{option_or, option_map_or}, Cmp.{eq_by_cmp_equiv, Lexicographic.{slice_cmp, same_text}}}
-use Rattle.std.specs.{Cmp.Lexicographic.{nat_list_cmp_total}, Ordering.{nat_cmp, eq_by_cmp}, FinMap.{FinMap, get, entries, IsAntisymmetric, insert, get-insert}}
-use Rattle.std.specs.FinMap.{slice_cmp-IsAntisymmetric, nat_cmp-IsAntisymmetric}
+use Rattle.std.proofs.Common.{◌≡◌, ◌↔◌, Bool, true, false, cond, ◌||◌, not, IsTrue, List, [], ◌∷◌, Option, None, Some, is_some, refl, sym, ap, subst, ◌∙◌}
+use Rattle.std.{proofs.{Common.{arith}, lemmas.Bool.{true≢false, false_from_ne_true}}, specs.{Prelude.{MatchOption, ⊤, unwrap_or}, List.{list_any, filter}}}
+use Rattle.std.specs.{Option.{option_or, option_map_or}, Cmp.{eq_by_cmp_equiv, Lexicographic.{slice_cmp, same_text, nat_list_cmp_total}}, Ordering.{nat_cmp}}
+use Rattle.std.specs.{Ordering.{eq_by_cmp}, FinMap.{FinMap, get, entries, IsAntisymmetric, insert, get-insert, slice_cmp-IsAntisymmetric}}
+use Rattle.std.specs.FinMap.{nat_cmp-IsAntisymmetric}
 use Rattle.nntp_wire.proofs.ShownMaps.{equal_is}
 use Rattle.nntp_article.specs.{Article.Parts.{Id, Line}, Session.Machine.{is_same}}
 use Rattle.nntp_said.specs.Facts.{Fact}
-use Rattle.nntp_theory.specs.{Given.{is_mentioned}, Together.{shows_article, denies_article}, Inner.Together.{SaidOfArticle, said_of, said_nothing, join_said}}
-use Rattle.nntp_theory.{specs.Inner.Together.{AreSame, JoinArticle}, proofs.{Maps.{get_in, in_get}, Members.{In}, Together.FactsOfASpoolStand.{same_itself}}}
+use Rattle.nntp_theory.specs.{Given.{is_mentioned}, Together.{shows_article, denies_article}, Inner.Together.{said_of, said_nothing, join_said, AreSame}}
+use Rattle.nntp_theory.{specs.Inner.Together.{JoinArticle}, proofs.{Maps.{get_in, in_get}, Members.{In}, Together.FactsOfASpoolStand.{same_itself}}}
 use Rattle.nntp_facts.specs.Inner.{Kept.{KeptArticle, said_kept, AreKeptArticles}, Articles.{is_there, with_new, articles_in}, Saying.{OfArticle}}
 use Rattle.nntp_facts.{specs.Inner.KeptSaying.{kept_by, ArticleJoins, AreKeptThen}, proofs.Keeping.SaidOfArticles.{nothing_more, nothing_joins}}
 
@@ -19,9 +19,7 @@ Articles = FinMap (slice_cmp nat_cmp) KeptArticle
 
 -- ids that differ have places of their own
 apart : (id q : Id) → is_same id q ≡ false → eq_by_cmp (slice_cmp nat_cmp) q id ≡ false
-apart id q e = false_from_ne_true _ (λ t.
-    let one : q ≡ id = slice_cmp-IsAntisymmetric nat_cmp-IsAntisymmetric q id (equal_is (slice_cmp nat_cmp q id) t) in
-    true≢false (sym (same_itself id) ∙ ap (is_same id) (sym one) ∙ e))
+apart id q e = grind (arith, false_from_ne_true, slice_cmp-IsAntisymmetric, nat_cmp-IsAntisymmetric, equal_is, true≢false, same_itself)
 
 -- what is found elsewhere, after an id is put in
 pub get_elsewhere : (articles : Articles) (id q : Id) (a : KeptArticle) → is_same id q ≡ false → get (insert articles id a) q ≡ get articles q
@@ -33,18 +31,10 @@ get_there articles id a = get-insert nat_list_cmp_total articles id a id ∙ ap 
 
 -- the same, where it is put in if it wasn't there
 pub new_elsewhere : (articles : Articles) (id q : Id) (a : KeptArticle) → is_same id q ≡ false → get (with_new articles id a) q ≡ get articles q
-new_elsewhere articles id q a e = by (is_some (get articles id))
-  where
-    by : (b : Bool) → get (cond b articles (insert articles id a)) q ≡ get articles q
-    by true = refl
-    by false = get_elsewhere articles id q a e
+new_elsewhere articles id q a e = grind (arith, get_elsewhere)
 
 pub new_there : (articles : Articles) (id : Id) (a : KeptArticle) → get (with_new articles id a) id ≡ Some (unwrap_or (get articles id) a)
-new_there articles id a = by (get articles id) refl
-  where
-    by : (o : Option KeptArticle) → get articles id ≡ o → get (cond (is_some o) articles (insert articles id a)) id ≡ Some (unwrap_or o a)
-    by None e = get_there articles id a
-    by (Some b) e = e
+new_there articles id a = grind (arith, get_there)
 
 -- ---- more is kept of an id
 
@@ -58,38 +48,15 @@ kept_with None more = more
 kept_with (Some a) more = record { is_denied = a.is_denied; is_sent = a.is_sent || more.is_sent; head = option_or a.head more.head; body = option_or a.body more.body }
 
 pub same_as_none : (lines : Option (List Line)) → AreSame lines None
-same_as_none None = tt
-same_as_none (Some x) = tt
+same_as_none lines = grind arith
 
 -- it may exactly if it joins what is said
 kept_joins : (o : Option KeptArticle) (more : KeptArticle) → JoinArticle (said_kept o) (said_kept (Some more)) ↔ MayKeep o more
-kept_joins None more = (λ j. tt, λ h. record { shown = λ t. refl; denied = λ t. refl; head = same_as_none more.head; body = same_as_none more.body })
-kept_joins (Some a) more = (
-  λ j. (alike a.is_denied more.is_denied j.shown j.denied, j.head, j.body),
-  λ h. record { shown = λ t. h.0 ∙ not-true more.is_denied t; denied = λ t. ap not (h.0 ∙ t); head = h.1; body = h.2 },
-)
-  where
-    alike : (a b : Bool) → (IsTrue (not b) → IsFalse a) → (IsTrue b → IsFalse (not a)) → a ≡ b
-    alike true true shown denied = refl
-    alike false false shown denied = refl
-    alike true false shown denied = shown refl
-    alike false true shown denied = sym (denied refl)
+kept_joins o more = grind arith
 
 -- then what is said in all is kept
 kept_said : (o : Option KeptArticle) (more : KeptArticle) → MayKeep o more → join_said (said_kept o) (said_kept (Some more)) ≡ said_kept (Some (kept_with o more))
-kept_said None more h = refl
-kept_said (Some a) more h = λ i. record {
-  is_mentioned = true;
-  is_shown = as_before (not a.is_denied) (not more.is_denied) (ap not h.0) i;
-  is_denied = as_before a.is_denied more.is_denied h.0 i;
-  is_sent = a.is_sent || more.is_sent;
-  head = option_or a.head more.head;
-  body = option_or a.body more.body;
-}
-  where
-    as_before : (a b : Bool) → a ≡ b → (a || b) ≡ a
-    as_before true b e = refl
-    as_before false b e = sym e
+kept_said o more h = grind arith
 
 module _ (facts : List Fact) (old : Articles) (id : Id) (said : OfArticle) (kept : AreKeptArticles facts old) where
   -- what is said of the id joins exactly if it may be kept
@@ -113,33 +80,20 @@ module _ (facts : List Fact) (old : Articles) (id : Id) (said : OfArticle) (kept
   article_kept new may here others q = ap (λ s. join_said s (cond (is_same id q) (said_kept (Some (kept_by said))) said_nothing)) (kept q) ∙ by (is_same id q) refl
     where
       by : (b : Bool) → is_same id q ≡ b → join_said (said_kept (get old q)) (cond b (said_kept (Some (kept_by said))) said_nothing) ≡ said_kept (get new q)
-      by true e = subst (λ q. join_said (said_kept (get old q)) (said_kept (Some (kept_by said))) ≡ said_kept (get new q)) (same_text id q (sym e))
-          (kept_said (get old id) (kept_by said) may ∙ ap said_kept (sym here))
+      by true e = grind (arith, same_text id q (sym e), kept_said (get old id) (kept_by said) may)
       by false e = nothing_more (said_kept (get old q)) ∙ ap said_kept (sym (others q e))
 
 -- ---- what is said of an id, read off what is kept
 
 module _ (facts : List Fact) (articles : Articles) (id : Id) (kept : AreKeptArticles facts articles) where
   pub mentioned_kept : is_mentioned facts id ≡ is_some (get articles id)
-  mentioned_kept = ap (λ (s : SaidOfArticle). s.is_mentioned) (kept id) ∙ by (get articles id)
-    where
-      by : (o : Option KeptArticle) → (said_kept o).is_mentioned ≡ is_some o
-      by None = refl
-      by (Some a) = refl
+  mentioned_kept = grind arith
 
   pub shown_kept : list_any (shows_article id) facts ≡ is_there (get articles id)
-  shown_kept = ap (λ (s : SaidOfArticle). s.is_shown) (kept id) ∙ by (get articles id)
-    where
-      by : (o : Option KeptArticle) → (said_kept o).is_shown ≡ is_there o
-      by None = refl
-      by (Some a) = refl
+  shown_kept = grind arith
 
   pub denied_kept : list_any (denies_article id) facts ≡ option_map_or (λ a. a.is_denied) (get articles id) false
-  denied_kept = ap (λ (s : SaidOfArticle). s.is_denied) (kept id) ∙ by (get articles id)
-    where
-      by : (o : Option KeptArticle) → (said_kept o).is_denied ≡ option_map_or (λ a. a.is_denied) o false
-      by None = refl
-      by (Some a) = refl
+  denied_kept = grind arith
 
 -- ---- the ids that have articles
 
@@ -149,14 +103,7 @@ in_filter p x [] = (λ i. absurd i, λ h. absurd h.0)
 in_filter {A} p x (y ∷ ys) = by (p y) refl (in_filter p x ys)
   where
     by : (b : Bool) → p y ≡ b → In x (filter p ys) ↔ (In x ys × IsTrue (p x)) → In x (cond b (y ∷ filter p ys) (filter p ys)) ↔ (In x (y ∷ ys) × IsTrue (p x))
-    by true e h = (
-      λ i. elim i [ inl s ↦ (inl s, ap p (sym s) ∙ e) | inr j ↦ (inr (h.0 j).0, (h.0 j).1) ],
-      λ i. elim i.0 [ inl s ↦ inl s | inr j ↦ inr (h.1 (j, i.1)) ],
-    )
-    by false e h = (
-      λ i. (inr (h.0 i).0, (h.0 i).1),
-      λ i. elim i.0 [ inl s ↦ absurd (true≢false (sym i.1 ∙ ap p (sym s) ∙ e)) | inr j ↦ h.1 (j, i.1) ],
-    )
+    by b e h = grind (arith, true≢false)
 
 -- the ids that are listed are those that have articles, each with what is kept of it
 pub listed : (facts : List Fact) (articles : Articles) (id : Id) (a : KeptArticle) → AreKeptArticles facts articles

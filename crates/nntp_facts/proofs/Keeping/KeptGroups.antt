@@ -1,9 +1,9 @@
 -- What is kept of groups, once more is told of one.
-use Rattle.std.proofs.Common.{◌≡◌, ℕ, Bool, true, false, ◌==◌, cond, List, ◌++◌, Option, None, Some, is_some, MatchOption, refl, sym, ap, subst, ◌∙◌}
+use Rattle.std.proofs.Common.{◌≡◌, ℕ, Bool, true, ◌==◌, cond, List, ◌++◌, Option, None, Some, is_some, MatchOption, refl, sym, ap, subst, ◌∙◌, arith}
 use Rattle.std.{proofs.lemmas.{Bool.{true≢false, eqb-true, or_left}, List.Folds.{list_any-append}}, specs.{Option.{option_or}, FinMap.{FinMap, get, insert}}}
 use Rattle.std.specs.{FinMap.{empty, get-insert, get-empty, slice_cmp-IsAntisymmetric, nat_cmp-IsAntisymmetric}, Ordering.{nat_cmp, eq_by_cmp}}
 use Rattle.std.specs.{Cmp.{nat_cmp_total, IsTotalOrder, Lexicographic.{slice_cmp, same_text, nat_list_cmp_total}}, declared.cmp.Ordering.{Ordering}}
-use Rattle.std.specs.{Prelude.{◌↔◌, IfSome}, List.{list_any}}
+use Rattle.std.specs.{Prelude.{◌↔◌}, List.{list_any}}
 use Rattle.nntp_wire.proofs.ShownMaps.{insert-same}
 use Rattle.nntp_article.specs.{Article.Parts.{Id}, Session.{Spool.{Name}, Machine.{is_same}}}
 use Rattle.nntp_said.specs.Asks.{Ask}
@@ -22,11 +22,7 @@ kept_of tells groups name o is kept = subst (λ o. MatchOption o (IsUntold (tell
 
 -- a group that is shown is kept
 pub shown_kept : (tells : Name → Told) (groups : Groups) (name : Name) → AreKept tells groups → is_some (get groups name) ≡ (tells name).is_shown
-shown_kept tells groups name kept = by (get groups name) (kept name)
-  where
-    by : (o : Option KeptGroup) → MatchOption o (IsUntold (tells name)) (IsKeptGroup (tells name)) → is_some o ≡ (tells name).is_shown
-    by None h = sym h.not_shown
-    by (Some g) h = sym h.shown
+shown_kept tells groups name kept = grind arith
 
 -- no number from 2^64 on is left open by more
 pub bounded_more : (asks more : List Ask) → AreBounded asks → AreBounded (asks ++ more)
@@ -35,13 +31,7 @@ bounded_more asks more bounded n large = list_any-append (λ ask. denies ask n) 
 -- one thing more is kept in a map
 grown : {K X : Type 0} {R : K → K → Ordering} (o : IsTotalOrder R) (m : FinMap R X) (p : Option X) (q k : K) (x : X) (b : Bool)
     → eq_by_cmp R k q ≡ b → get m k ≡ p → (b ≡ true → IsOr p x) → get (insert m q x) k ≡ option_or p (cond b (Some x) None)
-grown {K} {X} {R} o m p q k x b same had agrees = get-insert o m q x k ∙ ap (λ b. cond b (Some x) (get m k)) same ∙ by b p had agrees
-  where
-    by : (b : Bool) (p : Option X) → get m k ≡ p → (b ≡ true → IsOr p x) → cond b (Some x) (get m k) ≡ option_or p (cond b (Some x) None)
-    by true None had agrees = refl
-    by true (Some y) had agrees = ap Some (agrees refl)
-    by false None had agrees = had
-    by false (Some y) had agrees = had
+grown o m p q k x b same had agrees = grind (arith, get-insert)
 
 -- the ids at numbers then, and the numbers of ids
 ids_grown : (t : Told) (ids : FinMap nat_cmp Id) (places : FinMap (slice_cmp nat_cmp) ℕ) (id : Option (ℕ × Id))
@@ -86,39 +76,25 @@ new_kept before after groups name h asks id kept none bounded free changes sum i
 
 -- nothing has an id that may not have this one
 pub empty_may_have : (id : Option (ℕ × Id)) → MayHave empty empty id
-empty_may_have None = tt
-empty_may_have (Some e) = (subst (λ o. IfSome o (λ other. e.1 ≡ other)) (sym (get-empty nat_cmp e.0)) tt, subst (λ o. IfSome o (λ other. e.0 ≡ other)) (sym (get-empty (slice_cmp nat_cmp) e.1)) tt)
+empty_may_have id = grind (arith, get-empty)
 
 -- where nothing is, nothing disagrees
 pub empty_agree : (g : KeptGroup) (id : Option (ℕ × Id)) → g.ids ≡ empty → Agree (get g.ids) (get g.places) id
-empty_agree g None no_ids = tt
-empty_agree g (Some e) no_ids = λ is. absurd (let none : None ≡ Some e.1 = sym (ap (λ m. get m e.0) no_ids ∙ get-empty nat_cmp e.0) ∙ is in cc)
+empty_agree g id no_ids = grind (arith, get-empty)
 
 -- an id that is at its number already is put there again
 pub same_id : (g : KeptGroup) (n : ℕ) (id : Id) (there : Bool) → is_some (get g.ids n) ≡ there → there ≡ true → IsOr (get g.ids n) id → (get g.ids n ≡ Some id → get g.places id ≡ Some n)
     → (g.ids ≡ insert g.ids n id) × (g.places ≡ insert g.places id n)
-same_id g n id there is known free each = by (get g.ids n) refl free
-  where
-    by : (o : Option Id) → get g.ids n ≡ o → IsOr o id → (g.ids ≡ insert g.ids n id) × (g.places ≡ insert g.places id n)
-    by None e f = absurd (true≢false (sym known ∙ sym is ∙ ap is_some e))
-    by (Some other) e f =
-        let here : get g.ids n ≡ Some id = e ∙ ap Some (sym f) in
-        (sym (insert-same nat_cmp_total nat_cmp-IsAntisymmetric g.ids n id here), sym (insert-same nat_list_cmp_total (slice_cmp-IsAntisymmetric nat_cmp-IsAntisymmetric) g.places id n (each here)))
+same_id g n id there is known free each = grind (arith, true≢false, insert-same, nat_cmp_total, nat_cmp-IsAntisymmetric, nat_list_cmp_total, slice_cmp-IsAntisymmetric)
 
 -- what is kept agrees where what is told does
 pub agree_kept : (t : Told) (g : KeptGroup) (id : Option (ℕ × Id)) → IsKeptGroup t g → Agree t.ids t.places id → Agree (get g.ids) (get g.places) id
-agree_kept t g None was each = tt
-agree_kept t g (Some e) was each = λ is. was.places e.1 ∙ each (sym (was.ids e.0) ∙ is)
+agree_kept t g id was each = grind arith
 
 -- what is kept may have the id exactly if what is told may
 pub may_have_told : (t : Told) (g : KeptGroup) (id : Option (ℕ × Id)) → ((n : ℕ) → get g.ids n ≡ t.ids n) → ((i : Id) → get g.places i ≡ t.places i) → MayHave g.ids g.places id ↔ MayShow t id
-may_have_told t g None ids places = (λ h. tt, λ h. tt)
-may_have_told t g (Some e) ids places = (
-  λ h. (subst (λ o. IfSome o (λ other. e.1 ≡ other)) (ids e.0) h.0, subst (λ o. IfSome o (λ other. e.0 ≡ other)) (places e.1) h.1),
-  λ h. (subst (λ o. IfSome o (λ other. e.1 ≡ other)) (sym (ids e.0)) h.0, subst (λ o. IfSome o (λ other. e.0 ≡ other)) (sym (places e.1)) h.1),
-)
+may_have_told t g id ids places = grind arith
 
 -- of a group of which nothing is told, any id may be shown
 pub untold_may_show : (t : Told) (id : Option (ℕ × Id)) → IsUntold t → MayShow t id
-untold_may_show t None was = tt
-untold_may_show t (Some e) was = (subst (λ o. IfSome o (λ other. e.1 ≡ other)) (sym (was.no_ids e.0)) tt, subst (λ o. IfSome o (λ other. e.0 ≡ other)) (sym (was.no_places e.1)) tt)
+untold_may_show t id was = grind arith

@@ -1,11 +1,10 @@
 -- What is kept of ids: of those that have articles, and of those that are denied.
-use Rattle.std.proofs.Common.{◌≡◌, ℕ, Bool, true, false, cond, ◌&&◌, ◌||◌, not, List, [], ◌∷◌, map, Vec, Option, None, Some, is_some, option_map, refl, sym, ap}
-use Rattle.std.proofs.{Common.{subst, ◌∙◌}, lemmas.{Bool.{true≢false}, Map.Text.{is_eq-slice_cmp}, Slice.Eq.{bytes_eq-Decides}, Str.{IsUtf8-string_bytes}}}
-use Rattle.std.specs.{Prelude.{unwrap_or}, List.{list_any, filter}, Option.{option_or, option_map_or}, declared.cmp.Ordering.{Ordering, TheVariants.{Less}}}
-use Rattle.std.specs.{declared.{cmp.Ordering.TheVariants.{Equal, Greater}, rc.RcStr.{RcStr}}, Ordering.{nat_cmp, is_eq, eq_by_cmp}}
-use Rattle.std.specs.{Cmp.Lexicographic.{slice_cmp, nat_list_cmp_total, same_text}, FinMap.{get, insert, entries, find, put, from_entries, get-insert}}
-use Rattle.std.specs.FinMap.{get-entries, entries-insert, same_map, slice_cmp-IsAntisymmetric, nat_cmp-IsAntisymmetric, Entries.{by_order}}
-use Rattle.std.specs.{BTreeSet.{insert_key}, Map.{lookup, set_value}, Str.{IsUtf8}, Rc.{rc_str_bytes}}
+use Rattle.std.proofs.Common.{◌≡◌, ℕ, Bool, true, false, cond, ◌&&◌, not, List, [], ◌∷◌, map, Vec, Option, None, Some, is_some, option_map, refl, sym, ap}
+use Rattle.std.proofs.{Common.{subst, ◌∙◌, arith}, lemmas.{Bool.{true≢false}, Map.Text.{is_eq-slice_cmp}, Slice.Eq.{bytes_eq-Decides}}}
+use Rattle.std.{proofs.lemmas.Str.{IsUtf8-string_bytes}, specs.{List.{list_any, filter}, Option.{option_or, option_map_or}, declared.cmp.Ordering.{Ordering}}}
+use Rattle.std.specs.{declared.rc.RcStr.{RcStr}, Ordering.{nat_cmp, is_eq}, Cmp.Lexicographic.{slice_cmp, nat_list_cmp_total, same_text}, FinMap.{get, insert}}
+use Rattle.std.specs.FinMap.{entries, find, put, from_entries, get-insert, get-entries, entries-insert, same_map, slice_cmp-IsAntisymmetric}
+use Rattle.std.specs.{FinMap.{nat_cmp-IsAntisymmetric, Entries.{by_order}}, BTreeSet.{insert_key}, Map.{lookup, set_value}, Str.{IsUtf8}, Rc.{rc_str_bytes}}
 use Rattle.nntp_wire.proofs.ShownMaps.{get-shown, replaced}
 use Rattle.nntp_article.specs.{Article.Parts.{Id, Line}, Session.Machine.{is_same}}
 use Rattle.nntp_theory.{specs.Inner.Together.{SaidOfArticle, said_nothing}, proofs.Together.TwoListsOfFacts.{or_none}}
@@ -19,44 +18,20 @@ use Rattle.nntp_facts.proofs.Keeping.{KeptArticles.{new_elsewhere, new_there}, K
 abbrev pub if_denied : Bool → Option KeptArticle
 if_denied b = cond b (Some denied) None
 
-or_some : (o : Option KeptArticle) (a : KeptArticle) → Some (unwrap_or o a) ≡ option_or o (Some a)
-or_some None a = refl
-or_some (Some b) a = refl
-
-or_either : (o : Option KeptArticle) (a b : Bool) → option_or (option_or o (if_denied b)) (if_denied a) ≡ option_or o (if_denied (a || b))
-or_either (Some x) a b = refl
-or_either None true true = refl
-or_either None true false = refl
-or_either None false b = or_none (if_denied b)
-
-or_put : (b : Bool) (a : KeptArticle) (o x : Option KeptArticle) → option_or (cond b (Some a) o) x ≡ cond b (Some a) (option_or o x)
-or_put true a o x = refl
-or_put false a o x = refl
-
 get-with_new : (articles : Articles) (id q : Id) (a : KeptArticle) → get (with_new articles id a) q ≡ option_or (get articles q) (cond (is_same id q) (Some a) None)
-get-with_new articles id q a = by (is_same id q) refl
-  where
-    by : (b : Bool) → is_same id q ≡ b → get (with_new articles id a) q ≡ option_or (get articles q) (cond b (Some a) None)
-    by true e = subst (λ q. get (with_new articles id a) q ≡ option_or (get articles q) (Some a)) (same_text id q (sym e)) (new_there articles id a ∙ or_some (get articles id) a)
-    by false e = new_elsewhere articles id q a e ∙ sym (or_none (get articles q))
+get-with_new articles id q a = grind (arith, same_text, new_there, new_elsewhere, or_none)
 
 -- an id is denied where it is one of these, and has no article
 get-with_denied : (articles : Articles) (ids : List Id) (q : Id) → get (with_denied articles ids) q ≡ option_or (get articles q) (if_denied (list_any (λ id. is_same id q) ids))
 get-with_denied articles [] q = sym (or_none (get articles q))
-get-with_denied articles (id ∷ ids) q =
-    get-with_new (with_denied articles ids) id q denied ∙ ap (λ o. option_or o (if_denied (is_same id q))) (get-with_denied articles ids q)
-    ∙ or_either (get articles q) (is_same id q) (list_any (λ id. is_same id q) ids)
+get-with_denied articles (id ∷ ids) q = grind (arith, get-with_new (with_denied articles ids) id q denied, get-with_denied articles ids q)
 
 same_articles : (a b : Articles) → ((q : Id) → get a q ≡ get b q) → a ≡ b
 same_articles = same_map nat_list_cmp_total (slice_cmp-IsAntisymmetric nat_cmp-IsAntisymmetric)
 
 -- an article is put in beside denied ids
 pub with_denied-insert : (articles : Articles) (ids : List Id) (id : Id) (a : KeptArticle) → with_denied (insert articles id a) ids ≡ insert (with_denied articles ids) id a
-with_denied-insert articles ids id a = same_articles _ _ (λ q.
-    let is = eq_by_cmp (slice_cmp nat_cmp) q id in
-    let others = if_denied (list_any (λ id. is_same id q) ids) in
-    get-with_denied (insert articles id a) ids q ∙ ap (λ o. option_or o others) (get-insert nat_list_cmp_total articles id a q) ∙ or_put is a (get articles q) others
-    ∙ sym (get-insert nat_list_cmp_total (with_denied articles ids) id a q ∙ ap (cond is (Some a)) (get-with_denied articles ids q)))
+with_denied-insert articles ids id a = grind (arith, same_articles, get-with_denied, get-insert, nat_list_cmp_total)
 
 -- one more id is denied
 pub one_more_denied : {A : Type 0} (articles : Articles) (ks : List (Vec ℕ A)) (k : Vec ℕ A)
@@ -73,9 +48,7 @@ filter-put {K = K} {X = X} R p k v (e ∷ es) fails none = by (R k e.0) none (fi
   where
     by : (r : Ordering) → cond (is_eq r) (Some e.1) (find R k es) ≡ None → (find R k es ≡ None → filter (λ e. p e.1) (put R k v es) ≡ filter (λ e. p e.1) es)
         → filter (λ e. p e.1) (by_order r ((k, v) ∷ e ∷ es) ((e.0, v) ∷ es) (e ∷ put R k v es)) ≡ filter (λ e. p e.1) (e ∷ es)
-    by Less none more = rw fails refl
-    by Equal none more = cc
-    by Greater none more = ap (λ (fs : List (K × X)). cond (p e.1) (e ∷ fs) fs) (more none)
+    by r none more = grind arith
 
 -- the ids that have articles are those that have them without the denied ones
 pub articles-with_denied : (articles : Articles) (ids : List Id) → articles_in (entries (with_denied articles ids)) ≡ articles_in (entries articles)
@@ -124,48 +97,18 @@ module _ {A : Type 0} (es : List (RcStr A × KnownArticle A)) (ks : List (Vec �
 
   -- the id has an article exactly if one is known
   pub there : is_some known ≡ is_there (get articles id)
-  there = by known is_denied ∙ ap is_there (sym found)
-    where
-      by : (o : Option (KnownArticle A)) (b : Bool) → is_some o ≡ is_there (option_or (option_map known_article o) (if_denied b))
-      by (Some a) b = refl
-      by None true = refl
-      by None false = refl
-
-  -- and is kept exactly if it has one, or is denied
-  mentioned : (is_there (get articles id) || is_denied) ≡ is_some (get articles id)
-  mentioned = ap (λ o. is_there o || is_denied) found ∙ by known is_denied ∙ ap is_some (sym found)
-    where
-      by : (o : Option (KnownArticle A)) (b : Bool) → (is_there (option_or (option_map known_article o) (if_denied b)) || b) ≡ is_some (option_or (option_map known_article o) (if_denied b))
-      by (Some a) b = refl
-      by None true = refl
-      by None false = refl
-
-  pub kept_if_there : is_there (get articles id) ≡ true → true ≡ is_some (get articles id)
-  kept_if_there e = sym (ap (λ b. b || is_denied) e) ∙ mentioned
+  there = grind (arith, found)
 
   pub kept_if_denied : is_there (get articles id) ≡ false → is_denied ≡ is_some (get articles id)
-  kept_if_denied e = sym (ap (λ b. b || is_denied) e) ∙ mentioned
+  kept_if_denied e = grind (arith, found)
 
   -- the id is denied exactly if it is one of those that are, and no article of it is known
   pub denied_there : (is_denied && not (is_there (get articles id))) ≡ option_map_or (λ a. a.is_denied) (get articles id) false
-  denied_there = ap (λ o. is_denied && not (is_there o)) found ∙ by known is_denied ∙ ap (λ o. option_map_or (λ a. a.is_denied) o false) (sym found)
-    where
-      by : (o : Option (KnownArticle A)) (b : Bool) → (b && not (is_there (option_or (option_map known_article o) (if_denied b))))
-          ≡ option_map_or (λ a. a.is_denied) (option_or (option_map known_article o) (if_denied b)) false
-      by (Some a) true = refl
-      by (Some a) false = refl
-      by None true = refl
-      by None false = refl
+  denied_there = grind (arith, found)
 
   -- where it isn't, an article of it is known or nothing is kept
   pub kept_known : option_map_or (λ a. a.is_denied) (get articles id) false ≡ false → get articles id ≡ option_map known_article known
-  kept_known free = found ∙ by known is_denied (ap (λ o. option_map_or (λ a. a.is_denied) o false) (sym found) ∙ free)
-    where
-      by : (o : Option (KnownArticle A)) (b : Bool) → option_map_or (λ a. a.is_denied) (option_or (option_map known_article o) (if_denied b)) false ≡ false
-          → option_or (option_map known_article o) (if_denied b) ≡ option_map known_article o
-      by (Some a) b e = refl
-      by None true e = absurd (true≢false e)
-      by None false e = refl
+  kept_known free = grind (arith, found, true≢false)
 
   -- what is kept of an article that is known
   pub part_known : (a : KnownArticle A) → Some a ≡ known → get articles id ≡ Some (known_article a)
@@ -173,11 +116,7 @@ module _ {A : Type 0} (es : List (RcStr A × KnownArticle A)) (ks : List (Vec �
 
   -- nothing was sent of an id of which none is
   pub no_part_known : (part : SaidOfArticle → Option (List Line)) → part said_nothing ≡ None → part (said_kept (Some denied)) ≡ None → None ≡ known → part (said_kept (get articles id)) ≡ None
-  no_part_known part nothing none e = ap (λ o. part (said_kept o)) (found ∙ ap (λ o. option_or (option_map known_article o) (if_denied is_denied)) (sym e)) ∙ by is_denied
-    where
-      by : (b : Bool) → part (said_kept (if_denied b)) ≡ None
-      by true = none
-      by false = nothing
+  no_part_known part nothing none e = grind (arith, found)
 
   -- an article that is known is another from now on
   pub replaced_known : (fs : List (RcStr A × KnownArticle A)) (old new : KnownArticle A) → Some old ≡ known → fs ≡ set_value (λ k. is_eq (slice_cmp nat_cmp id (rc_str_bytes k))) es new
@@ -186,7 +125,4 @@ module _ {A : Type 0} (es : List (RcStr A × KnownArticle A)) (ks : List (Vec �
       let articles_only : Articles = from_entries (entries_value es) in
       let ids : List Id = map (λ k. k.items) ks in
       let r = replaced (slice_cmp nat_cmp) (λ k. rc_str_bytes k) known_article nat_list_cmp_total
-      (slice_cmp-IsAntisymmetric nat_cmp-IsAntisymmetric) es fs articles_only id old new refl had is in (
-        ap (λ m. with_denied m ids) r.0 ∙ with_denied-insert articles_only ids id (known_article new) ∙ ap (λ m. insert m id (known_article new)) view,
-        found ∙ ap (λ o. option_or (option_map known_article o) (if_denied is_denied)) (sym had),
-      )
+      (slice_cmp-IsAntisymmetric nat_cmp-IsAntisymmetric) es fs articles_only id old new refl had is in grind (arith, with_denied-insert, found)

@@ -1,13 +1,13 @@
 -- Names that are kept: more of them, and whether a name is denied.
-use Rattle.std.proofs.Common.{◌≡◌, ℕ, Bool, true, false, ◌||◌, ◌&&◌, not, IsTrue, List, [], ◌∷◌, ◌++◌, map, Option, None, Some, inl, refl, sym, ap, subst, ◌∙◌}
+use Rattle.std.proofs.Common.{◌≡◌, ℕ, Bool, true, false, ◌||◌, ◌&&◌, IsTrue, List, [], ◌∷◌, ◌++◌, map, Option, None, Some, refl, sym, ap, subst, ◌∙◌, arith}
 use Rattle.std.{proofs.lemmas.{Bool.{true≢false, or_left}, List.Folds.{list_any-append}}, specs.Prelude.{length, IfSome, is_some, cond}}
-use Rattle.std.specs.{declared.cmp.Ordering.{Ordering, TheVariants.{Less, Equal, Greater}}, Ordering.{nat_cmp, match_ordering, is_eq}}
-use Rattle.std.specs.{Cmp.Lexicographic.{slice_cmp, same_text}, List.{AllByRecursion, list_any}, Option.{option_map_or}, BTreeSet.{insert_key}}
-use Rattle.std.specs.{BTreeMap.{insert_entry}, Map.{lookup, keys_of}}
+use Rattle.std.specs.{declared.cmp.Ordering.{Ordering, TheVariants.{Equal}}, Ordering.{nat_cmp, match_ordering, is_eq}, Cmp.Lexicographic.{slice_cmp}}
+use Rattle.std.specs.{Cmp.Lexicographic.{same_text}, List.{AllByRecursion, list_any}, Option.{option_map_or}, BTreeSet.{insert_key}, BTreeMap.{insert_entry}}
+use Rattle.std.specs.Map.{lookup, keys_of}
 use Rattle.nntp_wire.specs.{Decided.{matches_name}, Wildmat.{is_wildmat}, Listing.{ActiveValue}}
 use Rattle.nntp_article.{specs.Session.{Spool.{Name}, Machine.{is_same}}, proofs.SessionLemmas.SetKeys.{any-insert_key}}
 use Rattle.nntp_said.specs.Facts.{Fact, GroupsAre}
-use Rattle.nntp_theory.{specs.{Given.{shows_group, is_shown_group}, Together.{denies_group}}, proofs.Members.{all_at, all_from, contains_in, in_back}}
+use Rattle.nntp_theory.{specs.{Given.{is_shown_group}, Together.{denies_group}}, proofs.Members.{all_at, all_from, contains_in, in_back}}
 use Rattle.nntp_facts.specs.Inner.{Kept.{KeptNames, WasAnswered, AreKeptNames}, ListedGroups.{MayList, WereListed}}
 use Rattle.nntp_facts.proofs.Keeping.{CountedGroups.{listed_still}, FactsOfOneGroup.{flip_text}}
 
@@ -53,9 +53,7 @@ module _ {V : Type 0} (text : V → List ℕ) where
       by : (r : Ordering) → keys_of (insert_entry order es k n) ≡ insert_key order (keys_of es) k
           → keys_of (match_ordering r ((k, n) ∷ x ∷ es) ((x.0, n) ∷ es) (x ∷ insert_entry order es k n)) ≡ match_ordering r
           (k ∷ x.0 ∷ keys_of es) (x.0 ∷ keys_of es) (x.0 ∷ insert_key order (keys_of es) k)
-      by Less more = refl
-      by Equal more = refl
-      by Greater more = ap (λ ks. x.0 ∷ ks) more
+      by r more = grind arith
 
   any_key : (p : List ℕ → Bool) (es : List (V × ℕ)) → list_any (λ e. p e.0) (counts es) ≡ list_any p (texts (keys_of es))
   any_key p [] = refl
@@ -63,9 +61,7 @@ module _ {V : Type 0} (text : V → List ℕ) where
 
   -- a test of the octets, once more of them were put in
   pub any_counted : (p : List ℕ → Bool) (es : List (V × ℕ)) (k : V) (n : ℕ) → list_any (λ e. p e.0) (counts (insert_entry order es k n)) ≡ (p (text k) || list_any (λ e. p e.0) (counts es))
-  any_counted p es k n =
-      any_key p (insert_entry order es k n) ∙ ap (λ ks. list_any p (texts ks)) (keys_put es k n)
-      ∙ any_put p (keys_of es) k ∙ ap (λ b. p (text k) || b) (sym (any_key p es))
+  any_counted p es k n = grind (arith, any_key, keys_put, any_put)
 
   -- what holds of each
   all_counted : (P : List ℕ × ℕ → Type 0) (es : List (V × ℕ)) (k : V) (n : ℕ) → P (text k, n) → AllByRecursion P (counts es) → AllByRecursion P (counts (insert_entry order es k n))
@@ -74,65 +70,30 @@ module _ {V : Type 0} (text : V → List ℕ) where
     where
       by : (r : Ordering) → (r ≡ Equal → text x.0 ≡ text k) → AllByRecursion P (counts (insert_entry order es k n))
           → AllByRecursion P (counts (match_ordering r ((k, n) ∷ x ∷ es) ((x.0, n) ∷ es) (x ∷ insert_entry order es k n)))
-      by Less same more = (h, all)
-      by Equal same more = (subst (λ w. P (w, n)) (sym (same refl)) h, all.1)
-      by Greater same more = (all.0, more)
+      by r same more = grind arith
 
 -- ---- names
 
 or_rotate : (d a b c : Bool) → ((a || b || c) || d) ≡ ((d || a) || b || c)
-or_rotate true true b c = refl
-or_rotate true false true c = refl
-or_rotate true false false true = refl
-or_rotate true false false false = refl
-or_rotate false true b c = refl
-or_rotate false false true c = refl
-or_rotate false false false true = refl
-or_rotate false false false false = refl
+or_rotate d a b c = grind arith
 
 or_behind : (d a b c : Bool) → ((a || b || c) || d) ≡ (a || b || (d || c))
-or_behind true true b c = refl
-or_behind true false true c = refl
-or_behind true false false true = refl
-or_behind true false false false = refl
-or_behind false true b c = refl
-or_behind false false true c = refl
-or_behind false false false true = refl
-or_behind false false false false = refl
+or_behind d a b c = grind arith
 
 -- a name that isn't shown wasn't before
 pub not_before : (facts more : List Fact) (name : Name) → is_shown_group (facts ++ more) name ≡ false → is_shown_group facts name ≡ false
-not_before facts more name e = by (is_shown_group facts name) refl
-  where
-    by : (b : Bool) → is_shown_group facts name ≡ b → b ≡ false
-    by true s = absurd (true≢false (sym (or_left (is_shown_group facts name) (is_shown_group more name) s) ∙ sym (list_any-append (shows_group name) facts more) ∙ e))
-    by false s = refl
-
-or_no : (b : Bool) → (b || false) ≡ b
-or_no true = refl
-or_no false = refl
+not_before facts more name e = grind (arith, true≢false, or_left, list_any-append)
 
 -- what was listed was so behind more facts
 pub counted_still : (facts more : List Fact) (k : KeptNames) → AreKeptNames facts k → AllByRecursion (WasAnswered (facts ++ more)) k.wildmats
-counted_still facts more k kept = all_from (WasAnswered (facts ++ more)) k.wildmats
-    (λ e i. let was = all_at (WasAnswered facts) e k.wildmats kept.wildmats i in
-    (was.0, listed_still facts more (Some e.0) e.1 was.1))
+counted_still facts more k kept = grind (arith, all_from, all_at, listed_still)
 
 pub all_still : (facts more : List Fact) (k : KeptNames) → AreKeptNames facts k → IfSome k.all_listed (WereListed (facts ++ more) None)
-all_still facts more k kept = by k.all_listed kept.all_listed
-  where
-    by : (o : Option ℕ) → IfSome o (WereListed facts None) → IfSome o (WereListed (facts ++ more) None)
-    by None were = tt
-    by (Some n) were = listed_still facts more None n were
+all_still facts more k kept = grind (arith, listed_still)
 
 -- the groups that the last fact lists were listed
 just_listed : (facts : List Fact) (p : Option (List ℕ)) (lines : List ActiveValue) (count : ℕ) → MayList p lines → length lines ≡ count → WereListed (facts ++ GroupsAre p lines ∷ []) p count
-just_listed facts p lines count may counted = record {
-  lines = lines;
-  said = contains_in (GroupsAre p lines) (facts ++ GroupsAre p lines ∷ []) (in_back (GroupsAre p lines) facts (GroupsAre p lines ∷ []) (inl refl));
-  may = may;
-  counted = counted;
-}
+just_listed facts p lines count may counted = grind (arith, contains_in, in_back)
 
 -- one more name is denied
 pub name_denied : {V : Type 0} (text : V → List ℕ) (facts more : List Fact) (old : KeptNames) (ks : List V) (name : V) → old.denied ≡ texts text ks → AreKeptNames facts old
@@ -153,19 +114,7 @@ name_denied text facts more old ks name is kept denied = record {
 -- what a list of groups denies of a name that isn't shown
 listing_denies : (facts : List Fact) (p : Option (List ℕ)) (lines : List ActiveValue) (name : Name) → is_shown_group (facts ++ GroupsAre p lines ∷ []) name ≡ false
     → list_any (denies_group name) (GroupsAre p lines ∷ []) ≡ option_map_or (λ w. matches_name w name) p true
-listing_denies facts p lines name e = by (list_any (λ line. is_same line.name name) lines) refl
-  where
-    and_yes : (b : Bool) → ((b && true) || false) ≡ b
-    and_yes true = refl
-    and_yes false = refl
-
-    by : (b : Bool) → list_any (λ line. is_same line.name name) lines ≡ b → list_any (denies_group name) (GroupsAre p lines ∷ []) ≡ option_map_or (λ w. matches_name w name) p true
-    by true l = absurd (true≢false (sym (list_any-append (shows_group name) facts (GroupsAre p lines ∷ []) ∙ or_last (is_shown_group facts name) l) ∙ e))
-      where
-        or_last : (a : Bool) → list_any (λ line. is_same line.name name) lines ≡ true → (a || (list_any (λ line. is_same line.name name) lines || false)) ≡ true
-        or_last true l = refl
-        or_last false l = ap (λ b. b || false) l
-    by false l = ap (λ b. (option_map_or (λ w. matches_name w name) p true && not b) || false) l ∙ and_yes (option_map_or (λ w. matches_name w name) p true)
+listing_denies facts p lines name e = grind (arith, true≢false, list_any-append)
 
 -- one more wildmat was answered
 pub wildmat_listed : {V : Type 0} (text : V → List ℕ) (facts : List Fact) (lines : List ActiveValue) (old : KeptNames)
@@ -196,20 +145,7 @@ wildmat_listed text facts lines old es wildmat count good may counted is kept = 
 -- all groups were listed
 pub all_listed : (facts : List Fact) (lines : List ActiveValue) (old : KeptNames) (count : ℕ) → MayList None lines → length lines ≡ count → AreKeptNames facts old
     → AreKeptNames (facts ++ GroupsAre None lines ∷ []) (record { denied = old.denied; wildmats = old.wildmats; all_listed = Some count })
-all_listed facts lines old count may counted kept = record {
-  wildmats = counted_still facts (GroupsAre None lines ∷ []) old kept;
-  all_listed = just_listed facts None lines count may counted;
-  denied = λ name e.
-      list_any-append (denies_group name) facts (GroupsAre None lines ∷ [])
-      ∙ ap (λ b. list_any (denies_group name) facts || b) (listing_denies facts None lines name e)
-      ∙ any_true (list_any (denies_group name) facts) (list_any (λ g. is_same g name) old.denied) (list_any (λ e. matches_name e.0 name) old.wildmats);
-}
-  where
-    any_true : (a d w : Bool) → (a || true) ≡ (d || true || w)
-    any_true true true w = refl
-    any_true true false w = refl
-    any_true false true w = refl
-    any_true false false w = refl
+all_listed facts lines old count may counted kept = grind (arith, counted_still, contains_in, in_back, list_any-append, true≢false)
 
 -- ---- tests
 

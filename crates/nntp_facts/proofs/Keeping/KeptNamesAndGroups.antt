@@ -1,11 +1,10 @@
 -- What is kept of names and groups once more facts are added.
-use Rattle.std.{proofs.Common.{◌≡◌, false, List, ◌++◌, MatchOption, sym, subst, ◌∙◌}, specs.{List.{list_any}, Ordering.{nat_cmp}}}
-use Rattle.std.specs.{Cmp.Lexicographic.{slice_cmp}, FinMap.{FinMap, get}}
+use Rattle.std.{proofs.Common.{◌≡◌, false, List, ◌++◌, ◌∙◌}, specs.{List.{list_any}, Ordering.{nat_cmp}, Cmp.Lexicographic.{slice_cmp}, FinMap.{FinMap}}}
 use Rattle.nntp_article.specs.Session.Spool.{Name}
 use Rattle.nntp_said.specs.Facts.{Fact}
 use Rattle.nntp_theory.{specs.Together.{denies_group}, proofs.Together.TwoListsOfFacts.{any_silent}}
-use Rattle.nntp_facts.{specs.Inner.Kept.{told, IsUntold, IsKeptGroup, KeptGroup, AreKept, KeptNames, AreKeptNames}, proofs.Keeping.KeptNames.{not_before}}
-use Rattle.nntp_facts.proofs.Keeping.{KeptNames.{counted_still, all_still}, SilentFacts.{told_same}}
+use Rattle.nntp_facts.{specs.Inner.Kept.{told, IsUntold, KeptGroup, AreKept, KeptNames, AreKeptNames}, proofs.Keeping.KeptNames.{not_before, counted_still}}
+use Rattle.nntp_facts.proofs.Keeping.{KeptNames.{all_still}, SilentFacts.{told_same}}
 
 -- ---- names
 
@@ -22,5 +21,4 @@ names_kept facts more k none kept = record {
 -- nothing is told of groups
 pub groups_kept : (facts more : List Fact) (groups : FinMap (slice_cmp nat_cmp) KeptGroup)
     → ((name : Name) → IsUntold (told more name)) → AreKept (told facts) groups → AreKept (told (facts ++ more)) groups
-groups_kept facts more groups silent kept name =
-    subst (λ t. MatchOption (get groups name) (IsUntold t) (IsKeptGroup t)) (sym (told_same facts more name (silent name))) (kept name)
+groups_kept facts more groups silent kept name = search told_same

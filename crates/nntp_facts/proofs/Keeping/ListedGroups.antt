@@ -1,12 +1,12 @@
 -- What a list of groups has to join.
-use Rattle.std.proofs.Common.{◌≡◌, ℕ, Bool, true, false, ◌||◌, cond, not, List, [], ◌∷◌, ◌++◌, Option, inl, inr, refl, sym, ap, subst, ◌∙◌, append-nil}
+use Rattle.std.proofs.Common.{◌≡◌, ℕ, Bool, true, false, ◌||◌, cond, not, List, [], ◌∷◌, ◌++◌, Option, inl, inr, refl, sym, ap, subst, ◌∙◌, append-nil, arith}
 use Rattle.std.proofs.{lemmas.Bool.{true≢false, and_parts, and_from, or_left, false_from_ne_true, not-true, true_from_ne_false}, Math.Bool.{or-false}}
 use Rattle.std.specs.{Prelude.{◌↔◌, IsFalse}, List.{AllByRecursion, list_any, list_all, flat_map}, Option.{option_map_or}, Cmp.Lexicographic.{same_text}}
 use Rattle.nntp_wire.specs.{Listing.{ActiveValue}, Decided.{matches_name}}
 use Rattle.nntp_article.specs.Session.{Spool.{Name}, Machine.{is_same, group_names, names_differ}}
 use Rattle.nntp_said.specs.{Asks.{Ask, Bounds}, Facts.{Fact, GroupsAre}}
-use Rattle.nntp_theory.specs.{Given.{asks_of, is_shown_group}, Inner.Together.{IsWellFormed, AsksStand, Together, Join}, Together.{denies_group}}
-use Rattle.nntp_theory.proofs.{Members.{In, all_at, all_from, any_in, found_in}, Together.FactsOfASpoolStand.{same_itself}}
+use Rattle.nntp_theory.{specs.{Given.{asks_of}, Inner.Together.{IsWellFormed, AsksStand, Together, Join}, Together.{denies_group}}, proofs.Members.{In, all_at}}
+use Rattle.nntp_theory.proofs.{Members.{all_from, any_in, found_in}, Together.FactsOfASpoolStand.{same_itself}}
 use Rattle.nntp_facts.{specs.Inner.ListedGroups.{is_listed, LineJoins, NoneIsMissing}, proofs.Keeping.{SilentFacts.{ids_join}, SaidOfArticles.{articles_join}}}
 
 -- the bounds that the lines report for a group
@@ -19,26 +19,20 @@ no_bounds name [] e = refl
 no_bounds name (line ∷ lines) e = by (is_same line.name name) e (no_bounds name lines)
   where
     by : (b : Bool) → (b || is_listed lines name) ≡ false → (is_listed lines name ≡ false → bounds_in name lines ≡ []) → cond b (Bounds line.low line.high ∷ []) [] ++ bounds_in name lines ≡ []
-    by true e rest = absurd (true≢false e)
-    by false e rest = rest e
+    by b e rest = grind (arith, true≢false)
 
 -- a name that differs from all of the lines' isn't listed among them
 differs : (name other : Name) (lines : List ActiveValue) → is_same name other ≡ true → list_all (λ word. not (is_same name word)) (group_names lines) ≡ true → is_listed lines other ≡ false
 differs name other [] s e = refl
 differs name other (line ∷ lines) s e =
     let p = and_parts (not (is_same name line.name)) (list_all (λ word. not (is_same name word)) (group_names lines)) e in
-    let apart : is_same line.name other ≡ false = false_from_ne_true (is_same line.name other) (λ t.
-    let here : is_same name line.name ≡ true = subst (λ n. is_same name n ≡ true) (same_text name other (sym s) ∙ sym (same_text line.name other (sym t))) (same_itself name) in
-    true≢false (sym here ∙ not-true (is_same name line.name) p.0)) in
+    let apart : is_same line.name other ≡ false = grind (arith, false_from_ne_true, same_text, same_itself, true≢false, not-true) in
     (λ i. apart i || differs name other lines s p.1 i)
 
 -- where no group is listed twice, the bounds of a listed one are those of its line
 pub bounds_at : (line : ActiveValue) (lines : List ActiveValue) → names_differ lines ≡ true → In line lines → bounds_in line.name lines ≡ Bounds line.low line.high ∷ []
 bounds_at line [] d i = absurd i
-bounds_at line (x ∷ xs) d (inl e) =
-    let p = and_parts (list_all (λ word. not (is_same x.name word)) (group_names xs)) (names_differ xs) d in
-    subst (λ line. bounds_in line.name (x ∷ xs) ≡ Bounds line.low line.high ∷ []) e
-    (λ i. cond (same_itself x.name i) (Bounds x.low x.high ∷ []) [] ++ no_bounds x.name xs (differs x.name x.name xs (same_itself x.name) p.0) i)
+bounds_at line (x ∷ xs) d (inl e) = grind (arith, and_parts, same_itself, no_bounds, differs)
 bounds_at line (x ∷ xs) d (inr i) =
     let p = and_parts (list_all (λ word. not (is_same x.name word)) (group_names xs)) (names_differ xs) d in
     let there = any_in (λ other. is_same other.name line.name) line xs i (same_itself line.name) in
@@ -64,10 +58,7 @@ module _ (facts : List Fact) (p : Option (List ℕ)) (lines : List ActiveValue) 
     λ j. (
       all_from (LineJoins facts) lines (λ line i.
           let there = any_in (λ other. is_same other.name line.name) line lines i (same_itself line.name) in
-          record {
-            free = j.names.groups line.name (or_left (is_listed lines line.name) false there);
-            bounds = subst (λ asks. AsksStand (asks_of line.name facts ++ asks)) (listing_asks line.name ∙ bounds_at line lines differ i) (j.numbers line.name);
-          }),
+          grind (arith, or_left (is_listed lines line.name) false there, listing_asks line.name, bounds_at line lines differ i)),
       λ name shown matches. true_from_ne_false (is_listed lines name) (λ e.
           let denied : denies_group name (GroupsAre p lines) ≡ true = and_from (option_map_or (λ w. matches_name w name) p true) (not (is_listed lines name)) matches (ap not e) in
           true≢false (sym shown ∙ j.names.no_groups name (or_left (denies_group name (GroupsAre p lines)) false denied))),
@@ -78,9 +69,7 @@ module _ (facts : List Fact) (p : Option (List ℕ)) (lines : List ActiveValue) 
         groups = λ name s. let f = found_in (λ line. is_same line.name name) lines (sym (or-false (is_listed lines name)) ∙ s) in subst
             (λ name. IsFalse (list_any (denies_group name) facts)) (same_text f.0.name name (sym f.2))
             (all_at (LineJoins facts) f.0 lines h.0 f.1).free;
-        no_groups = λ name d. false_from_ne_true (is_shown_group facts name) (λ shown.
-            let q = and_parts (option_map_or (λ w. matches_name w name) p true) (not (is_listed lines name)) (sym (or-false (denies_group name (GroupsAre p lines))) ∙ d) in
-            true≢false (sym (h.1 name shown q.0) ∙ not-true (is_listed lines name) q.1));
+        no_groups = grind (arith, false_from_ne_true, and_parts, or-false, true≢false, not-true);
       };
       numbers = λ name. numbers_from t differ name (is_listed lines name) refl h.0;
       ids = ids_join facts (GroupsAre p lines ∷ []) (record { ids = λ name n. refl; places = λ name id. refl });

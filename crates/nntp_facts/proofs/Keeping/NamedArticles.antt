@@ -1,11 +1,11 @@
 -- What is kept of an id, once its entry among the articles is found or made.
-use Rattle.std.{proofs.Common.{◌≡◌, ℕ, false, cond, List, map, Vec, Option, None, Some, is_some, option_map, refl, sym, ap, ◌∙◌}, specs.Prelude.{unwrap_or}}
-use Rattle.std.specs.{Option.{option_map_or}, declared.{cmp.Ordering.{Ordering, TheVariants.{Equal}}, rc.RcStr.{RcStr}}, Ordering.{nat_cmp, is_eq}}
-use Rattle.std.specs.{Cmp.Lexicographic.{slice_cmp, nat_list_cmp_total}, FinMap.{get, insert, from_entries, slice_cmp-IsAntisymmetric, nat_cmp-IsAntisymmetric}}
+use Rattle.std.{proofs.Common.{◌≡◌, ℕ, false, List, map, Vec, Option, option_map, sym, ap, ◌∙◌, arith}, specs.{Prelude.{unwrap_or}, Option.{option_map_or}}}
+use Rattle.std.specs.{declared.{cmp.Ordering.{Ordering, TheVariants.{Equal}}, rc.RcStr.{RcStr}}, Ordering.{nat_cmp, is_eq}, Cmp.Lexicographic.{slice_cmp}}
+use Rattle.std.specs.{Cmp.Lexicographic.{nat_list_cmp_total}, FinMap.{get, insert, from_entries, slice_cmp-IsAntisymmetric, nat_cmp-IsAntisymmetric}}
 use Rattle.std.specs.{Map.{lookup}, BTreeMap.{insert_entry}, Rc.{rc_str_bytes}}
 use Rattle.nntp_wire.proofs.ShownMaps.{insert-shown, insert-same}
 use Rattle.nntp_article.specs.Article.Parts.{Id}
-use Rattle.nntp_facts.specs.Inner.{Kept.{KeptArticle}, Articles.{unsent, with_new, with_denied}, ArticleView.{known_article, entries_value}}
+use Rattle.nntp_facts.specs.Inner.{Articles.{unsent, with_new, with_denied}, ArticleView.{known_article, entries_value}}
 use Rattle.nntp_facts.{specs.declared.articles.known.KnownArticle.{KnownArticle}, proofs.Keeping.{KeptArticles.{Articles}, KeptIds.{kept_known}}}
 use Rattle.nntp_facts.proofs.Keeping.KeptIds.{with_denied-insert}
 
@@ -34,17 +34,12 @@ module _ {A : Type 0} (es : List (RcStr A × KnownArticle A)) (ks : List (Vec �
         known = kept_known es ks articles view (rc_str_bytes key) (ap (λ id. option_map_or (λ a. a.is_denied) (get articles id) false) same ∙ free)
 
         by : (o : Option (KnownArticle A)) → known_article (unwrap_or o first) ≡ unwrap_or (option_map known_article o) unsent
-        by None = unknown
-        by (Some a) = refl
+        by o = grind arith
 
     -- it is kept from now on, if nothing was
     pub kept_new : (fs : List (RcStr A × KnownArticle A)) → fs ≡ insert_entry text_cmp es key a
         → with_denied (from_entries (entries_value fs)) (map (λ k. k.items) ks) ≡ with_new articles id unsent
-    kept_new fs is = put_in fs a is ∙ ap (insert articles id) had ∙ by (get articles id) refl
-      where
-        by : (o : Option KeptArticle) → get articles id ≡ o → insert articles id (unwrap_or o unsent) ≡ cond (is_some o) articles (insert articles id unsent)
-        by None e = refl
-        by (Some k) e = insert-same nat_list_cmp_total (slice_cmp-IsAntisymmetric nat_cmp-IsAntisymmetric) articles id k e
+    kept_new fs is = grind (arith, had, insert-same, nat_list_cmp_total, nat_cmp-IsAntisymmetric, put_in fs a is, slice_cmp-IsAntisymmetric)
 
 -- the text of the entry is that of the id
 pub same_key : {A : Type 0} (key held text : RcStr A) (id : Id) → text_cmp key held ≡ Equal → rc_str_bytes key ≡ id → rc_str_bytes text ≡ rc_str_bytes held → rc_str_bytes text ≡ id

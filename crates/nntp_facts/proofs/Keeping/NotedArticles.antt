@@ -1,16 +1,15 @@
 -- What is added of articles, once an id is noted.
-use Rattle.std.proofs.Common.{◌≡◌, ◌↔◌, Bool, true, false, cond, not, IsTrue, List, Option, None, Some, is_some, refl, sym, ap, subst, ◌∙◌}
-use Rattle.std.{proofs.{lemmas.Bool.{true≢false, or_right, not-true, not-false}, Math.Bool.{or-false}}, specs.{Prelude.{unwrap_or}, List.{list_any}}}
-use Rattle.std.specs.{Option.{option_or, option_map_or}, Cmp.Lexicographic.{nat_list_cmp_total}, FinMap.{get, insert, slice_cmp-IsAntisymmetric}}
-use Rattle.std.specs.FinMap.{nat_cmp-IsAntisymmetric}
+use Rattle.std.proofs.Common.{◌≡◌, ◌↔◌, Bool, true, false, cond, IsTrue, List, Option, None, Some, is_some, refl, sym, ap, subst, ◌∙◌, arith}
+use Rattle.std.{proofs.lemmas.Bool.{true≢false, not-true, not-false}, specs.{Prelude.{unwrap_or}, List.{list_any}, Option.{option_map_or}}}
+use Rattle.std.specs.{Cmp.Lexicographic.{nat_list_cmp_total}, FinMap.{get, insert, slice_cmp-IsAntisymmetric, nat_cmp-IsAntisymmetric}}
 use Rattle.nntp_wire.{specs.declared.command.What.{What}, proofs.ShownMaps.{insert-same}}
 use Rattle.nntp_article.specs.Article.Parts.{Id, Line}
 use Rattle.nntp_said.specs.Facts.{Fact}
-use Rattle.nntp_theory.{specs.Together.{shows_article}, proofs.Together.TwoListsOfFacts.{or_none}}
+use Rattle.nntp_theory.specs.Together.{shows_article}
 use Rattle.nntp_facts.specs.Inner.{Kept.{KeptArticle, AreKeptArticles, IsAddedIf}, Articles.{head_sent, body_sent, MayBeSent, denied, unsent, with_sent}}
 use Rattle.nntp_facts.specs.Inner.{Articles.{is_there, with_new}, Saying.{OfArticle, Lacks, Exists, Sends}, KeptSaying.{kept_by, IsArticleAdded}}
-use Rattle.nntp_facts.proofs.Keeping.KeptArticles.{Articles, get_elsewhere, get_there, new_elsewhere, new_there, MayKeep, kept_with, same_as_none}
-use Rattle.nntp_facts.proofs.Keeping.KeptArticles.{article_joins, article_kept, shown_kept}
+use Rattle.nntp_facts.proofs.Keeping.KeptArticles.{Articles, get_elsewhere, get_there, new_elsewhere, new_there, MayKeep, kept_with, article_joins}
+use Rattle.nntp_facts.proofs.Keeping.KeptArticles.{article_kept, shown_kept}
 
 -- what is kept of an id of which nothing was sent
 abbrev bare : Bool → KeptArticle
@@ -18,8 +17,7 @@ bare is_denied = record { is_denied = is_denied; is_sent = false; head = None; b
 
 -- with it is kept what was, if anything was
 bare_with : (o : Option KeptArticle) (b : Bool) → unwrap_or o (bare b) ≡ kept_with o (bare b)
-bare_with None b = refl
-bare_with (Some a) b = λ i. record { is_denied = a.is_denied; is_sent = sym (or-false a.is_sent) i; head = sym (or_none a.head) i; body = sym (or_none a.body) i }
+bare_with o b = grind arith
 
 module _ (facts : List Fact) (old : Articles) (id : Id) (said : OfArticle) (kept : AreKeptArticles facts old) where
   -- what may be kept of an id is kept, if nothing was
@@ -37,11 +35,7 @@ module _ (facts : List Fact) (old : Articles) (id : Id) (said : OfArticle) (kept
 
   -- so an article of an id that is denied
   pub of_denied : (kept_by said).is_denied ≡ false → option_map_or (λ a. a.is_denied) (get old id) false ≡ true → IsArticleAdded facts (Some (id, said)) old old false
-  of_denied has is_denied = refused (by (get old id) is_denied)
-    where
-      by : (o : Option KeptArticle) → option_map_or (λ a. a.is_denied) o false ≡ true → MayKeep o (kept_by said) → ⊥
-      by None d m = true≢false (sym d)
-      by (Some a) d m = true≢false (sym d ∙ m.0 ∙ has)
+  of_denied has is_denied = grind (arith, refused, true≢false)
 
 -- ---- an id has an article
 
@@ -51,8 +45,7 @@ pub there_noted : (facts : List Fact) (old new : Articles) (id : Id) → AreKept
 there_noted facts old new id kept free is = new_kept facts old id Exists kept false refl new is (by (get old id) free)
   where
     by : (o : Option KeptArticle) → option_map_or (λ a. a.is_denied) o false ≡ false → MayKeep o unsent
-    by None e = tt
-    by (Some a) e = (e, tt, tt)
+    by o e = grind arith
 
 -- of one of which this was said nothing changes
 pub there_already : (facts : List Fact) (articles : Articles) (id : Id) → AreKeptArticles facts articles → IsTrue (list_any (shows_article id) facts)
@@ -62,8 +55,7 @@ there_already facts articles id kept shown =
     there_noted facts articles articles id kept p.0 (ap (λ b. cond b articles (insert articles id unsent)) (sym p.1))
   where
     by : (o : Option KeptArticle) → is_there o ≡ true → (option_map_or (λ a. a.is_denied) o false ≡ false) × (is_some o ≡ true)
-    by None t = absurd (true≢false (sym t))
-    by (Some a) t = (not-true a.is_denied t, refl)
+    by o t = grind (arith, true≢false, not-true)
 
 -- ---- an id has no article
 
@@ -73,8 +65,7 @@ pub lack_there : (facts : List Fact) (articles : Articles) (id : Id) → AreKept
 lack_there facts articles id kept there = refused facts articles id Lacks kept (by (get articles id) there)
   where
     by : (o : Option KeptArticle) → is_there o ≡ true → MayKeep o denied → ⊥
-    by None t m = true≢false (sym t)
-    by (Some a) t m = true≢false (sym t ∙ ap not m.0)
+    by o t m = grind (arith, true≢false)
 
 -- another one is kept, if it wasn't before
 pub lack_new : (facts : List Fact) (old new : Articles) (id : Id) → AreKeptArticles facts old → is_there (get old id) ≡ false → new ≡ with_new old id denied
@@ -82,26 +73,18 @@ pub lack_new : (facts : List Fact) (old new : Articles) (id : Id) → AreKeptArt
 lack_new facts old new id kept unshown is = new_kept facts old id Lacks kept true refl new is (by (get old id) unshown)
   where
     by : (o : Option KeptArticle) → is_there o ≡ false → MayKeep o denied
-    by None e = tt
-    by (Some a) e = (not-false a.is_denied e, tt, tt)
+    by o e = grind (arith, not-false)
 
 -- ---- something of an article is sent
 
 module _ (what : What) (lines : Option (List Line)) where
   -- it may be kept exactly if it may be sent of what is kept, or of an article of which nothing was
   may_keep : (o : Option KeptArticle) → MayBeSent (unwrap_or o unsent) (head_sent what lines) (body_sent what lines) ↔ MayKeep o (kept_by (Sends what lines))
-  may_keep None = (λ m. tt, λ h. (refl, same_as_none (head_sent what lines), same_as_none (body_sent what lines)))
-  may_keep (Some a) = (λ m. m, λ h. h)
+  may_keep o = grind arith
 
   -- and then is kept with it
   sent_with : (o : Option KeptArticle) → with_sent (unwrap_or o unsent) (head_sent what lines) (body_sent what lines) ≡ kept_with o (kept_by (Sends what lines))
-  sent_with None = refl
-  sent_with (Some a) = λ i. record {
-    is_denied = a.is_denied;
-    is_sent = sym (or_right a.is_sent true refl) i;
-    head = option_or a.head (head_sent what lines);
-    body = option_or a.body (body_sent what lines);
-  }
+  sent_with o = grind arith
 
 -- what is sent of an article is added to what is known of it, if anything is
 pub sent_noted : (facts : List Fact) (old new : Articles) (what : What) (id : Id) (lines : Option (List Line)) (head body : Option (List Line)) (a b : KeptArticle) (does : Bool)
@@ -123,13 +106,7 @@ sent_noted facts old new what id lines head body a b does kept was is heads bodi
 
     -- where it may not be sent, something was known of the id, and is still
     as_before : b ≡ a → (MayBeSent a head body → ⊥) → new ≡ old
-    as_before same never = by (get old id) refl
-      where
-        by : (o : Option KeptArticle) → get old id ≡ o → new ≡ old
-        by None e = absurd (never (back (subst (λ o. MayKeep o (kept_by (Sends what lines))) (sym e) tt)))
-        by (Some k) e =
-            is ∙ ap (insert old id) (same ∙ was ∙ ap (λ o. unwrap_or o unsent) e)
-            ∙ insert-same nat_list_cmp_total (slice_cmp-IsAntisymmetric nat_cmp-IsAntisymmetric) old id k e
+    as_before same never = grind (arith, back, insert-same, nat_list_cmp_total, slice_cmp-IsAntisymmetric, nat_cmp-IsAntisymmetric)
 
     by : (does : Bool) → IsAddedIf (MayBeSent a head body) (λ k. k ≡ with_sent a head body) a b does → IsArticleAdded facts (Some (id, Sends what lines)) old new does
     by true added = (

@@ -1,16 +1,15 @@
 -- Noting an exchange behind earlier sessions: when it is permitted behind those that were accepted, and what stands then.
 use Rattle.nntp_wire.specs.Answer.{Asked, Response}
-use Rattle.std.proofs.Common.{◌≡◌, ◌+◌, ◌<◌, ◌^◌, ◌↔◌, Bool, false, true, IsTrue, List, [], ◌∷◌, ◌++◌, map, Option, None, Some, IfSome, refl, sym, ap, ap₂}
-use Rattle.std.{proofs.Common.{subst, ◌∙◌, arith, append_assoc, length-append}, specs.{Prelude.{IsFalse}, List.{AllByRecursion, list_any}}}
-use Rattle.nntp_article.specs.{Session.{Limit.{profile_of}, Spool.{Name}, Machine.{start, fits, visible_after}}, declared.session.profile.Profile.{Profile}}
+use Rattle.std.proofs.Common.{◌≡◌, ◌+◌, ◌<◌, ◌^◌, ◌↔◌, Bool, false, true, List, [], ◌∷◌, ◌++◌, map, refl, sym, ap, ap₂, subst, ◌∙◌, arith, append_assoc}
+use Rattle.std.{proofs.Common.{length-append}, specs.List.{AllByRecursion}}
+use Rattle.nntp_article.specs.{Session.{Limit.{profile_of}, Machine.{start, fits, visible_after}}, declared.session.profile.Profile.{Profile}}
 use Rattle.nntp_pair.specs.{Pairing.{Paired, asked_at, asked_of, responses_of}, Inner.Pairing.{IsSpelled, lines_in}}
 use Rattle.nntp_said.specs.{Asks.{position_after}, declared.position.Position.TheVariants.{Nowhere}, Facts.{Fact, facts_of}, Inner.Facts.{FitsAll}}
-use Rattle.nntp_theory.specs.{Given.{facts_of_session, shows_group}, Inner.{Given.{size}, Together.{IsWellFormed, Together, Join}, Exchanged.{said_by}}}
-use Rattle.nntp_theory.specs.{Inner.Exchanged.{said_behind, AreFew}, Answered.{Answered, SomePermitsEach, facts_of_all}, Classes.{visible_from, position_from}}
-use Rattle.nntp_theory.specs.{Permitted.{exchanged, ArePermittedBehind}, declared.noted.Noted.TheVariants.{Consistent, OutOfPlace, Contradiction}}
-use Rattle.nntp_theory.proofs.{Members.{all_both, all_back, any_back}, Session.PairsGoOn.{MayFollow, of_these, permitted_next, facts_next, visible_next}}
-use Rattle.nntp_theory.proofs.{Session.PairsGoOn.{position_next, as_many, ends, with_pair}, Given.{SessionsByFacts.{stand_each}, SessionsGoOn.{facts_behind}}}
-use Rattle.nntp_theory.proofs.{Given.SessionsGoOn.{small_behind}, Together.WellFormed.{spelled_formed}}
+use Rattle.nntp_theory.specs.{Given.{facts_of_session}, Inner.{Given.{size}, Together.{IsWellFormed, Together, Join}, Exchanged.{said_by, said_behind, AreFew}}}
+use Rattle.nntp_theory.specs.{Answered.{SomePermitsEach, facts_of_all}, Classes.{visible_from, position_from}, Permitted.{exchanged, ArePermittedBehind}}
+use Rattle.nntp_theory.{specs.declared.noted.Noted.TheVariants.{Consistent, OutOfPlace, Contradiction}, proofs.Members.{all_both, all_back, any_back}}
+use Rattle.nntp_theory.proofs.Session.PairsGoOn.{MayFollow, of_these, permitted_next, facts_next, visible_next, position_next, as_many, ends, with_pair}
+use Rattle.nntp_theory.proofs.{Given.{SessionsByFacts.{stand_each}, SessionsGoOn.{facts_behind, small_behind}}, Together.WellFormed.{spelled_formed}}
 use Rattle.nntp_facts.specs.Inner.{Kept.{Kept, IsKept, AreAdded}, Saying.{Saying, IsSelectedShown, Tells}, Noted.{FactsKept, HasNotedBehind, IsDue, MayBeNoted}}
 use Rattle.nntp_facts.{specs.Inner.Noted.{said_then, IsNotedBehind}, proofs.Keeping.SelectedGroupIsShown.{selected_shown}}
 
@@ -34,24 +33,14 @@ module _ (profile : Profile) (facts : FactsKept) (earlier : List (List Paired)) 
 
   -- it fits and stands together
   stands : FitsAll profile start.visible (asked_of past) (responses_of past) × Together all
-  stands =
-      let h = s.permitted in
-      let both = stand_each profile h.0 (map exchanged earlier ++ exchanged past ∷ []) h.1 h.2 in (
-        (all_back (λ (s : Answered). FitsAll profile start.visible s.prompts s.answers) (map exchanged earlier) (exchanged past ∷ []) both.0).0,
-        subst Together (facts_behind profile.marks (map exchanged earlier) (exchanged past)) both.1,
-      )
+  stands = grind (arith, stand_each, all_back, facts_behind)
 
   pub stand_together : Together all
   stand_together = stands.1
 
   -- and shows the selected group
   pub shows_selected : IsSelectedShown facts.visible all
-  shows_selected = subst (λ v. IsSelectedShown v all) (sym s.visible)
-      (by (visible_from start.visible (asked_of past) (responses_of past)).selected (selected_shown profile (asked_of past) (responses_of past) stands.0))
-    where
-      by : (o : Option Name) → IfSome o (λ name. IsTrue (list_any (shows_group name) (said_by profile.marks past))) → IfSome o (λ name. IsTrue (list_any (shows_group name) all))
-      by None t = tt
-      by (Some name) t = any_back (shows_group name) (facts_of_all profile.marks (map exchanged earlier)) (said_by profile.marks past) t
+  shows_selected = grind (arith, selected_shown, stands, any_back)
 
   module _ (pair : Paired) (m : MayBeNoted profile facts pair) where
     -- what it says
@@ -60,10 +49,7 @@ module _ (profile : Profile) (facts : FactsKept) (earlier : List (List Paired)) 
 
     -- there are few exchanges then
     few : AreFew (past ++ pair ∷ [])
-    few = record {
-      few = (let low = m.low in omega (arith, m.due.index, s.count, length-append past (pair ∷ [])));
-      lines = all_both (λ pair. lines_in pair.response < 2 ^ 64) past (pair ∷ []) s.lines (m.few, tt);
-    }
+    few = grind (arith, length-append, all_both)
 
     -- some spool permits it exactly if what it says joins what all said
     pub permitted_if : ArePermittedBehind profile earlier (past ++ pair ∷ []) ↔ Join all new
@@ -76,8 +62,7 @@ module _ (profile : Profile) (facts : FactsKept) (earlier : List (List Paired)) 
         After = SomePermitsEach profile (map exchanged earlier ++ of_these (asked_of past ++ asked_at pair.place ∷ []) (responses_of past ++ pair.response ∷ []) ∷ [])
 
         small : size (facts_of_all profile.marks (map exchanged earlier ++ of_these (asked_of past ++ asked_at pair.place ∷ []) (responses_of past ++ pair.response ∷ []) ∷ [])) < 2 ^ 210
-        small = subst (λ q. size (facts_of_all profile.marks (map exchanged earlier ++ q ∷ [])) < 2 ^ 210) (with_pair past pair) (small_behind profile.marks earlier (past ++ pair
-            ∷ []) s.sessions s.earlier_few few)
+        small = grind (arith, few, with_pair past pair, small_behind profile.marks earlier (past ++ pair ∷ []) s.sessions s.earlier_few few)
 
         follows : After ↔ MayFollow profile (visible_from start.visible (asked_of past) (responses_of past)) (position_from Nowhere (asked_of past) (responses_of past)) all (asked_at pair.place)
             pair.response
@@ -99,12 +84,8 @@ module _ (profile : Profile) (facts : FactsKept) (earlier : List (List Paired)) 
         profile_is = ap₂ profile_of moves.limit moves.marks ∙ s.profile_is;
         is_whole = moves.has_failed ∙ s.is_whole;
         count = omega (arith, moves.count, s.count, length-append past (pair ∷ []));
-        visible = moves.visible ∙ ap (λ v. visible_after v (asked_at pair.place) pair.response) s.visible
-            ∙ sym (ap (λ q. visible_from start.visible q.0 q.1) (ends past pair)
-            ∙ visible_next (asked_of past) (responses_of past) (asked_at pair.place) pair.response (as_many past));
-        position = moves.position ∙ ap (λ at. position_after at (asked_at pair.place) pair.response) s.position
-            ∙ sym (ap (λ q. position_from Nowhere q.0 q.1) (ends past pair) ∙ position_next (asked_of past) (responses_of past)
-            (asked_at pair.place) pair.response (as_many past));
+        visible = grind (arith, ends, visible_next, as_many);
+        position = grind (arith, ends, position_next, as_many);
         kept = subst (λ facts. IsKept facts next.kept) whole now;
         permitted = permitted_if.1 joins;
         sessions = s.sessions;
@@ -132,22 +113,12 @@ pub record Weighed (profile : Profile) (facts : FactsKept) (pair : Paired) : Typ
   pub may : MayBeNoted profile facts pair
   pub spelled : IsSpelled pair.place pair.initial pair.response
 
--- whether it fits is what was tested
-tested_it : (profile used : Profile) (facts : FactsKept) (pair : Paired) (asked : Asked) (response : Response) (does : Bool) → profile_of facts.limit facts.marks ≡ profile
-    → asked ≡ asked_at pair.place → response ≡ pair.response → used ≡ profile_of facts.limit facts.marks → does ≡ fits used facts.visible asked response
-    → fits profile facts.visible (asked_at pair.place) pair.response ≡ does
-tested_it profile used facts pair asked response does is to by judged tested =
-    sym (tested ∙ ap (λ profile. fits profile facts.visible asked response) (judged ∙ is) ∙ ap₂ (λ asked response. fits profile facts.visible asked response) to by)
-
 -- it doesn't fit
 pub unfit : (profile used : Profile) (facts old : FactsKept) (earlier : List (List Paired)) (past : List Paired) (pair : Paired) (asked : Asked) (response : Response) (does : Bool)
     → facts ≡ old → HasNotedBehind profile facts earlier past
     → asked ≡ asked_at pair.place → response ≡ pair.response → used ≡ profile_of facts.limit facts.marks → does ≡ fits used facts.visible asked response → does ≡ false
     → IsNotedBehind profile earlier past pair old old OutOfPlace
-unfit profile used facts old earlier past pair asked response does is s to by judged tested fails = (
-  subst (λ (f : FactsKept). IsFalse (fits profile f.visible (asked_at pair.place) pair.response)) is (tested_it profile used facts pair asked response does s.profile_is to by judged tested ∙ fails),
-  refl,
-)
+unfit profile used facts old earlier past pair asked response does is s to by judged tested fails = grind arith
 
 -- so it is, by what is said of the calls
 pub weighed : (profile used : Profile) (facts old : FactsKept) (pair : Paired) (asked : Asked)
@@ -155,12 +126,7 @@ pub weighed : (profile used : Profile) (facts old : FactsKept) (pair : Paired) (
     → facts ≡ old → profile_of facts.limit facts.marks ≡ profile → IsDue old pair → pair.index < 2 ^ 63 → lines_in pair.response < 2 ^ 64 → IsSpelled pair.place pair.initial pair.response
     → asked ≡ asked_at pair.place → response ≡ pair.response → used ≡ profile_of facts.limit facts.marks → does ≡ fits used facts.visible asked response → does ≡ true
     → Weighed profile facts pair
-weighed profile used facts old pair asked response does is profile_is due low few spelled to by judged tested fitting =
-    let fits_it = tested_it profile used facts pair asked response does profile_is to by judged tested ∙ fitting in
-    record {
-      may = record { due = subst (λ facts. IsDue facts pair) (sym is) due; low = low; few = few; fitting = fits_it };
-      spelled = spelled;
-    }
+weighed profile used facts old pair asked response does is profile_is due low few spelled to by judged tested fitting = grind arith
 
 -- ---- what is added
 
@@ -194,11 +160,7 @@ pub refused : (profile : Profile) (facts old : FactsKept) (kept : Kept) (earlier
     → AddsBehind facts kept false (facts_of facts.marks facts.visible facts.position asked response) → IsNotedBehind profile earlier past pair old (with_kept facts kept) Contradiction
 refused profile facts old kept earlier past pair asked response is w s to by adds =
     let added = added_here profile facts kept earlier past pair asked response false w s to by adds in
-    let noted = noted_contradiction profile facts earlier past s pair w.may added.0 in (
-      subst (λ (f : FactsKept). IsTrue (fits profile f.visible (asked_at pair.place) pair.response)) is noted.0,
-      noted.1,
-      ap (with_kept facts) added.1 ∙ is,
-    )
+    let noted = noted_contradiction profile facts earlier past s pair w.may added.0 in grind arith
 
 -- and else it is accepted
 pub accepted : (profile : Profile) (facts old new : FactsKept) (earlier : List (List Paired)) (past : List Paired) (pair : Paired) (asked : Asked) (response : Response)

@@ -1,10 +1,10 @@
 -- Exchanges of several sessions are noted one after the other: the next one is permitted exactly if it fits its own session and what it says joins what all said.
-use Rattle.std.proofs.Common.{◌≡◌, ◌+◌, ◌<◌, ◌^◌, List, [], ◌∷◌, ◌++◌, length, map, refl, sym, ap, subst, ◌∙◌, arith, append-nil, length-append}
+use Rattle.std.proofs.Common.{◌≡◌, ◌+◌, ◌<◌, ◌^◌, List, [], ◌∷◌, ◌++◌, length, map, refl, sym, ap, subst, arith, append-nil, length-append}
 use Rattle.std.proofs.lemmas.List.{map-append}
 use Rattle.nntp_article.specs.{declared.session.profile.Profile.{Profile}, Session.Machine.{Run, start}}
 use Rattle.nntp_pair.specs.Pairing.{Paired}
-use Rattle.nntp_theory.specs.{Inner.Exchanged.{said_behind, AreFew}, Permitted.{exchanged}, Answered.{Answered, PermitsEach, facts_of_all}}
-use Rattle.nntp_theory.proofs.{Members.{all_both}, Given.SessionsGoOn.{facts_behind}}
+use Rattle.nntp_theory.{specs.{Inner.Exchanged.{said_behind, AreFew}, Permitted.{exchanged}, Answered.{Answered, PermitsEach}}, proofs.Members.{all_both}}
+use Rattle.nntp_theory.proofs.Given.SessionsGoOn.{facts_behind}
 use Rattle.nntp_facts.specs.Inner.{Kept.{IsKept}, Noted.{FactsKept, HasNotedBehind, begun}}
 
 -- ---- the facts of sessions
@@ -38,5 +38,4 @@ session_begins profile facts earlier past h count = record {
     pushed = ap (λ sessions. sessions ++ exchanged [] ∷ []) both
 
     said : said_behind profile.marks earlier past ≡ said_behind profile.marks (earlier ++ past ∷ []) []
-    said = sym (append-nil (facts_of_all profile.marks (map exchanged (earlier ++ past ∷ []))) ∙ ap (facts_of_all profile.marks) both
-        ∙ facts_behind profile.marks (map exchanged earlier) (exchanged past))
+    said = grind (arith, append-nil, both, facts_behind)

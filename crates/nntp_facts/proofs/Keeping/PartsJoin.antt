@@ -1,11 +1,11 @@
 -- When the parts of an answer join what was said, and what is kept then.
-use Rattle.std.proofs.Common.{◌≡◌, ℕ, true, false, cond, List, [], ◌∷◌, ◌++◌, Option, None, Some, is_some, MatchOption, inl, inr, refl, sym, ap, subst, ◌∙◌}
+use Rattle.std.proofs.Common.{◌≡◌, ℕ, true, false, cond, List, [], ◌∷◌, ◌++◌, Option, None, Some, is_some, MatchOption, refl, sym, ap, subst, ◌∙◌, arith}
 use Rattle.std.{proofs.lemmas.{Bool.{true≢false, or_left, or_right}, List.Folds.{list_any-append}}, specs.Prelude.{◌↔◌, IsFalse, IfSome}}
 use Rattle.std.specs.{Option.{option_map_or, option_or}, List.{AllByRecursion, list_any}, Cmp.Lexicographic.{same_text}}
 use Rattle.nntp_article.specs.{Article.Parts.{Id}, Session.{Spool.{Name}, Machine.{is_same}}}
 use Rattle.nntp_said.specs.{Asks.{Ask}, Facts.{Fact, IdAt, TextIs}}
-use Rattle.nntp_theory.specs.{Given.{asks_of, shows_group, is_shown_group, first_given, id_in, denies}, Inner.Together.{IsWellFormed, said_of, said_nothing}}
-use Rattle.nntp_theory.specs.{Inner.Together.{join_said, Together, JoinNames, JoinNumbers, JoinIds, JoinArticle, Join}, Together.{denies_group, number_in}}
+use Rattle.nntp_theory.specs.{Given.{asks_of, is_shown_group, first_given, id_in}, Inner.Together.{IsWellFormed, said_of, said_nothing, join_said, Together}}
+use Rattle.nntp_theory.specs.{Inner.Together.{JoinNames, JoinNumbers, JoinIds, JoinArticle, Join}, Together.{denies_group, number_in}}
 use Rattle.nntp_theory.proofs.Together.{TwoListsOfFacts.{given_append}, FactsJoin.{asks_append}, FactsOfASpoolStand.{same_itself}}
 use Rattle.nntp_theory.proofs.Ids.OnePlaceOfAnId.{agree_together, shown_with_id}
 use Rattle.nntp_facts.specs.Inner.Saying.{OfGroup, OfArticle, Lacks, Exists, Sends, Saying, asked_id, sent_facts, lack_facts, id_facts, group_facts, facts_in}
@@ -31,9 +31,7 @@ of_part (Some (other, Exists)) name None placed may id = absurd (may other refl)
 of_part (Some (other, Exists)) name (Some e) placed may id =
     nothing_more (said_of (IdAt name e.0 e.1 ∷ []) id) ∙ there_said name e.0 e.1 id ∙ ap (λ q. said_in (Some (q, Exists)) id) (may other refl)
 of_part (Some (other, Sends what lines)) name None placed may id = nothing_more (said_of (TextIs what other lines ∷ []) id) ∙ text_said what other lines id
-of_part (Some (other, Sends what lines)) name (Some e) placed may id =
-    ap (join_said (said_of (TextIs what other lines ∷ []) id)) (nothing_more (said_of (IdAt name e.0 e.1 ∷ []) id) ∙ there_said name e.0 e.1 id ∙ ap (λ q. said_in (Some (q, Exists)) id) (sym placed))
-    ∙ ap (λ s. join_said s (said_in (Some (other, Exists)) id)) (text_said what other lines id) ∙ text_at what other lines id
+of_part (Some (other, Sends what lines)) name (Some e) placed may id = grind (arith, nothing_more, there_said, text_said, text_at)
 
 -- ids and numbers of what is told agree where facts stand together
 pub agree_told : (facts : List Fact) → Together facts → (name : Name) (id : Option (ℕ × Id)) → Agree (told facts name).ids (told facts name).places id
@@ -52,10 +50,7 @@ module _ (facts : List Fact) (s : Saying) (asks : List Ask) (may : MaySay facts 
 
   -- no number from 2^64 on is left open in a group that wasn't shown
   pub bounded_then : is_shown_group facts g.name ≡ false → AreBounded (asks ++ asked_id g.id)
-  bounded_then not_shown n large = elim (subst (λ o. IfSome o (λ (g : OfGroup). IsShownThen facts s.there_is asks g.name)) is may.shown) [
-    | inl was ↦ absurd (true≢false (sym was ∙ not_shown))
-    | inr now ↦ list_any-append (λ ask. denies ask n) asks (asked_id g.id) ∙ or_left (list_any (λ ask. denies ask n) asks) _ (now.1 n large)
-  ]
+  bounded_then not_shown n large = grind (arith, true≢false, list_any-append, or_left)
 
 module _ (facts : List Fact) (s : Saying) (asks : List Ask) (no_list : s.groups ≡ None) (may : MaySay facts s asks) where
   exists_at : (other : Id) → s.article ≡ Some (other, Exists) → MatchOption s.group ⊥ (λ g. MatchOption g.id ⊥ (λ e. e.1 ≡ other))
@@ -92,18 +87,7 @@ module _ (facts : List Fact) (s : Saying) (asks : List Ask) (no_list : s.groups 
 
   -- or there are none
   pub no_group_is : s.group ≡ None → ((name : Name) → asks_of name (facts_in s asks) ≡ []) × GiveNoIds (facts_in s asks)
-  no_group_is none = (
-    λ name. of_group (asks_of name) (λ xs ys. xs ++ ys) [] (asks_are_read name) s asks no_list (λ what id lines. refl)
-        (λ id. refl) (λ n. refl) (λ n. refl) ∙ ap (λ g. asks_of name (group_facts g asks)) none,
-    record {
-      ids = λ name n. of_group (first_given (id_in name n)) option_or None (given_is_read (id_in name n)) s asks no_list
-          (λ what id lines. refl) (λ id. refl) (λ n. refl) (λ n. refl)
-          ∙ ap (λ g. first_given (id_in name n) (group_facts g asks)) none;
-      places = λ name id. of_group (first_given (number_in name id)) option_or None
-          (given_is_read (number_in name id)) s asks no_list (λ what id lines. refl) (λ id. refl) (λ n. refl) (λ n. refl)
-          ∙ ap (λ g. first_given (number_in name id) (group_facts g asks)) none;
-    },
-  )
+  no_group_is none = grind arith
 
   -- ---- all of it
 
@@ -120,8 +104,7 @@ module _ (facts : List Fact) (s : Saying) (asks : List Ask) (no_list : s.groups 
   )
     where
       there : {P : Name → Type 0} (o : Option Name) → ((name : Name) → o ≡ Some name → P name) → IfSome o P
-      there None h = tt
-      there (Some name) h = h name refl
+      there o h = grind arith
 
       here : (o : Option Name) (P : Name → Type 0) (name : Name) → IfSome o P → option_map_or (λ g. is_same g name) o false ≡ true → P name
       here None P name h t = absurd (true≢false (sym t))
@@ -190,35 +173,18 @@ module _ (facts : List Fact) (s : Saying) (asks : List Ask) (no_list : s.groups 
       shown_then = subst (λ o. IfSome o (λ (g : OfGroup). IsShownThen facts s.there_is asks g.name)) is may.shown
 
       shown_now : is_shown_group (facts ++ more) g.name ≡ true
-      shown_now = list_any-append (shows_group g.name) facts more ∙ elim shown_then [
-        | inl was ↦ or_left (is_shown_group facts g.name) (is_shown_group more g.name) was
-        | inr now ↦ or_right (is_shown_group facts g.name) (is_shown_group more g.name)
-            (shown_group s asks no_list g.name ∙ ap (λ o. option_map_or (λ h. is_same h g.name) o false) now.0 ∙ same_itself g.name)
-      ]
+      shown_now = grind (arith, list_any-append, or_left, or_right, shown_group, same_itself)
 
       -- only the group that is said to be there is shown
       not_shown : (other : Name) → is_same g.name other ≡ false → is_shown_group more other ≡ false
       not_shown other apart = shown_group s asks no_list other ∙ by s.there_is refl
         where
           by : (o : Option Name) → s.there_is ≡ o → option_map_or (λ h. is_same h other) o false ≡ false
-          by None e = refl
-          by (Some name) e = ap (λ n. is_same n other)
-              (sym (subst (λ o. MatchOption o ⊥ (λ (g : OfGroup). g.name ≡ name)) is
-              (subst (λ o. IfSome o (λ name. MatchOption s.group ⊥ (λ g. g.name ≡ name))) e may.there))) ∙ apart
+          by o e = grind arith
 
   -- where nothing is said of a group, nothing is told
   pub nothing_told : s.group ≡ None → (name : Name) → IsUntold (told (facts_in s asks) name)
-  nothing_told none name = let says = no_group_is none in record {
-    not_shown = shown_group s asks no_list name
-        ∙ by s.there_is refl;
-    no_asks = says.0 name;
-    no_ids = says.1.ids name;
-    no_places = says.1.places name;
-  }
-    where
-      by : (o : Option Name) → s.there_is ≡ o → option_map_or (λ h. is_same h name) o false ≡ false
-      by None e = refl
-      by (Some g) e = absurd (subst (λ o. MatchOption o ⊥ (λ (h : OfGroup). h.name ≡ g)) none (subst (λ o. IfSome o (λ name. MatchOption s.group ⊥ (λ g. g.name ≡ name))) e may.there))
+  nothing_told none name = grind arith
 
   -- the name that is denied
   pub denied_only : (other : Name) → list_any (denies_group other) (facts_in s asks) ≡ option_map_or (λ name. is_same name other) s.there_is_no false

@@ -1,28 +1,24 @@
 -- A contradiction conflicts with what the accepted answers of all sessions say.
-use Rattle.std.proofs.Common.{◌≡◌, ◌<◌, ◌^◌, IsTrue, List, [], ◌∷◌, ◌++◌, Option, None, Some, map, refl, sym, ap, subst, ◌∙◌, arith, append_assoc, inl, inr}
+use Rattle.std.proofs.Common.{◌≡◌, ◌<◌, ◌^◌, IsTrue, List, [], ◌∷◌, ◌++◌, Option, Some, map, refl, sym, ap, subst, ◌∙◌, arith, append_assoc, inl, inr}
 use Rattle.std.specs.List.{AllByRecursion}
 use Rattle.nntp_wire.specs.{Answer.{Asked, Response}, declared.marks.Marks.{Marks}}
 use Rattle.nntp_article.specs.{Session.{Spool.{Name}, Machine.{Visible, start, fits}}, declared.session.profile.Profile.{Profile}}
 use Rattle.nntp_pair.specs.{Pairing.{Paired, asked_at, asked_of, responses_of}, Inner.Pairing.{lines_in}}
 use Rattle.nntp_said.specs.{Facts.{Fact, Holds, ThereIs, Asks, IdAt, group_of}, Inner.Facts.{FitsAll}}
 use Rattle.nntp_theory.specs.{declared.noted.Noted.TheVariants.{Contradiction}, Answered.{Answered, facts_of_all}, Inner.{Answered.{FitEach}, Given.{size}}}
-use Rattle.nntp_theory.specs.{Inner.{Exchanged.{said_by, said_behind}, Together.{Together}}, Classes.{visible_from}, Permitted.{exchanged, ArePermittedBehind}}
-use Rattle.nntp_theory.{specs.{Conflict.{Placed, placed_behind, said as said_there, told, the_group}, Given.{facts_of_session}}, proofs.Conflicts.{there_said}}
-use Rattle.nntp_theory.proofs.{Conflicts.{group_fitting}, PointsOfConflict.{stand_or_conflict}, Members.{In, all_from, all_at, all_both, all_front, all_back}}
-use Rattle.nntp_theory.proofs.{Members.{in_front, in_back, in_cases}, Given.{GivenPermits.{said}, GivenHasFacts.{given_of_facts, given_has}}}
-use Rattle.nntp_theory.proofs.Given.{ConstructedSpool.{made}, FirstBadAnswer.{size-append}, SessionsByFacts.{stand_each, permits_each, all_fitting, all_placed}}
-use Rattle.nntp_theory.proofs.{Given.SessionsGoOn.{facts_behind, room_behind}, Session.LaterPrompts.{next_behind, run_longer, visible_longer}}
-use Rattle.nntp_theory.proofs.Session.{OneMoreAnswer.{as_few, fitting_grows}, FittingFacts.{IsFitting}, PairsGoOn.{Runs, as_many, ends, facts_next}}
-use Rattle.nntp_theory.proofs.Session.NumbersOfShownGroups.{Placed as IsPlaced, IsSelectable}
+use Rattle.nntp_theory.specs.{Inner.{Exchanged.{said_behind}, Together.{Together}}, Permitted.{exchanged, ArePermittedBehind}, Conflict.{Placed, placed_behind}}
+use Rattle.nntp_theory.{specs.Conflict.{said as said_there, told, the_group}, proofs.Conflicts.{there_said, group_fitting}}
+use Rattle.nntp_theory.proofs.{PointsOfConflict.{stand_or_conflict}, Members.{In, all_from, all_at, all_both, all_front, all_back, in_front, in_back, in_cases}}
+use Rattle.nntp_theory.proofs.Given.{GivenPermits.{said}, GivenHasFacts.{given_of_facts, given_has}, ConstructedSpool.{made}, FirstBadAnswer.{size-append}}
+use Rattle.nntp_theory.proofs.Given.{SessionsByFacts.{stand_each, permits_each, all_fitting, all_placed}, SessionsGoOn.{facts_behind, room_behind}}
+use Rattle.nntp_theory.proofs.Session.{LaterPrompts.{next_behind, run_longer, visible_longer}, OneMoreAnswer.{as_few, fitting_grows}, FittingFacts.{IsFitting}}
+use Rattle.nntp_theory.proofs.Session.{PairsGoOn.{Runs, as_many, ends, facts_next}, NumbersOfShownGroups.{Placed as IsPlaced, IsSelectable}}
 use Rattle.nntp_facts.specs.Inner.{Noted.{FactsKept, HasNotedBehind, IsDue, IsNotedBehind}, Points.{AreHeld, held_by}}
 use Rattle.nntp_facts.proofs.Keeping.{NotedExchange.{stand_together}, ToldAnswers.{told_size}}
 
 -- what is placed among facts is placed among more
 wider : (how : Marks) (facts more : List Fact) → ((fact : Fact) → In fact facts → In fact more) → (fact : Fact) → IsPlaced how facts fact → IsPlaced how more fact
-wider how facts more sub (ThereIs name) p = record { marks = p.marks; there = sub _ p.there; estimated = sub _ p.estimated }
-wider how facts more sub (Asks name ask) p = record { marks = p.marks; there = sub _ p.there; estimated = sub _ p.estimated }
-wider how facts more sub (IdAt name n id) p = record { marks = p.marks; there = sub _ p.there; estimated = sub _ p.estimated }
-wider how facts more sub fact p = tt
+wider how facts more sub fact p = grind arith
 
 -- the group of which placed facts speak is one that a 211 selected
 group_selectable : (how : Marks) (all own : List Fact) → AllByRecursion (IsPlaced how all) own → (name : Name) → group_of own ≡ Some name → IsSelectable how all name
@@ -35,8 +31,7 @@ group_selectable how all (fact ∷ own) placed name e = group_selectable how all
 -- so that there is such a group is placed
 group_placed : (profile : Profile) (how : Marks) (all : List Fact) (group : Option Name) → ((name : Name) → group ≡ Some name → IsSelectable how all name)
     → AllByRecursion (IsPlaced how all) (the_group profile group)
-group_placed profile how all None h = tt
-group_placed profile how all (Some name) h = let g = h name refl in (g, (g, tt))
+group_placed profile how all group h = grind arith
 
 module _ (profile : Profile) (facts : FactsKept) (earlier : List (List Paired)) (past : List Paired) (pair : Paired) (s : HasNotedBehind profile facts earlier past) where
   abbrev bad : Placed
@@ -54,15 +49,7 @@ module _ (profile : Profile) (facts : FactsKept) (earlier : List (List Paired)) 
 
   -- what all sessions say with it
   pub said_with : facts_of_all profile.marks sessions ≡ said_behind profile.marks earlier past ++ said_there profile.marks bad
-  said_with =
-      let here = visible_from start.visible (asked_of past) (responses_of past) in
-      let all = facts_of_all profile.marks before in
-      facts_behind profile.marks before (exchanged (past ++ pair ∷ []))
-      ∙ ap (λ own. all ++ own)
-      (ap (λ (q : List Asked × List Response). facts_of_session profile.marks q.0 q.1) (ends past pair)
-      ∙ facts_next profile.marks (asked_of past) (responses_of past) (asked_at pair.place) pair.response (as_many past)
-      ∙ ap (λ new. said_by profile.marks past ++ new) (there_said profile.marks bad here refl))
-      ∙ sym (append_assoc all (said_by profile.marks past) (said_there profile.marks bad))
+  said_with = grind (arith, facts_behind, ends, facts_next, as_many, there_said, append_assoc)
 
   module _ (due : IsDue facts pair) (noted : IsNotedBehind profile earlier past pair facts facts Contradiction) where
     -- they fit with it
@@ -116,16 +103,10 @@ module _ (profile : Profile) (facts : FactsKept) (earlier : List (List Paired)) 
 
         -- what all say is among it
         among : (fact : Fact) → In fact (kept ++ own) → In fact all
-        among fact i = elim (in_cases fact kept own i) [
-          | inl j ↦ in_front fact kept (group ++ own) j
-          | inr j ↦ in_back fact kept (group ++ own) (in_back fact group own j)
-        ]
+        among fact i = grind (arith, in_front, in_back, in_cases fact kept own i)
 
         fitting : AllByRecursion (IsFitting profile) all
-        fitting =
-            let whole = subst (AllByRecursion (IsFitting profile)) said_with (all_fitting profile sessions fit_with) in
-            all_both (IsFitting profile) kept (group ++ own) (all_front (IsFitting profile) kept own whole)
-            (all_both (IsFitting profile) group own (group_fitting profile (group_of own)) (all_back (IsFitting profile) kept own whole))
+        fitting = grind (arith, said_with, all_fitting, fit_with, all_both, all_front, group_fitting, all_back)
 
         placed : AllByRecursion (IsPlaced profile.marks all) all
         placed =

@@ -1,5 +1,5 @@
 -- What each kind of answer that fits tells.
-use Rattle.std.proofs.Common.{◌≡◌, ℕ, ◌<◌, ◌^◌, get_or, true, IsTrue, List, [], ◌∷◌, Option, None, Some, is_some, inl, inr, refl, sym, ap, subst, ◌∙◌}
+use Rattle.std.proofs.Common.{◌≡◌, ℕ, ◌<◌, ◌^◌, get_or, true, IsTrue, List, [], ◌∷◌, Option, None, Some, is_some, inl, inr, refl, sym, ap, subst, ◌∙◌, arith}
 use Rattle.std.{proofs.lemmas.Bool.{true≢false}, specs.Prelude.{IfSome, option_map, unwrap_or}}
 use Rattle.nntp_article.specs.{Article.Parts.{Id}, Session.{Spool.{Name}, Machine.{Visible, fits}}, declared.session.profile.Profile.{Profile}}
 use Rattle.nntp_article.specs.Inner.Misfit.{groups_of, numbers_of}
@@ -12,7 +12,7 @@ use Rattle.nntp_numbers.specs.Inner.{Part.{Said, Says, AreListable}, PartOf.{IsS
 use Rattle.nntp_numbers.proofs.{SaidInARange.{says_range}, SaidOfAsks.{said_small, says_marks, marks_bounded, says_has, says_lacks, says_stands, says_nowhere}}
 use Rattle.nntp_numbers.proofs.SaidOfAsks.{says_up, says_down, says_top, says_bottom}
 use Rattle.nntp_facts.specs.Inner.Saying.{AreListed, Saying, TellsHere, IsSelectedShown, IsShownThen, nothing, numbers_shown, saying_by}
-use Rattle.nntp_facts.{specs.declared.saying.GroupPart.{GroupPart}, proofs.Keeping.{KeptGroups.{bounded_more}, FittingAnswers.{listable, may_list, numbered}}}
+use Rattle.nntp_facts.{specs.declared.saying.GroupPart.{GroupPart}, proofs.Keeping.FittingAnswers.{listable, may_list, numbered}}
 use Rattle.nntp_facts.specs.declared.saying.Saying as parts
 use Rattle.nntp_facts.specs.Inner.SayingView as view
 use Rattle.nntp_said.proofs.Rows as rows
@@ -49,15 +49,9 @@ tells_marks {selected} facts name p how m s more says bounded s_is same =
 
 -- ---- rows
 
--- the groups that match are those that the answer lists
-said_groups : {profile : Profile} {v : Visible} {at : Position} {Fits : Type 0} {a : Response} {more : List Fact} (shown : List ℕ) → rows.Row profile v at Fits a more
-    → (groups : List ActiveValue) → groups ≡ groups_of a → AreListed (saying_by shown nothing more) groups
-said_groups shown (rows.active p lines known) groups e = e
-said_groups shown r groups e = tt
-
 pub groups_said : (profile : Profile) (v : Visible) (at : Position) (asked : Asked) (response : Response) (shown : List ℕ) (groups : List ActiveValue) → groups ≡ groups_of response
     → AreListed (saying_by shown nothing (facts_of profile.marks v at asked response)) groups
-groups_said profile v at asked response shown groups e = said_groups shown (rows.row profile v at asked response) groups e
+groups_said profile v at asked response shown groups e = grind (arith, rows.row)
 
 module _ (v : Visible) (facts : List Fact) (is_shown : IsSelectedShown v facts) where
   -- what is said by facts of an answer that shows these numbers, if all numbers are below 2^64, tells them
@@ -69,8 +63,7 @@ module _ (v : Visible) (facts : List Fact) (is_shown : IsSelectedShown v facts) 
   here_shown asks there = inl (by v.selected there is_shown)
     where
       by : (o : Option Name) → is_some o ≡ true → IfSome o (λ name. is_shown_group facts name ≡ true) → is_shown_group facts (unwrap_or o []) ≡ true
-      by None there shown = absurd (true≢false (sym there))
-      by (Some name) there shown = shown
+      by o there shown = grind (arith, true≢false)
 
   -- one ask of the selected group
   ask_row : (shown : List ℕ) (ask : Ask) → IsTrue (is_some v.selected) → (IsSmall (part_with shown ask nothing_said) → Says (part_with shown ask nothing_said) (ask ∷ []))
@@ -89,14 +82,7 @@ module _ (v : Visible) (facts : List Fact) (is_shown : IsSelectedShown v facts) 
     tells = record {
       asks = Estimates how m ∷ ListsIn r ns ∷ [];
       same = refl;
-      may = record {
-        numbers = says_range how m r ns fits small may;
-        shown = inr (refl, bounded_more (Estimates how m ∷ []) (ListsIn r ns ∷ []) (marks_bounded how m small.high));
-        there = refl;
-        placed = tt;
-        article = tt;
-        groups = tt;
-      };
+      may = grind (arith, marks_bounded, says_range how m r ns fits small may);
     };
     group = refl;
     there = inl refl;
@@ -118,9 +104,7 @@ module _ (v : Visible) (facts : List Fact) (is_shown : IsSelectedShown v facts) 
   said_row {profile} {at} fit (rows.down s known) f small =
       step_row (StepsDown at s.number) s.number s.id (known f).0 (λ small. says_down at s.number small (numbered profile s.number (known f).1)) small
   said_row fit (rows.text what s known) f small = record { tells = record { asks = []; same = refl; may = assumption (known f) }; group = refl; there = tt }
-  said_row {profile} fit (rows.text_at what s known) f small =
-      let has = says_has s.number small.last (numbered profile s.number (known f).1.1) in
-      record { tells = record { asks = []; same = refl; may = assumption (has, here_shown [] (known f).1.0, (known f).0) }; group = refl; there = inr refl }
+  said_row {profile} fit (rows.text_at what s known) f small = grind (arith, numbered, says_has s.number small.last (numbered profile s.number (known f).1.1))
   said_row {profile} {at} fit (rows.text_here what s known) f small =
       let asks : List Ask = StandsAt at s.number ∷ [] in
       let stands = says_stands at s.number small (numbered profile s.number (known f).1.1) in

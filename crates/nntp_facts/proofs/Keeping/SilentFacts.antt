@@ -1,5 +1,5 @@
 -- More facts that say nothing of groups, or of ids at numbers, join what was said of them, and leave what is kept of it.
-use Rattle.std.proofs.Common.{◌≡◌, ℕ, Bool, true, false, cond, List, [], ◌++◌, Option, None, Some, MatchOption, refl, sym, ap, subst, ◌∙◌, append-nil}
+use Rattle.std.proofs.Common.{◌≡◌, ℕ, Bool, true, false, List, [], ◌++◌, Option, None, MatchOption, refl, sym, ap, subst, ◌∙◌, append-nil, arith}
 use Rattle.std.{proofs.lemmas.Bool.{true≢false, false_from_ne_true}, specs.{Prelude.{◌↔◌}, FinMap.{FinMap, get, insert, get-insert}, Ordering.{nat_cmp}}}
 use Rattle.std.specs.{Ordering.{eq_by_cmp}, Cmp.{eq_by_cmp_equiv, Lexicographic.{slice_cmp, same_text, nat_list_cmp_total, texts_ties}}}
 use Rattle.nntp_article.specs.{Article.Parts.{Id}, Session.{Spool.{Name}, Machine.{is_same}}}
@@ -49,11 +49,7 @@ kept_at t u groups here g kept others new name = by (eq_by_cmp (slice_cmp nat_cm
         ∙ ap (λ k. eq_by_cmp (slice_cmp nat_cmp) name k) (sym (same_text here name (sym t))) ∙ e))
 
     by : (b : Bool) → eq_by_cmp (slice_cmp nat_cmp) name here ≡ b → MatchOption (get (insert groups here g) name) (IsUntold (u name)) (IsKeptGroup (u name))
-    by true e = subst (λ o. MatchOption o (IsUntold (u name)) (IsKeptGroup (u name)))
-        (sym (get-insert nat_list_cmp_total groups here g name ∙ ap (λ b. cond b (Some g) (get groups name)) e))
-        (subst (λ n. IsKeptGroup (u n) g) (sym (equal e)) new)
-    by false e = subst (λ o. MatchOption o (IsUntold (u name)) (IsKeptGroup (u name))) (sym (get-insert nat_list_cmp_total groups here g name ∙ ap (λ b. cond b (Some g) (get groups name)) e))
-        (subst (λ t. MatchOption (get groups name) (IsUntold t) (IsKeptGroup t)) (sym (others name (unequal e))) (kept name))
+    by b e = grind (arith, nat_list_cmp_total, get-insert, equal, unequal)
 
 -- what is asked of one group alone stands together with what was asked, if all does
 pub numbers_join : (facts more : List Fact) (here : Name) (asks : List Ask) → Together facts → asks_of here more ≡ asks → ((name : Name) → is_same here name ≡ false → asks_of name more ≡ [])

@@ -1,18 +1,16 @@
 -- Noting what answers say by themselves.
-use Rattle.std.proofs.Common.{arith, zero, suc, ◌+◌, ◌*◌, ◌^◌, ◌<◌, ◌≤◌, ◌≡◌, ◌⊎◌, ◌↔◌, ℕ, Bool, true, false, IsTrue, Option, None, Some, inl, inr, refl, sym}
-use Rattle.std.proofs.{Common.{ap, subst, ◌∙◌, List, [], ◌∷◌, ◌++◌, length, length-append, append-nil, append_assoc}, Math.Path.{ap₂}, lemmas.Bool.{or_left}}
-use Rattle.std.{proofs.lemmas.Grind.{flat_map-append}, specs.{Prelude.{IfSome, MatchOption, unwrap_or, option_map, slice_get}, List.{AllByRecursion, flat_map}}}
+use Rattle.std.proofs.Common.{arith, zero, suc, ◌+◌, ◌*◌, ◌^◌, ◌<◌, ◌≤◌, ◌≡◌, ◌↔◌, ℕ, Bool, true, false, IsTrue, Option, None, Some, inl, inr, refl, sym, ap}
+use Rattle.std.proofs.{Common.{subst, ◌∙◌, List, [], ◌∷◌, ◌++◌, length, length-append, append-nil, append_assoc}, Math.Path.{ap₂}, lemmas.Bool.{or_left}}
+use Rattle.std.{proofs.lemmas.Grind.{flat_map-append}, specs.{Prelude.{IfSome, unwrap_or, option_map, slice_get}, List.{AllByRecursion}}}
 use Rattle.std.specs.Option.{option_map_or}
 use Rattle.nntp_wire.specs.{declared.marks.Marks.TheVariants.{Lenient}, Answer.{Asked, Response}}
 use Rattle.nntp_pair.specs.Inner.Pairing.{lines_in}
-use Rattle.nntp_article.specs.{Session.{Spool.{Name}, Machine.{Visible, start, fits, is_same}}, declared.session.profile.Profile.{Profile}}
-use Rattle.nntp_article.specs.Inner.Misfit.{numbers_of}
+use Rattle.nntp_article.specs.{Session.{Spool.{Name}, Machine.{Visible, start, fits}}, declared.session.profile.Profile.{Profile}, Inner.Misfit.{numbers_of}}
 use Rattle.nntp_said.specs.{declared.position.Position.{Position}, Asks.{Estimates}, Facts.{Fact, Holds, ThereIs, here, facts_of, group_of}}
-use Rattle.nntp_theory.specs.{Given.{is_shown_group, shows_group}, Inner.{Given.{size}, Together.{Together, AgreeWithin, Join, IsWellFormed}}}
-use Rattle.nntp_theory.specs.{Inner.Conflict.{FitsThere}, Conflict.{Placed, said, widest, a_group, the_group, told, SomeHas, told_at, told_with}}
-use Rattle.nntp_theory.proofs.{Members.{any_back, all_front}, Given.FirstBadAnswer.{size-append}, Ids.SizeOfASession.{answer_size}}
-use Rattle.nntp_theory.proofs.{Session.GroupOfAnAnswer.{same_selected}, Together.FactsJoin.{together_more, none_agrees, group_agrees, answer_agrees}}
-use Rattle.nntp_theory.proofs.Together.FactsOfASpoolStand.{stand, same_itself}
+use Rattle.nntp_theory.specs.{Given.{is_shown_group}, Inner.{Given.{size}, Together.{Together, AgreeWithin, Join, IsWellFormed}, Conflict.{FitsThere}}}
+use Rattle.nntp_theory.{specs.Conflict.{Placed, said, widest, a_group, the_group, told, SomeHas, told_at, told_with}, proofs.Members.{any_back, all_front}}
+use Rattle.nntp_theory.proofs.{Given.FirstBadAnswer.{size-append}, Ids.SizeOfASession.{answer_size}, Session.GroupOfAnAnswer.{same_selected}}
+use Rattle.nntp_theory.proofs.Together.{FactsJoin.{together_more, none_agrees, answer_agrees}, FactsOfASpoolStand.{stand, same_itself}}
 use Rattle.nntp_numbers.specs.Inner.{Part.{Said, Says}, Summary.{AreBounded}}
 use Rattle.nntp_facts.specs.Inner.{Kept.{Kept, IsKept, AreAdded}, Saying.{Saying, OfGroup, Tells, TellsHere, TellsThere, IsShownThen, IsSelectedShown}}
 use Rattle.nntp_facts.{specs.Inner.Told.{AreTold, AreToldWith, PlacesTold}, proofs.Keeping.{NotedExchange.{Adds}, SayingRows.{of_group, tells_marks}}}
@@ -21,8 +19,7 @@ use Rattle.nntp_facts.{specs.Inner.Told.{AreTold, AreToldWith, PlacesTold}, proo
 
 -- what is said of it agrees with itself
 the_group_agrees : (profile : Profile) (group : Option Name) → AgreeWithin (the_group profile group)
-the_group_agrees profile None = none_agrees
-the_group_agrees profile (Some name) = group_agrees name (Estimates Lenient (widest profile))
+the_group_agrees profile group = grind arith
 
 -- a saying with the widest marks tells it
 pub widest_told : (profile : Profile) (facts : List Fact) (name : Name) (p : Said) (s : Saying) → Says p (Estimates Lenient (widest profile) ∷ [])
@@ -46,8 +43,7 @@ shown_facts (Some name) = ThereIs name ∷ []
 -- they do, behind others
 shown_there : (facts : List Fact) (selected : Option Name) → IfSome selected (λ name. is_shown_group (facts ++ shown_facts selected) name ≡ true)
 unfolding shown_facts
-shown_there facts None = tt
-shown_there facts (Some name) = any_back (shows_group name) facts (ThereIs name ∷ []) (or_left (is_same name name) _ (same_itself name))
+shown_there facts selected = grind (arith, any_back, or_left, same_itself)
 
 module _ (selected : Option Name) (s : Saying) (more : List Fact) (t : TellsThere selected s more) where
   -- it tells them behind the selected group alone
@@ -56,21 +52,7 @@ module _ (selected : Option Name) (s : Saying) (more : List Fact) (t : TellsTher
 
   -- the group that is said to be there
   pub group_said : (name : Name) → s.there_is ≡ Some name → group_of more ≡ Some name
-  group_said name e = by s.group (subst (λ o. IfSome o (λ name. MatchOption s.group ⊥ (λ g. g.name ≡ name))) e h.tells.may.there) h.group
-    where
-      by : (o : Option OfGroup) → MatchOption o ⊥ (λ g. g.name ≡ name) → option_map (λ g. g.name) o ≡ group_of more → group_of more ≡ Some name
-      by None none same = absurd none
-      by (Some g) is same = sym same ∙ ap (λ name. Some name) is
-
-  -- the selected group
-  selected_said : (g : OfGroup) (name : Name) → s.there_is ≡ None → s.group ≡ Some g → selected ≡ Some name → group_of more ≡ Some name
-  selected_said g name none e here =
-      let there : (s.there_is ≡ Some g.name) ⊎ (g.name ≡ unwrap_or selected []) = subst (λ o. IfSome o (λ g. (s.there_is ≡ Some g.name) ⊎ (g.name ≡ unwrap_or selected []))) e h.there in
-      let same : Some g.name ≡ group_of more = subst (λ o. option_map (λ g. g.name) o ≡ group_of more) e h.group in
-      elim there [
-        | inl is ↦ absurd (let n : None ≡ Some g.name = sym none ∙ is in cc)
-        | inr is ↦ sym same ∙ ap (λ name. Some name) (is ∙ ap (λ o. unwrap_or o []) here)
-      ]
+  group_said name e = grind (arith, h)
 
   -- none
   pub none_said : s.group ≡ None → group_of more ≡ None
@@ -85,11 +67,7 @@ module _ (selected : Option Name) (s : Saying) (more : List Fact) (t : TellsTher
 
   -- and so the selected group is the one
   pub selected_spoken : (g : OfGroup) → s.there_is ≡ None → s.group ≡ Some g → selected ≡ group_of more
-  selected_spoken g none e = by selected refl
-    where
-      by : (o : Option Name) → selected ≡ o → selected ≡ group_of more
-      by (Some name) here = here ∙ sym (selected_said g name none e here)
-      by None here = absurd (some_selected g none e here)
+  selected_spoken g none e = grind (arith, h, some_selected)
 
   -- behind others, and that there is that group, it tells them
   pub told_behind : (profile : Profile) (facts : List Fact) → Tells (facts ++ the_group profile (group_of more)) s more
@@ -110,9 +88,7 @@ module _ (selected : Option Name) (s : Saying) (more : List Fact) (t : TellsTher
       u = t (facts ++ shown_facts selected) (shown_there facts selected)
 
       by : (o : Option OfGroup) → option_map (λ g. g.name) o ≡ group_of more → IfSome o (λ g. IsShownThen (facts ++ the_group profile (group_of more)) s.there_is u.tells.asks g.name)
-      by None same = tt
-      by (Some g) same = inl (subst (λ o. is_shown_group (facts ++ the_group profile o) g.name ≡ true) same
-          (any_back (shows_group g.name) facts (a_group profile g.name) (or_left (is_same g.name g.name) _ (same_itself g.name))))
+      by o same = grind (arith, any_back, or_left, same_itself)
 
 -- ---- an answer
 
@@ -125,24 +101,11 @@ pub there_told : (profile : Profile) (a : Placed) (asked : Asked) (response : Re
 there_told profile a asked response at name numbers s (v, e, f) to by stands named listed tells all shown =
     let fitting : IsTrue (fits profile v asked response) = ap₂ (λ asked response. fits profile v asked response) to by ∙ f in
     let t = tells profile v all fitting (subst (λ o. IfSome o (λ name. is_shown_group all name ≡ true)) (sym e) shown) (named ∙ sym (ap (λ o. unwrap_or o []) e)) listed in
-    let same : facts_of profile.marks v at asked response ≡ said profile.marks a =
-    ap₂ (λ asked response. facts_of profile.marks v at asked response) to by ∙ ap (λ at. facts_of profile.marks v at a.asked a.response) stands
-    ∙ same_selected profile.marks v (record start.visible { selected = a.selected }) e a.position a.asked a.response in
-    subst (λ name. TellsHere name all s (said profile.marks a)) named (subst (TellsHere name all s) same t)
-
--- that there is the group says little
-group_size : (profile : Profile) (group : Option Name) → size (the_group profile group) ≤ 3
-group_size profile None = omega arith
-group_size profile (Some name) = omega arith
+    grind (arith, same_selected)
 
 -- and so an answer of few lines does
 pub told_size : (profile : Profile) (a : Placed) → lines_in a.response < 2 ^ 64 → size (told profile a) ≤ 2 ^ 65
-told_size profile a few =
-    let own = said profile.marks a in
-    let both = size-append (the_group profile (group_of own)) own in
-    let group = group_size profile (group_of own) in
-    let here = answer_size profile.marks (record start.visible { selected = a.selected }) a.position a.asked a.response in
-    omega (arith, both, group, here, few)
+told_size profile a few = grind (arith, size-append, answer_size)
 
 module _ (profile : Profile) (a : Placed) (facts : List Fact) (together : Together facts) where
   abbrev own : List Fact
@@ -170,33 +133,19 @@ module _ (profile : Profile) (a : Placed) (facts : List Fact) (together : Togeth
       next = together_more (facts ++ group) own both (answer_agrees profile.marks (record start.visible { selected = a.selected }) a.position a.asked a.response)
 
       by : (does : Bool) → AreAdded (facts ++ group) own mid new does → AreTold profile facts (told profile a) new does
-      by true added = (
-        subst Together (append_assoc facts group own) (next.1 added.0),
-        subst (λ facts. IsKept facts new) (append_assoc facts group own) added.1,
-        told_size profile a few,
-      )
-      by false added = λ h.
-          added.0 (next.0 (stand profile.limit h.0 ((facts ++ group) ++ own) h.1 (subst (AllByRecursion (Holds h.0)) (sym (append_assoc facts group own)) h.2)))
+      by does added = grind (arith, append_assoc, next, told_size, stand)
 
 -- ---- answers at places
 
 module _ (profile : Profile) (bad : Placed) (answers : List Placed) (places : List ℕ) (place : ℕ) where
   -- what those at one place more say
   pub with_place : (more : List Fact) → told_at profile answers place ≡ more → told_with profile bad answers places ++ more ≡ told_with profile bad answers (places ++ place ∷ [])
-  with_place more e =
-      let before = flat_map (told_at profile answers) places in
-      append_assoc (told profile bad) before more
-      ∙ ap (λ facts. told profile bad ++ facts)
-      (ap (λ more. before ++ more) (sym e ∙ sym (append-nil (told_at profile answers place))) ∙ sym (flat_map-append (told_at profile answers) places (place ∷ [])))
+  with_place more e = grind (arith, append_assoc, append-nil, flat_map-append)
 
   -- what they say is little for each of them
   place_size : (more : List Fact) → told_at profile answers place ≡ more → size more ≤ 2 ^ 65 → size (told_with profile bad answers places) ≤ 2 ^ 65 * (length places + 1)
       → size (told_with profile bad answers (places ++ place ∷ [])) ≤ 2 ^ 65 * (length (places ++ place ∷ []) + 1)
-  place_size more e few small =
-      let both = size-append (told_with profile bad answers places) more in
-      let count = length-append places (place ∷ []) in
-      let le : size (told_with profile bad answers places ++ more) ≤ 2 ^ 65 * (length (places ++ place ∷ []) + 1) = omega (arith, both, count, few, small) in
-      subst (λ facts. size facts ≤ 2 ^ 65 * (length (places ++ place ∷ []) + 1)) (with_place more e) le
+  place_size more e few small = grind (arith, size-append (told_with profile bad answers places) more, length-append places (place ∷ []), with_place more e)
 
   -- they are told
   pub place_told : (a : Placed) (old new : Kept) (does : Bool) → slice_get answers place ≡ Some a → AreToldWith profile bad answers places old

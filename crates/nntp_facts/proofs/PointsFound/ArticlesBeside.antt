@@ -1,12 +1,12 @@
 -- Points that are about articles, where what an answer says conflicts with what is kept.
 use Rattle.std.proofs.Common.{ℕ, Bool, true, false, not, cond, IsTrue, List, ◌≡◌, ◌++◌, ◌||◌, ◌⊎◌, Option, None, Some, inl, inr, refl, sym, ap, subst, ◌∙◌}
-use Rattle.std.{proofs.lemmas.Bool.{true≢false, cases_Bool, or_cases, or_left, or_right}, specs.{Prelude.{IfSome, IsFalse, MatchOption}, List.{list_any}}}
-use Rattle.std.specs.Cmp.Lexicographic.{same_text}
+use Rattle.std.{proofs.{Common.{arith}, lemmas.Bool.{true≢false, cases_Bool, or_cases, or_left, or_right}}, specs.Prelude.{IfSome, IsFalse, MatchOption}}
+use Rattle.std.specs.{List.{list_any}, Cmp.Lexicographic.{same_text}}
 use Rattle.nntp_wire.specs.declared.command.What.{What}
-use Rattle.nntp_article.specs.{Article.Parts.{Id, Line}, Session.Machine.{is_same, head_fits}, declared.session.profile.Profile.{Profile}}
+use Rattle.nntp_article.specs.{Article.Parts.{Id, Line}, Session.Machine.{head_fits}, declared.session.profile.Profile.{Profile}}
 use Rattle.nntp_said.specs.Facts.{Fact}
 use Rattle.nntp_theory.specs.{Given.{first_given, head_in, body_in}, Together.{GiveOne, shows_article, denies_article}, Inner.Together.{SaidOfArticle, said_of}}
-use Rattle.nntp_theory.specs.{Inner.Together.{said_nothing, join_said, AreSame}, Conflict.{Point, Article, HeadOf, BodyOf, rank, ConflictAt}}
+use Rattle.nntp_theory.specs.{Inner.Together.{said_nothing, join_said, AreSame}, Conflict.{Point, Article, HeadOf, BodyOf, ConflictAt}}
 use Rattle.nntp_theory.proofs.{Conflicts.{at_point}, PointsByRank.{of_rank}, Together.{FactsOfASpoolStand.{same_itself}, TwoListsOfFacts.{give_one_both}}}
 use Rattle.nntp_theory.proofs.Together.TwoListsOfFacts.{give_same_of_both}
 use Rattle.nntp_facts.specs.Inner.{Kept.{Kept, said_kept}, Saying.{OfArticle, Sends, MayBeOf}, KeptSaying.{kept_by, said_in}, Points.{Statement, IsPointOf}}
@@ -39,16 +39,10 @@ part_rank Head = 8
 part_rank Body = 9
 
 none_of : (part : Part) → part_of part said_nothing ≡ None
-none_of Head = refl
-none_of Body = refl
-
-rank_about : (part : Part) (id : Id) → rank (about part id) ≡ part_rank part
-rank_about Head id = refl
-rank_about Body id = refl
+none_of part = grind arith
 
 conflict_about : (part : Part) (id : Id) (facts : List Fact) → (GiveOne (part_in part id) facts → ⊥) → ConflictAt facts (about part id)
-conflict_about Head id facts c = c
-conflict_about Body id facts c = c
+conflict_about part id facts c = grind arith
 
 -- ---- one answer beside the others
 
@@ -81,24 +75,14 @@ module _ (profile : Profile) (facts : List Fact) (k : Kept) (t : Statement) (mor
       | inl d ↦ at_point facts (Article id) (s, d) h.together
       | inr d ↦ true≢false (sym s ∙ denied id d)
     ]
-    | inr s ↦ elim (or_cases (list_any (denies_article id) facts) (said_in t.saying.article id).is_denied (sym (denied_in_all id) ∙ c.1)) [
-      | inl d ↦ true≢false (sym d ∙ shown id s)
-      | inr d ↦ apart t.saying.article id s d
-    ]
+    | inr s ↦ grind (arith, or_cases, denied_in_all, true≢false)
   ])
     where
       apart : (o : Option (Id × OfArticle)) (id : Id) → IsTrue (said_in o id).is_shown → IsTrue (said_in o id).is_denied → ⊥
-      apart None id s d = true≢false (sym s)
-      apart (Some a) id s d = by (is_same a.0 id) s d
-        where
-          by : (b : Bool) → IsTrue (cond b (said_kept (Some (kept_by a.1))) said_nothing).is_shown → IsTrue (cond b (said_kept (Some (kept_by a.1))) said_nothing).is_denied → ⊥
-          by true s d = true≢false (sym s ∙ ap not d)
-          by false s d = true≢false (sym s)
+      apart o id s d = grind (arith, true≢false)
 
   pub no_article : t.saying.article ≡ None → IsFree 7
-  no_article e = article_free
-      (λ id s. absurd (true≢false (sym s ∙ ap (λ a. (said_in a id).is_shown) e)))
-      (λ id d. absurd (true≢false (sym d ∙ ap (λ a. (said_in a id).is_denied) e)))
+  no_article e = grind (arith, article_free, true≢false)
 
   -- where something is said of an id
   module _ (id : Id) (a : OfArticle) (e : t.saying.article ≡ Some (id, a)) where
@@ -107,21 +91,16 @@ module _ (profile : Profile) (facts : List Fact) (k : Kept) (t : Statement) (mor
 
     -- of others nothing is
     others : (q : Id) → (id ≡ q) ⊎ (said_in t.saying.article q ≡ said_nothing)
-    others q = elim (cases_Bool (is_same id q)) [
-      | inl s ↦ inl (same_text id q (sym s))
-      | inr s ↦ inr (ap (λ o. said_in o q) e ∙ ap (λ b. cond b (said_kept (Some (kept_by a))) said_nothing) s)
-    ]
+    others q = grind (arith, cases_Bool, same_text)
 
     own_free : (IsTrue (not (kept_by a).is_denied) → IsFalse (list_any (denies_article id) facts)) → (IsTrue (kept_by a).is_denied → IsFalse (list_any (shows_article id) facts)) → IsFree 7
     own_free shown denied = article_free
         (λ q s. elim (others q) [
-          | inl same ↦ subst (λ q. IsFalse (list_any (denies_article q) facts)) same
-              (shown (sym (ap (λ (s : SaidOfArticle). s.is_shown) own) ∙ subst (λ q. IsTrue (said_in t.saying.article q).is_shown) (sym same) s))
+          | inl same ↦ grind (arith, own)
           | inr none ↦ absurd (true≢false (sym s ∙ ap (λ (s : SaidOfArticle). s.is_shown) none))
         ])
         (λ q d. elim (others q) [
-          | inl same ↦ subst (λ q. IsFalse (list_any (shows_article q) facts)) same
-              (denied (sym (ap (λ (s : SaidOfArticle). s.is_denied) own) ∙ subst (λ q. IsTrue (said_in t.saying.article q).is_denied) (sym same) d))
+          | inl same ↦ grind (arith, own)
           | inr none ↦ absurd (true≢false (sym d ∙ ap (λ (s : SaidOfArticle). s.is_denied) none))
         ])
 
@@ -130,28 +109,14 @@ module _ (profile : Profile) (facts : List Fact) (k : Kept) (t : Statement) (mor
     lacks denied o is = subst (IsPointOf all 7) (sym is) (by (list_any (shows_article id) facts) refl)
       where
         by : (b : Bool) → list_any (shows_article id) facts ≡ b → IsPointOf all 7 (cond b (Some (Article id)) None)
-        by true s = (
-          (
-            shown_in_all id ∙ or_left (list_any (shows_article id) facts) _ s,
-            denied_in_all id ∙ or_right (list_any (denies_article id) facts) _ (ap (λ (s : SaidOfArticle). s.is_denied) own ∙ denied),
-          ),
-          refl,
-        )
-        by false s = own_free (λ free. absurd (true≢false (sym free ∙ ap not denied))) (λ d. s)
+        by b s = grind (arith, shown_in_all, or_left, denied_in_all, or_right, own, own_free, true≢false)
 
     -- or that it has one
     pub has : (kept_by a).is_denied ≡ false → (o : Option Point) → o ≡ cond (list_any (denies_article id) facts) (Some (Article id)) None → IsPointOf all 7 o
     has free o is = subst (IsPointOf all 7) (sym is) (by (list_any (denies_article id) facts) refl)
       where
         by : (b : Bool) → list_any (denies_article id) facts ≡ b → IsPointOf all 7 (cond b (Some (Article id)) None)
-        by true d = (
-          (
-            shown_in_all id ∙ or_right (list_any (shows_article id) facts) _ (ap (λ (s : SaidOfArticle). s.is_shown) own ∙ ap not free),
-            denied_in_all id ∙ or_left (list_any (denies_article id) facts) _ d,
-          ),
-          refl,
-        )
-        by false d = own_free (λ shown. d) (λ denied. absurd (true≢false (sym denied ∙ free)))
+        by b d = grind (arith, shown_in_all, or_right, own, denied_in_all, or_left, own_free, true≢false)
 
   -- ---- heads and bodies
 
@@ -178,12 +143,7 @@ module _ (profile : Profile) (facts : List Fact) (k : Kept) (t : Statement) (mor
   no_part part o e none = part_free part (λ id. subst (IsAlike part id) (sym (ap (λ a. part_of part (said_in a id)) e ∙ by o none id)) tt)
     where
       by : (o : Option (Id × OfArticle)) → IfSome o (λ a. part_of part (said_kept (Some (kept_by a.1))) ≡ None) → (id : Id) → part_of part (said_in o id) ≡ None
-      by None none id = none_of part
-      by (Some a) none id = at (is_same a.0 id)
-        where
-          at : (b : Bool) → part_of part (cond b (said_kept (Some (kept_by a.1))) said_nothing) ≡ None
-          at true = none
-          at false = none_of part
+      by o none id = grind (arith, none_of)
 
   -- of one that sends it, if it sends one
   module _ (part : Part) (id : Id) (what : What) (lines : Option (List Line)) (e : t.saying.article ≡ Some (id, Sends what lines)) (sent : Option (List Line))
@@ -201,5 +161,4 @@ module _ (profile : Profile) (facts : List Fact) (k : Kept) (t : Statement) (mor
     other_part other = conflict_about part id all (λ one. other (subst (IsAlike part id) (part_given part id ∙ said_part) (give_same_of_both (part_in part id) facts more one)))
 
     pub part_point : (o : Option Point) → MatchOption o (IsAlike part id sent) (λ point. (point ≡ about part id) × (IsAlike part id sent → ⊥)) → IsPointOf all (part_rank part) o
-    part_point None same = same_part same
-    part_point (Some point) (at, other) = subst (λ point. ConflictAt all point × (rank point ≡ part_rank part)) (sym at) (other_part other, rank_about part id)
+    part_point o same = grind (arith, same_part, other_part)

@@ -1,8 +1,8 @@
 -- Points of each kind, where what an answer says conflicts with what is kept.
 use Rattle.std.proofs.Common.{arith, ℕ, Bool, true, false, not, cond, IsTrue, List, [], ◌≡◌, ◌∷◌, ◌++◌, ◌&&◌, ◌||◌, ◌<◌, ◌==◌, ◌⊎◌, Option, None, Some, inl}
-use Rattle.std.proofs.{Common.{inr, refl, sym, ap, subst, ◌∙◌, append-nil}, lemmas.Bool.{true≢false, cases_Bool, and_from, and_parts, or_cases, or_left}}
-use Rattle.std.{proofs.lemmas.{Bool.{or_right, eq-eqb, eqb-true, not-true}, List.Folds.{list_any-append}}, specs.Prelude.{IfSome, IsFalse, MatchOption}}
-use Rattle.std.specs.{Prelude.{option_map}, List.{AllByRecursion, list_any, list_all}, Option.{option_map_or, option_or}, Cmp.Lexicographic.{same_text}}
+use Rattle.std.proofs.{Common.{inr, refl, sym, ap, subst, ◌∙◌, append-nil}, lemmas.Bool.{true≢false, cases_Bool, and_parts, or_cases, or_left, or_right}}
+use Rattle.std.{proofs.lemmas.{Bool.{eq-eqb, eqb-true, not-true}, List.Folds.{list_any-append}}, specs.Prelude.{IfSome, IsFalse, MatchOption, option_map}}
+use Rattle.std.specs.{List.{AllByRecursion, list_any, list_all}, Option.{option_map_or, option_or}, Cmp.Lexicographic.{same_text}}
 use Rattle.nntp_wire.specs.{Listing.{ActiveValue}, Decided.{matches_name}, declared.marks.Marks.TheVariants.{Lenient}}
 use Rattle.nntp_article.specs.{Article.Parts.{Id}, Session.{Spool.{Name}, Machine.{is_same, names_differ}}, declared.session.profile.Profile.{Profile}}
 use Rattle.nntp_said.specs.{Asks.{Ask, Bounds, Estimates}, Facts.{Fact, ThereIs, Asks, GroupsAre, group_of}}
@@ -26,16 +26,14 @@ not_all [] = refl
 not_all (ask ∷ asks) = by (is_possible ask) (not_all asks)
   where
     by : (b : Bool) → list_any cannot asks ≡ not (list_all is_possible asks) → (not b || list_any cannot asks) ≡ not (b && list_all is_possible asks)
-    by true rest = rest
-    by false rest = refl
+    by b rest = grind arith
 
 bounds_can : (name : Name) (lines : List ActiveValue) → list_any cannot (bounds_of name lines) ≡ false
 bounds_can name [] = refl
 bounds_can name (line ∷ lines) = by (is_same line.name name) (bounds_can name lines)
   where
     by : (b : Bool) → list_any cannot (bounds_of name lines) ≡ false → list_any cannot (cond b (Bounds line.low line.high ∷ []) [] ++ bounds_of name lines) ≡ false
-    by true e = e
-    by false e = e
+    by b e = grind arith
 
 -- what an answer says can't be where its part says so
 pub impossible_told : (profile : Profile) (t : Statement) (here : List Fact) → TellsAlone profile t here → (name : Name) → list_any cannot (asks_of name here) ≡ is_impossible name t
@@ -47,9 +45,7 @@ impossible_told profile t here tells name = by t.saying.group refl
     cases g says false = refl
 
     by : (g : Option OfGroup) → t.saying.group ≡ g → list_any cannot (asks_of name here) ≡ option_map_or (λ g. is_same g.name name && not g.numbers.possible) g false
-    by (Some g) e =
-        ap (list_any cannot) (asks_some profile t here tells g e name)
-        ∙ cases g (subst (λ o. IfSome o (λ (g : OfGroup). Says g.numbers (tells.tells.asks ++ asked_id g.id))) e tells.tells.may.numbers) (is_same g.name name)
+    by (Some g) e = grind (arith, asks_some profile t here tells g e name, cases)
     by None e = none t.saying.groups refl
       where
         none : (o : Option (Option (List ℕ) × List ActiveValue)) → t.saying.groups ≡ o → list_any cannot (asks_of name here) ≡ false
@@ -106,9 +102,7 @@ module _ (profile : Profile) (facts : List Fact) (k : Kept) (t : Statement) (mor
       before = elim (cases_Bool (list_any cannot (asks_of name facts))) [ inl c ↦ absurd (none_before (Step name) c) | inr f ↦ f ]
 
   pub step_found : (g : OfGroup) → t.saying.group ≡ Some g → g.numbers.possible ≡ false → ConflictAt all (Step g.name)
-  step_found g e no_way =
-      cannot_all g.name ∙ ap (λ o. option_map_or (λ h. is_same h.name g.name && not h.numbers.possible) o false) e
-      ∙ and_from (is_same g.name g.name) (not g.numbers.possible) (same_itself g.name) (ap not no_way)
+  step_found g e no_way = grind (arith, same_itself, cannot_all g.name)
 
   pub step_free : ((name : Name) → is_impossible name t ≡ false) → IsFree 0
   step_free none = of_rank Free 0 (λ name c. true≢false (sym c ∙ cannot_all name ∙ none name))
@@ -117,12 +111,7 @@ module _ (profile : Profile) (facts : List Fact) (k : Kept) (t : Statement) (mor
   no_step e = step_free (λ name. ap (λ o. option_map_or (λ g. is_same g.name name && not g.numbers.possible) o false) e)
 
   pub possible_step : (g : OfGroup) → t.saying.group ≡ Some g → g.numbers.possible ≡ true → IsFree 0
-  possible_step g e possible = step_free (λ name. ap (λ o. option_map_or (λ g. is_same g.name name && not g.numbers.possible) o false) e
-      ∙ ap (λ b. is_same g.name name && not b) possible ∙ no (is_same g.name name))
-    where
-      no : (b : Bool) → (b && false) ≡ false
-      no true = refl
-      no false = refl
+  possible_step g e possible = grind (arith, step_free)
 
   -- ---- groups
 
@@ -149,10 +138,7 @@ module _ (profile : Profile) (facts : List Fact) (k : Kept) (t : Statement) (mor
       | inl d ↦ none_before (Group name) (s, d)
       | inr d ↦ denies name d s
     ]
-    | inr s ↦ elim (or_cases (list_any (denies_group name) facts) (denies_name name t) (sym (denied_all name) ∙ c.1)) [
-      | inl d ↦ true≢false (sym d ∙ shows name s)
-      | inr d ↦ apart name s d
-    ]
+    | inr s ↦ grind (arith, or_cases, denied_all, true≢false)
   ])
 
   -- ---- numbers
@@ -178,8 +164,7 @@ module _ (profile : Profile) (facts : List Fact) (k : Kept) (t : Statement) (mor
   each_free n low high each = go
     where
       by : (name : Name) (other : Point) → rank other ≡ n → IsAbout name other → ConflictAt all other → (asks_of name more ≡ []) ⊎ IsFreeOf n name → ⊥
-      by name other e is c (inl none) = silent_free name none other is c
-      by name other e is c (inr free) = free other e is c
+      by name other e is c h = grind (arith, silent_free)
 
       go : (other : Point) → rank other ≡ n → ConflictAt all other → ⊥
       go (Step name) e c = omega (arith, low, e)
@@ -223,12 +208,10 @@ module _ (profile : Profile) (facts : List Fact) (k : Kept) (t : Statement) (mor
 
   -- what is given where the answer shows no id, or one at a number
   pub no_ids : t.saying.group ≡ None → IsFree 5
-  no_ids e = id_free (λ name n. subst (λ o. IfSome o (λ x. IfSome (first_given (id_in name n) facts) (λ y. x
-      ≡ y))) (sym (ap (λ o. option_map_or (λ g. cond (is_same g.name name) (id_of g.id n) None) o None) e)) tt)
+  no_ids e = grind (arith, id_free)
 
   pub no_id : (g : OfGroup) → t.saying.group ≡ Some g → g.id ≡ None → IsFree 5
-  no_id g e is = id_free (λ name n. subst (λ o. IfSome o (λ x. IfSome (first_given (id_in name n) facts) (λ y. x ≡ y)))
-      (sym (ap (λ o. option_map_or (λ g. cond (is_same g.name name) (id_of g.id n) None) o None) e ∙ ap (λ o. cond (is_same g.name name) (id_of o n) None) is ∙ none_if (is_same g.name name))) tt)
+  no_id g e is = grind (arith, id_free, none_if)
 
   id_here : (g : OfGroup) (n : ℕ) (id : Id) (name : Name) (m : ℕ) → t.saying.group ≡ Some g → g.id ≡ Some (n, id) → id_told name m t ≡ cond (is_same g.name name) (cond (n == m) (Some id) None) None
   id_here g n id name m e is = ap (λ o. option_map_or (λ h. cond (is_same h.name name) (id_of h.id m) None) o None) e ∙ ap (λ o. cond (is_same g.name name) (id_of o m) None) is
@@ -251,13 +234,10 @@ module _ (profile : Profile) (facts : List Fact) (k : Kept) (t : Statement) (mor
 
   -- the same of its number
   pub no_places : t.saying.group ≡ None → IsFree 6
-  no_places e = place_free (λ name id. subst (λ o. IfSome o (λ x. IfSome (first_given (number_in name id) facts) (λ y. x
-      ≡ y))) (sym (ap (λ o. option_map_or (λ g. cond (is_same g.name name) (place_of g.id id) None) o None) e)) tt)
+  no_places e = grind (arith, place_free)
 
   pub no_place : (g : OfGroup) → t.saying.group ≡ Some g → g.id ≡ None → IsFree 6
-  no_place g e is = place_free (λ name id. subst (λ o. IfSome o (λ x. IfSome (first_given (number_in name id) facts) (λ y. x ≡ y)))
-      (sym (ap (λ o. option_map_or (λ g. cond (is_same g.name name) (place_of g.id id) None) o None) e ∙ ap (λ o. cond (is_same g.name name) (place_of o id) None) is
-      ∙ none_if (is_same g.name name))) tt)
+  no_place g e is = grind (arith, place_free, none_if)
 
   place_here : (g : OfGroup) (n : ℕ) (id : Id) (name : Name) (other : Id) → t.saying.group ≡ Some g → g.id ≡ Some (n, id)
       → place_told name other t ≡ cond (is_same g.name name) (cond (is_same id other) (Some n) None) None
@@ -323,8 +303,7 @@ module _ (profile : Profile) (facts : List Fact) (k : Kept) (t : Statement) (mor
       shows name = λ i. option_map_or (λ g. is_same g name) (no_group i) false || option_map_or (λ l. is_listed l.1 name) (e i) false
 
       denies : (name : Name) → denies_name name t ≡ (option_map_or (λ w. matches_name w name) l.0 true && not (is_listed l.1 name))
-      denies name = λ i. option_map_or (λ g. is_same g name) (alone.there_is_no i) false || option_map_or (λ l. option_map_or (λ w. matches_name w name) l.0 true && not (is_listed l.1 name)) (e i)
-          false
+      denies name = grind arith
 
       go : (o : Option Name) → MatchOption o (AllByRecursion (λ line. IsFalse (list_any (denies_group line.name) facts)) l.1 × NoneIsMissing facts l.0 l.1)
           (λ name. (IsTrue (is_listed l.1 name) × IsTrue (list_any (denies_group name) facts)) ⊎ (IsTrue (is_shown_group facts name) × IsTrue (denies_group name (GroupsAre l.0 l.1))))
@@ -347,15 +326,13 @@ module _ (profile : Profile) (facts : List Fact) (k : Kept) (t : Statement) (mor
   named_group none = go
     where
       or_no : (b : Bool) → (b || false) ≡ b
-      or_no true = refl
-      or_no false = refl
+      or_no b = grind arith
 
       shows : (name : Name) → shows_name name t ≡ option_map_or (λ g. is_same g name) t.group false
       shows name = ap (λ o. option_map_or (λ g. is_same g name) t.group false || option_map_or (λ l. is_listed l.1 name) o false) none ∙ or_no _
 
       denies : (name : Name) → denies_name name t ≡ option_map_or (λ g. is_same g name) t.saying.there_is_no false
-      denies name = ap (λ o. option_map_or (λ g. is_same g name) t.saying.there_is_no false || option_map_or (λ l. option_map_or (λ w. matches_name w name) l.0 true && not (is_listed l.1 name)) o
-          false) none ∙ or_no _
+      denies name = grind arith
 
       is_it : (o : Option Name) (name : Name) → o ≡ Some name → IsTrue (option_map_or (λ g. is_same g name) o false)
       is_it o name e = ap (λ o. option_map_or (λ g. is_same g name) o false) e ∙ same_itself name
@@ -390,5 +367,4 @@ module _ (profile : Profile) (facts : List Fact) (k : Kept) (t : Statement) (mor
   pub missing_group : t.saying.groups ≡ None → IfSome t.group (λ name. IsFalse (list_any (denies_group name) facts)) → (o : Option Name)
       → MatchOption o (IfSome t.saying.there_is_no (λ name. IsFalse (is_shown_group facts name) × (t.group ≡ Some name → ⊥)))
       (λ name. (t.saying.there_is_no ≡ Some name) × (IsTrue (is_shown_group facts name) ⊎ (t.group ≡ Some name))) → IsPointOf all 1 (option_map Group o)
-  missing_group none free None missing = named_group none None (free, missing)
-  missing_group none free (Some name) found = named_group none (Some name) (inr found)
+  missing_group none free o missing = grind (arith, named_group)

@@ -1,6 +1,6 @@
 -- Points that are about the numbers of a group.
-use Rattle.std.proofs.{Common.{arith, ℕ, ◌≡◌, ◌<◌, ◌^◌, ◌++◌, ◌∷◌, List, inl, inr, true, subst, sym, ◌∙◌}, lemmas.Bool.{true≢false, cases_Bool, or_left}}
-use Rattle.nntp_wire.specs.{Limit.{greatest}, declared.{limit.Limit.{Limit, TheVariants.{Narrow, Wide}}, marks.Marks.TheVariants.{Lenient}}}
+use Rattle.std.proofs.{Common.{arith, ℕ, ◌≡◌, ◌<◌, ◌++◌, ◌∷◌, List, inl, inr, subst, sym, ◌∙◌}, lemmas.Bool.{true≢false, cases_Bool}}
+use Rattle.nntp_wire.specs.{Limit.{greatest}, declared.{limit.Limit.{Limit}, marks.Marks.TheVariants.{Lenient}}}
 use Rattle.nntp_article.specs.{Session.Spool.{Name}, declared.session.profile.Profile.{Profile}}
 use Rattle.nntp_said.specs.{Asks.{Ask, Estimates}, Facts.{Fact}}
 use Rattle.nntp_theory.specs.{Given.{asks_of, is_denied, denies, demand, IsGivenNumber}, Together.{MeetsDemand}, Inner.Conflict.{AreApart}, Conflict.{widest}}
@@ -11,19 +11,10 @@ use Rattle.nntp_facts.specs.declared.points.NumbersKind.TheVariants as kinds
 
 -- their ranks are these
 pub above_one : (kind : NumbersKind) → 1 < rank_of_numbers kind
-above_one kinds.Number = omega arith
-above_one kinds.Count = omega arith
-above_one kinds.First = omega arith
+above_one kind = grind arith
 
 pub below_five : (kind : NumbersKind) → rank_of_numbers kind < 5
-below_five kinds.Number = omega arith
-below_five kinds.Count = omega arith
-below_five kinds.First = omega arith
-
--- article numbers are of 64 bits
-limit_small : (profile : Profile) (limit : Limit) → profile.limit ≡ greatest limit → profile.limit < 2 ^ 64
-limit_small profile Narrow e = omega (arith, e)
-limit_small profile Wide e = omega (arith, e)
+below_five kind = grind arith
 
 -- what is bounded behind is bounded
 pub bounded_behind : (asks more : List Ask) → AreBounded more → AreBounded (asks ++ more)
@@ -31,12 +22,7 @@ bounded_behind asks more bounded n large = any_back (λ ask. denies ask n) asks 
 
 -- the widest marks bound
 pub bounded_widest : (profile : Profile) (limit : Limit) (more : List Ask) → profile.limit ≡ greatest limit → AreBounded (Estimates Lenient (widest profile) ∷ more)
-bounded_widest profile limit more e n large =
-    let small = limit_small profile limit e in
-    or_left (denies (Estimates Lenient (widest profile)) n) (is_denied more n) (beyond (omega (arith, small, large)))
-  where
-    beyond : profile.limit < n → denies (Estimates Lenient (widest profile)) n ≡ true
-    beyond l = grind arith
+bounded_widest profile limit more e n large = grind arith
 
 module _ (all : List Fact) (name : Name) where
   -- no known number is denied where no number is a point
@@ -62,7 +48,4 @@ module _ (all : List Fact) (name : Name) where
   count_free few point e is c = absurd is
 
   pub first_free : MeetsDemand (demand (asks_of name all)) (IsGivenNumber (asks_of name all)) → IsFreeAt 4
-  first_free met (First other) e is c = c (subst (λ nm. MeetsDemand (demand (asks_of nm all)) (IsGivenNumber (asks_of nm all))) is met)
-  first_free met (Number other n) e is c = absurd (omega (arith, e))
-  first_free met (Count other) e is c = absurd (omega (arith, e))
-  first_free met point e is c = absurd is
+  first_free met point e is c = grind arith

@@ -1,32 +1,20 @@
 -- Kinds of points that are looked for one after the other.
-use Rattle.std.proofs.Common.{zero, suc, get_or, ◌≡◌, ℕ, ◌+◌, ◌<◌, ◌≤◌, arith, List, [], ◌∷◌, Option, None, Some, inl, inr, refl, sym, subst}
-use Rattle.std.{proofs.lemmas.Bool.{cases_lt}, specs.{List.{AllByRecursion}, Prelude.{option_map}}}
+use Rattle.std.{proofs.Common.{get_or, ◌≡◌, ℕ, ◌+◌, ◌<◌, ◌≤◌, arith, List, [], ◌∷◌, Option, None, Some, inl, inr, sym, subst}, specs.List.{AllByRecursion}}
+use Rattle.std.specs.Prelude.{option_map}
 use Rattle.nntp_article.specs.declared.session.profile.Profile.{Profile}
 use Rattle.nntp_wire.specs.declared.marks.Marks.TheVariants.{Lenient}
 use Rattle.nntp_said.specs.Facts.{Fact}
-use Rattle.nntp_theory.specs.{Inner.{Together.{IsWellFormed, Together}, Conflict.{FitsThere}}, Conflict.{Placed, told, told_with, Point, Step, rank}}
-use Rattle.nntp_theory.{specs.Conflict.{ConflictAt, IsFirstPoint}, proofs.{Members.{all_at, all_from, all_both}, Conflicts.{with_told, told_fitting}}}
-use Rattle.nntp_theory.proofs.{Conflicts.{told_placed}, PointsOfConflict.{stand_or_conflict}}
+use Rattle.nntp_theory.specs.{Inner.{Together.{IsWellFormed, Together}, Conflict.{FitsThere}}, Conflict.{Placed, told, told_with, Point, Step, ConflictAt}}
+use Rattle.nntp_theory.{specs.Conflict.{IsFirstPoint}, proofs.{Members.{all_at, all_from, all_both}, Conflicts.{with_told, told_fitting, told_placed}}}
+use Rattle.nntp_theory.proofs.PointsOfConflict.{stand_or_conflict}
 use Rattle.nntp_facts.specs.Inner.{Points.{Answers, AreHeld, Statement, TellsAlone, IsBeside, IsPointOf, NoneBefore}, PointView.{point_of}}
 use Rattle.nntp_facts.specs.{Inner.StatementView.{rank_of}, declared.{point.Point.{Point as CodePoint}, points.Kind.{Kind}}}
 use Rattle.nntp_facts.specs.declared.points.Kind.TheVariants as kind
 use Rattle.nntp_facts.specs.declared.points.NumbersKind.TheVariants as numbers
 
--- the first point
-pub first_found_of : (facts : List Fact) (k i : ℕ) (point : Point) → k ≡ i → NoneBefore facts i → ConflictAt facts point × (rank point ≡ k) → IsFirstPoint facts point
-first_found_of facts k i point e before c = record { conflict = c.0; first = λ other l. before other (omega (arith, l, c.1, e)) }
-
--- none of one kind more
-pub none_up : (facts : List Fact) (k i : ℕ) → k ≡ i → NoneBefore facts i → ((other : Point) → rank other ≡ k → ConflictAt facts other → ⊥) → NoneBefore facts (i + 1)
-none_up facts k i e before here other l = elim (cases_lt (rank other) i) [ inl low ↦ before other low | inr high ↦ here other (omega (arith, l, high, e)) ]
-
-ranks : (point : Point) → rank point < 10
-ranks (Step name) = omega arith
-ranks point = omega arith
-
 -- where they conflict at no point of all kinds, they do nowhere
 pub nowhere : (facts : List Fact) (i : ℕ) → 10 ≤ i → NoneBefore facts i → (point : Point) → ConflictAt facts point → ⊥
-nowhere facts i end none point c = let r = ranks point in none point (omega (arith, r, end)) c
+nowhere facts i end none point c = grind arith
 
 -- where facts that answers tell conflict nowhere they stand together
 pub none_at_all : (profile : Profile) (bad : Placed) (answers : List Placed) (places : List ℕ) → AllByRecursion (FitsThere profile) (bad ∷ answers)
@@ -42,11 +30,11 @@ none_at_all profile bad answers places fits formed none = elim (stand_or_conflic
 -- a point that is given is the first
 pub point_given : (facts : List Fact) (k i : ℕ) (o : Option CodePoint) (point : CodePoint) → o ≡ Some point → k ≡ i → NoneBefore facts i → IsPointOf facts k (option_map point_of o)
     → IsFirstPoint facts (point_of point)
-point_given facts k i o point e is before found = first_found_of facts k i (point_of point) is before (subst (λ o. IsPointOf facts k (option_map point_of o)) e found)
+point_given facts k i o point e is before found = grind arith
 
 -- where none is given there is none of the kind
 pub none_given : (facts : List Fact) (k i : ℕ) (o : Option CodePoint) → o ≡ None → k ≡ i → NoneBefore facts i → IsPointOf facts k (option_map point_of o) → NoneBefore facts (i + 1)
-none_given facts k i o e is before found = none_up facts k i is before (subst (λ o. IsPointOf facts k (option_map point_of o)) e found)
+none_given facts k i o e is before found = grind arith
 
 -- the same of equal facts
 pub moved_before : (all facts : List Fact) (k i : ℕ) → all ≡ facts → k ≡ i → NoneBefore facts i → NoneBefore all k
@@ -65,17 +53,7 @@ kinds = kind.Step ∷ kind.Group ∷ kind.Numbers numbers.Number ∷ kind.Number
 
 -- each stands at its rank
 pub kind_ranked : (i : ℕ) (d : Kind) → i < 10 → rank_of (get_or kinds i d) ≡ i
-kind_ranked zero d l = refl
-kind_ranked (suc zero) d l = refl
-kind_ranked (suc (suc zero)) d l = refl
-kind_ranked (suc (suc (suc zero))) d l = refl
-kind_ranked (suc (suc (suc (suc zero)))) d l = refl
-kind_ranked (suc (suc (suc (suc (suc zero))))) d l = refl
-kind_ranked (suc (suc (suc (suc (suc (suc zero)))))) d l = refl
-kind_ranked (suc (suc (suc (suc (suc (suc (suc zero))))))) d l = refl
-kind_ranked (suc (suc (suc (suc (suc (suc (suc (suc zero)))))))) d l = refl
-kind_ranked (suc (suc (suc (suc (suc (suc (suc (suc (suc zero))))))))) d l = refl
-kind_ranked (suc (suc (suc (suc (suc (suc (suc (suc (suc (suc n)))))))))) d l = absurd (omega (arith, l))
+kind_ranked i d l = grind arith
 
 module _ (profile : Profile) (all : List Fact) (held : Answers) (h : AreHeld profile all held) (t : Statement) (tells : TellsAlone profile t (told profile h.last)) where
   -- the last answer beside the others

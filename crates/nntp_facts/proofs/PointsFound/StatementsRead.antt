@@ -1,32 +1,25 @@
 -- What facts say that answers tell by themselves, read off what is looked at.
-use Rattle.std.proofs.Common.{◌≡◌, ℕ, Bool, true, false, ◌||◌, ◌&&◌, not, cond, List, [], ◌∷◌, ◌++◌, Option, None, Some, MatchOption, ◌⊎◌, inl, inr, refl, sym}
-use Rattle.std.{proofs.{Common.{ap, subst, ◌∙◌, append-nil}, lemmas.List.Folds.{list_any-append}}, specs.{Prelude.{IfSome, option_map}, List.{list_any}}}
-use Rattle.std.specs.Option.{option_map_or, option_or}
-use Rattle.nntp_wire.specs.{Decided.{matches_name}, Listing.{ActiveValue}, declared.marks.Marks.TheVariants.{Lenient}}
+use Rattle.std.proofs.Common.{◌≡◌, ℕ, Bool, false, ◌||◌, cond, List, [], ◌∷◌, ◌++◌, Option, None, Some, MatchOption, ◌⊎◌, refl, sym, ap, subst, ◌∙◌, append-nil}
+use Rattle.std.{proofs.{Common.{arith}, lemmas.List.Folds.{list_any-append}}, specs.{Prelude.{IfSome, option_map}, List.{list_any}, Option.{option_map_or}}}
+use Rattle.nntp_wire.specs.{Listing.{ActiveValue}, declared.marks.Marks.TheVariants.{Lenient}}
 use Rattle.nntp_article.specs.{Article.Parts.{Id}, Session.{Spool.{Name}, Machine.{is_same}}, declared.session.profile.Profile.{Profile}}
 use Rattle.nntp_said.specs.{Asks.{Ask, Estimates}, Facts.{Fact, ThereIs, Asks, GroupsAre}}
 use Rattle.nntp_theory.specs.{Given.{asks_of, shows_group, is_shown_group, first_given, id_in}, Together.{denies_group, number_in}, Inner.Together.{said_of}}
 use Rattle.nntp_theory.{specs.Conflict.{widest, the_group}, proofs.Together.FactsJoin.{asks_append}}
-use Rattle.nntp_facts.specs.Inner.Saying.{OfGroup, Saying, asked_id, sent_facts, lack_facts, group_facts, there_facts, missing_facts, groups_facts, facts_in}
-use Rattle.nntp_facts.specs.Inner.{Saying.{IsAlone}, Kept.{id_of, place_of}, KeptSaying.{said_in}, ListedGroups.{MayList, is_listed}, Points.{Statement}}
-use Rattle.nntp_facts.{specs.Inner.Points.{TellsAlone, shows_name, denies_name, id_told, place_told, bounds_of}, proofs.Keeping.FactsOfParts.{shown_group}}
-use Rattle.nntp_facts.proofs.Keeping.{FactsOfParts.{denied_group}, PartsJoin.{said_of_parts, group_is, no_group_is}}
+use Rattle.nntp_facts.specs.Inner.{Saying.{OfGroup, Saying, asked_id, facts_in, IsAlone}, Kept.{id_of, place_of}, KeptSaying.{said_in}, ListedGroups.{MayList}}
+use Rattle.nntp_facts.specs.Inner.{ListedGroups.{is_listed}, Points.{Statement, TellsAlone, shows_name, denies_name, id_told, place_told, bounds_of}}
+use Rattle.nntp_facts.proofs.Keeping.{FactsOfParts.{shown_group, denied_group}, PartsJoin.{said_of_parts, group_is, no_group_is}}
 
 or_no : (b : Bool) → (b || false) ≡ b
-or_no true = refl
-or_no false = refl
+or_no b = grind arith
 
 -- an answer that lists groups says nothing else
 listed_facts : (s : Saying) (asks : List Ask) (l : Option (List ℕ) × List ActiveValue) → IsAlone s → s.groups ≡ Some l → facts_in s asks ≡ GroupsAre l.0 l.1 ∷ []
-listed_facts s asks l alone e = λ i.
-    sent_facts (alone.article i) ++ (there_facts (alone.there_is i) ++ (group_facts (alone.group i) asks ++ (missing_facts (alone.there_is_no i) ++ (lack_facts
-    (alone.article i) ++ groups_facts (e i)))))
+listed_facts s asks l alone e = grind arith
 
 -- the group that is said to be there is the one of which the answer speaks
 there_same : (o : Option Name) (g : Option OfGroup) → IfSome o (λ name. MatchOption g ⊥ (λ g. g.name ≡ name)) → (o ≡ None) ⊎ (o ≡ option_map (λ g. g.name) g)
-there_same None g h = inl refl
-there_same (Some name) None h = absurd h
-there_same (Some name) (Some g) h = inr (ap (λ name. Some name) (sym h))
+there_same o g h = grind arith
 
 module _ (profile : Profile) (t : Statement) (facts : List Fact) (h : TellsAlone profile t facts) where
   abbrev s : Saying
@@ -42,9 +35,6 @@ module _ (profile : Profile) (t : Statement) (facts : List Fact) (h : TellsAlone
   alone : (l : Option (List ℕ) × List ActiveValue) → t.saying.groups ≡ Some l → IsAlone t.saying
   alone l e = let may : MayList l.0 l.1 × IsAlone t.saying = subst (λ o. IfSome o (λ l. MayList l.0 l.1 × IsAlone t.saying)) e h.tells.may.groups in may.1
 
-  no_group : (l : Option (List ℕ) × List ActiveValue) → t.saying.groups ≡ Some l → t.group ≡ None
-  no_group l e = sym h.named ∙ ap (option_map (λ g. g.name)) (alone l e).group
-
   -- ---- groups
 
   pub shown_told : (name : Name) → is_shown_group facts name ≡ shows_name name t
@@ -59,12 +49,7 @@ module _ (profile : Profile) (t : Statement) (facts : List Fact) (h : TellsAlone
 
       twice : (a b : Option Name) → (b ≡ None) ⊎ (b ≡ a)
           → (option_map_or (λ g. is_same g name) a false || option_map_or (λ g. is_same g name) b false) ≡ (option_map_or (λ g. is_same g name) a false || false)
-      twice a b (inl e) = ap (λ b. option_map_or (λ g. is_same g name) a false || option_map_or (λ g. is_same g name) b false) e
-      twice a b (inr e) = ap (λ b. option_map_or (λ g. is_same g name) a false || option_map_or (λ g. is_same g name) b false) e ∙ both (option_map_or (λ g. is_same g name) a false)
-        where
-          both : (x : Bool) → (x || x) ≡ (x || false)
-          both true = refl
-          both false = refl
+      twice a b h = grind arith
 
       by : (o : Option (Option (List ℕ) × List ActiveValue)) → t.saying.groups ≡ o
           → (list_any (shows_group name) (the_group profile t.group) || list_any (shows_group name) (facts_in t.saying h.tells.asks))
@@ -72,28 +57,10 @@ module _ (profile : Profile) (t : Statement) (facts : List Fact) (h : TellsAlone
       by None e =
           (λ i. of_group t.group i || shown_group t.saying h.tells.asks e name i)
           ∙ twice t.group t.saying.there_is (subst (λ g. (t.saying.there_is ≡ None) ⊎ (t.saying.there_is ≡ g)) h.named (there_same t.saying.there_is t.saying.group h.tells.may.there))
-      by (Some l) e =
-          (λ i. of_group t.group i || list_any (shows_group name) (listed_facts t.saying h.tells.asks l (alone l e) e i))
-          ∙ ap (λ b. option_map_or (λ g. is_same g name) t.group false || b) (or_no (is_listed l.1 name))
+      by (Some l) e = grind (arith, listed_facts, alone, or_no)
 
   pub denied_told : (name : Name) → list_any (denies_group name) facts ≡ denies_name name t
-  denied_told name =
-      ap (list_any (denies_group name)) (sym whole)
-      ∙ list_any-append (denies_group name) (the_group profile t.group) (facts_in t.saying h.tells.asks)
-      ∙ by t.saying.groups refl
-    where
-      of_group : (g : Option Name) → list_any (denies_group name) (the_group profile g) ≡ false
-      of_group None = refl
-      of_group (Some g) = refl
-
-      by : (o : Option (Option (List ℕ) × List ActiveValue)) → t.saying.groups ≡ o
-          → (list_any (denies_group name) (the_group profile t.group) || list_any (denies_group name) (facts_in t.saying h.tells.asks))
-          ≡ (option_map_or (λ g. is_same g name) t.saying.there_is_no false || option_map_or (λ l. option_map_or (λ w. matches_name w name) l.0 true && not (is_listed l.1 name)) o false)
-      by None e = (λ i. of_group t.group i || denied_group t.saying h.tells.asks e name i) ∙ sym (or_no _)
-      by (Some l) e =
-          (λ i. of_group t.group i || list_any (denies_group name) (listed_facts t.saying h.tells.asks l (alone l e) e i))
-          ∙ or_no _
-          ∙ ap (λ o. option_map_or (λ g. is_same g name) o false || (option_map_or (λ w. matches_name w name) l.0 true && not (is_listed l.1 name))) (sym (alone l e).there_is_no)
+  denied_told name = grind (arith, list_any-append, denied_group)
 
   -- ---- numbers
 
@@ -102,11 +69,7 @@ module _ (profile : Profile) (t : Statement) (facts : List Fact) (h : TellsAlone
 
   -- where groups are listed no group is spoken of
   listed_or_not : (g : OfGroup) → t.saying.group ≡ Some g → t.saying.groups ≡ None
-  listed_or_not g e = by t.saying.groups refl
-    where
-      by : (o : Option (Option (List ℕ) × List ActiveValue)) → t.saying.groups ≡ o → o ≡ None
-      by None l = refl
-      by (Some l) is = absurd (let n : None ≡ Some g = sym (alone l is).group ∙ e in cc)
+  listed_or_not g e = grind arith
 
   pub group_named : (g : OfGroup) → t.saying.group ≡ Some g → t.group ≡ Some g.name
   group_named g e = sym h.named ∙ ap (option_map (λ g. g.name)) e
@@ -114,37 +77,20 @@ module _ (profile : Profile) (t : Statement) (facts : List Fact) (h : TellsAlone
   -- of the group of which it speaks the answer says so much, and nothing of others
   pub asks_some : (g : OfGroup) → t.saying.group ≡ Some g → (name : Name)
       → asks_of name facts ≡ cond (is_same g.name name) (Estimates Lenient (widest profile) ∷ (h.tells.asks ++ asked_id g.id)) []
-  asks_some g e name =
-      asks_both name
-      ∙ (λ i. asks_of name (the_group profile (group_named g e i)) ++ (group_is h.before t.saying h.tells.asks (listed_or_not g e) h.tells.may g e).0 name i)
-      ∙ by (is_same g.name name)
-    where
-      by : (b : Bool) → (cond b (Estimates Lenient (widest profile) ∷ []) [] ++ []) ++ cond b (h.tells.asks ++ asked_id g.id) []
-          ≡ cond b (Estimates Lenient (widest profile) ∷ (h.tells.asks ++ asked_id g.id)) []
-      by true = refl
-      by false = refl
+  asks_some g e name = grind (arith, group_named, listed_or_not, asks_both name, group_is h.before t.saying h.tells.asks (listed_or_not g e) h.tells.may g e)
 
   pub asks_listed : (l : Option (List ℕ) × List ActiveValue) → t.saying.groups ≡ Some l → (name : Name) → asks_of name facts ≡ bounds_of name l.1
-  asks_listed l e name =
-      asks_both name
-      ∙ (λ i. asks_of name (the_group profile (no_group l e i)) ++ asks_of name (listed_facts t.saying h.tells.asks l (alone l e) e i))
-      ∙ append-nil (bounds_of name l.1)
+  asks_listed l e name = grind (arith, asks_append, append-nil)
 
   pub asks_none : t.saying.group ≡ None → t.saying.groups ≡ None → (name : Name) → asks_of name facts ≡ []
-  asks_none e none name =
-      asks_both name
-      ∙ (λ i. asks_of name (the_group profile ((sym h.named ∙ ap (option_map (λ g. g.name)) e) i)) ++ (no_group_is h.before t.saying h.tells.asks none h.tells.may e).0 name i)
+  asks_none e none name = grind arith
 
   -- ---- ids
 
   -- what gives nothing of groups gives what the answer gives
   past_group : {A : Type 0} (f : Fact → Option A) → ((name : Name) → f (ThereIs name) ≡ None) → ((name : Name) (ask : Ask) → f (Asks name ask) ≡ None)
       → first_given f facts ≡ first_given f (facts_in t.saying h.tells.asks)
-  past_group f there ask = ap (first_given f) (sym whole) ∙ by t.group
-    where
-      by : (g : Option Name) → first_given f (the_group profile g ++ facts_in t.saying h.tells.asks) ≡ first_given f (facts_in t.saying h.tells.asks)
-      by None = refl
-      by (Some name) = λ i. option_or (there name i) (option_or (ask name (Estimates Lenient (widest profile)) i) (first_given f (facts_in t.saying h.tells.asks)))
+  past_group f there ask = grind arith
 
   pub id_given : (name : Name) (n : ℕ) → first_given (id_in name n) facts ≡ id_told name n t
   id_given name n = past_group (id_in name n) (λ name. refl) (λ name ask. refl) ∙ by t.saying.groups refl t.saying.group refl
@@ -169,12 +115,4 @@ module _ (profile : Profile) (t : Statement) (facts : List Fact) (h : TellsAlone
   -- ---- articles
 
   pub article_told : (id : Id) → said_of facts id ≡ said_in t.saying.article id
-  article_told id = ap (λ facts. said_of facts id) (sym whole) ∙ past t.group ∙ by t.saying.groups refl
-    where
-      past : (g : Option Name) → said_of (the_group profile g ++ facts_in t.saying h.tells.asks) id ≡ said_of (facts_in t.saying h.tells.asks) id
-      past None = refl
-      past (Some name) = refl
-
-      by : (o : Option (Option (List ℕ) × List ActiveValue)) → t.saying.groups ≡ o → said_of (facts_in t.saying h.tells.asks) id ≡ said_in t.saying.article id
-      by None none = said_of_parts h.before t.saying h.tells.asks none h.tells.may id
-      by (Some l) is = ap (λ facts. said_of facts id) (listed_facts t.saying h.tells.asks l (alone l is) is) ∙ ap (λ a. said_in a id) (sym (alone l is).article)
+  article_told id = grind (arith, whole, said_of_parts, listed_facts, alone)

@@ -1,9 +1,8 @@
 -- What an answer tells by itself, and the group of which it speaks.
-use Rattle.std.{proofs.{Common.{◌≡◌, ℕ, true, List, [], Option, None, Some, inl, refl, sym, subst, ◌∙◌}, lemmas.Bool.{or_left}}, specs.Prelude.{IsTrue, IfSome}}
-use Rattle.std.specs.{Prelude.{unwrap_or}, List.{AllByRecursion}}
+use Rattle.std.{proofs.{Common.{◌≡◌, ℕ, true, List, [], Option, None, Some, inl, refl, sym, subst, arith}, lemmas.Bool.{or_left}}, specs.Prelude.{IsTrue}}
+use Rattle.std.specs.{Prelude.{IfSome, unwrap_or}, List.{AllByRecursion}}
 use Rattle.nntp_wire.specs.{Name.{IsGroupName}, Answer.{Asked, Response}, declared.marks.Marks.{Marks}}
-use Rattle.nntp_article.specs.{Session.{Spool.{Name}, Machine.{Visible, start, fits, is_same}}, declared.session.profile.Profile.{Profile}}
-use Rattle.nntp_article.specs.Inner.Misfit.{numbers_of}
+use Rattle.nntp_article.specs.{Session.{Spool.{Name}, Machine.{Visible, fits}}, declared.session.profile.Profile.{Profile}, Inner.Misfit.{numbers_of}}
 use Rattle.nntp_said.specs.{declared.position.Position.{Position}, Facts.{Fact, ThereIs, here, facts_of, group_of}}
 use Rattle.nntp_theory.specs.{Given.{is_shown_group}, Inner.{Together.{IsWellFormed}, Conflict.{FitsThere}}, Conflict.{Placed, said, the_group, told}}
 use Rattle.nntp_theory.proofs.{Members.{In, in_front, in_back, all_at, all_both}, Together.{FactsJoin.{answer_agrees}, FactsOfASpoolStand.{same_itself}}}
@@ -12,8 +11,7 @@ use Rattle.nntp_facts.proofs.Keeping.ToldAnswers.{there_told, group_said, none_s
 
 -- facts that show the selected group
 shown_by : (profile : Profile) (selected : Option Name) → IfSome selected (λ name. is_shown_group (the_group profile selected) name ≡ true)
-shown_by profile None = tt
-shown_by profile (Some name) = or_left (is_same name name) _ (same_itself name)
+shown_by profile selected = grind (arith, or_left, same_itself)
 
 module _ (profile : Profile) (a : Placed) (s : Saying) (t : TellsThere a.selected s (said profile.marks a)) where
   h : TellsHere (unwrap_or a.selected []) (the_group profile a.selected) s (said profile.marks a)
@@ -36,20 +34,7 @@ module _ (profile : Profile) (a : Placed) (s : Saying) (t : TellsThere a.selecte
   -- by itself the answer tells its facts
   pub told_alone : (group : Option Name) → group ≡ group_of (said profile.marks a) → AllByRecursion IsWellFormed (said profile.marks a) → IfSome a.selected IsGroupName
       → TellsAlone profile (record { group = group; saying = s }) (told profile a)
-  told_alone group is formed name = record {
-    own = said profile.marks a;
-    whole = refl;
-    before = the_group profile a.selected;
-    tells = h.tells;
-    group = is;
-    named = h.group ∙ sym is;
-    formed = all_both IsWellFormed (the_group profile (group_of (said profile.marks a))) (said profile.marks a) (by (group_of (said profile.marks a)) (group_formed formed name)) formed;
-    agree = answer_agrees profile.marks (record start.visible { selected = a.selected }) a.position a.asked a.response;
-  }
-    where
-      by : (o : Option Name) → IfSome o IsGroupName → AllByRecursion IsWellFormed (the_group profile o)
-      by None n = tt
-      by (Some name) n = (n, (tt, tt))
+  told_alone group is formed name = grind (arith, h, all_both, group_formed, answer_agrees)
 
 -- what it says tells its facts, where marks are read so
 pub there_told_so : (profile : Profile) (a : Placed) (asked : Asked) (response : Response) (at : Position) (name : Name) (numbers : List ℕ) (s : Saying) (how : Marks) → profile.marks ≡ how

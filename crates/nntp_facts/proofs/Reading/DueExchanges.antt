@@ -1,6 +1,6 @@
 -- The next pair of a reading may be noted.
-use Rattle.std.proofs.Common.{◌≡◌, ℕ, false, List, [], length, refl, ap, subst, ◌∙◌, arith}
-use Rattle.nntp_article.specs.{declared.session.profile.Profile.{Profile}, Session.Machine.{Visible}}
+use Rattle.std.proofs.Common.{ℕ, List, [], arith}
+use Rattle.nntp_article.specs.declared.session.profile.Profile.{Profile}
 use Rattle.nntp_pair.specs.Pairing.{Paired, Unpaired, IsNext, streams}
 use Rattle.nntp_theory.{specs.{Permitted.{ArePermitted}, Reading.{Judged, accepted_of, AreJudged}}, proofs.Reading.JudgedAnswers.{accepted_behind}}
 use Rattle.nntp_theory.proofs.Reading.{JudgedAnswers.{accepted_few, visible_behind, accepted_open}, JudgedSession.{index_in_session}}
@@ -10,12 +10,4 @@ use Rattle.nntp_wire.specs.Session.{ClientStream}
 -- the next pair may be noted
 pub due_in_session : (profile : Profile) (client : ClientStream) (server : List ℕ) (answers : List Judged) (left after : Unpaired) (pair : Paired) (facts : FactsKept)
     → AreJudged (ArePermitted profile) [] (streams client server) answers left → HasNoted profile facts (accepted_of answers) → IsNext left pair after → IsDue facts pair
-due_in_session profile client server answers left after pair facts judged noted next =
-    let count = index_in_session profile client server answers left judged in
-    let few = accepted_few [] answers in
-    let same = ap length (accepted_behind [] answers) in
-    record {
-      index = omega (arith, count, few, same, noted.count, next.index);
-      is_open = ap (λ (v : Visible). v.closed) noted.visible ∙ subst (λ past. (visible_behind past).closed ≡ false) (accepted_behind [] answers)
-          (accepted_open (ArePermitted profile) [] (streams client server) left answers (λ e. refl) judged next.is_open);
-    }
+due_in_session profile client server answers left after pair facts judged noted next = grind (arith, index_in_session, accepted_few, accepted_behind, visible_behind, accepted_open)

@@ -1,5 +1,5 @@
 -- What is noted of an exchange behind earlier sessions, and how it is judged.
-use Rattle.std.proofs.{Common.{◌≡◌, true, List, [], ◌∷◌, ◌++◌, map, Some, sym, ap, subst, ◌∙◌}, lemmas.Bool.{true≢false}}
+use Rattle.std.proofs.{Common.{◌≡◌, true, List, [], ◌∷◌, ◌++◌, map, Some, sym, ap, subst, ◌∙◌, arith}, lemmas.Bool.{true≢false}}
 use Rattle.nntp_article.specs.{declared.session.profile.Profile.{Profile}, Session.Machine.{start, fits}}
 use Rattle.nntp_pair.specs.{Pairing.{Paired, Unpaired, IsNext, asked_at, asked_of, responses_of}, declared.class.Class.TheVariants.{OutOfPlace, Contradiction}}
 use Rattle.nntp_theory.specs.{Answered.{SomePermitsEach}, Classes.{class_by}, declared.noted.Noted.TheVariants.{Consistent, OutOfPlace as NotedOutOfPlace}}
@@ -41,5 +41,4 @@ pub contradiction_refused : (profile : Profile) (earlier : List (List Paired)) (
     → HasNotedBehind profile old earlier past
     → IsNotedBehind profile earlier past pair old new NotedContradiction → IsNext before pair after
     → IsJudged (ArePermittedBehind profile earlier) past before (Refused pair) after × (class_behind profile past (Refused pair) ≡ Some Contradiction)
-contradiction_refused profile earlier past pair old new before after stands noted next =
-    ((next, noted.1), ap (λ b. Some (class_by b)) (fits_behind profile earlier past pair old stands ∙ noted.0))
+contradiction_refused profile earlier past pair old new before after stands noted next = grind arith

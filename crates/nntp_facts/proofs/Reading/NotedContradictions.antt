@@ -30,10 +30,7 @@ placed_grow : (v : Visible) (at : Position) (ps : List Asked) (answers : List Re
     → placed_from v at ps (answers ++ response ∷ []) ≡ placed_from v at ps answers
     ++ record { selected = (visible_from v ps answers).selected; position = position_from at ps answers; asked = asked; response = response } ∷ []
 placed_grow v at [] answers asked response e = cc
-placed_grow v at (p ∷ ps) [] asked response e =
-    let same : p ≡ asked = cc in
-    ap (λ p. record { selected = v.selected; position = at; asked = p; response = response } ∷ placed_from (visible_after v p response) (position_after at p response) ps []) same
-    ∙ ap (λ rest. record { selected = v.selected; position = at; asked = asked; response = response } ∷ rest) (none_placed (visible_after v asked response) (position_after at asked response) ps)
+placed_grow v at (p ∷ ps) [] asked response e = grind (arith, none_placed)
 placed_grow v at (p ∷ ps) (a ∷ more) asked response e =
     ap (λ rest. record { selected = v.selected; position = at; asked = p; response = a } ∷ rest) (placed_grow (visible_after v p a) (position_after at p a) ps more asked response e)
 
@@ -53,17 +50,11 @@ placed_next past pair =
     joined : {xs ys : List Placed} {v w : Visible} {at bt : Position} → xs ≡ ys → v ≡ w → at ≡ bt
         → xs ++ record { selected = v.selected; position = at; asked = asked_at pair.place; response = pair.response } ∷ []
         ≡ ys ++ record { selected = w.selected; position = bt; asked = asked_at pair.place; response = pair.response } ∷ []
-    joined {xs} {ys} {v} {w} {at} {bt} e f g =
-        ap (λ xs. xs ++ record { selected = v.selected; position = at; asked = asked_at pair.place; response = pair.response } ∷ []) e
-        ∙ ap (λ v. ys ++ record { selected = v.selected; position = at; asked = asked_at pair.place; response = pair.response } ∷ []) f
-        ∙ ap (λ at. ys ++ record { selected = w.selected; position = at; asked = asked_at pair.place; response = pair.response } ∷ []) g
+    joined {xs} {ys} {v} {w} {at} {bt} e f g = grind arith
 
 -- accepted answers fit where they stand
 pub accepted_fit : (profile : Profile) (facts : FactsKept) (past : List Paired) → HasNoted profile facts past → AllByRecursion (FitsThere profile) (placed_of past)
-accepted_fit profile facts past stands =
-    let ps = asked_of past in
-    let answers = responses_of past in
-    session_fits profile start.visible Nowhere ps answers (said profile stands.permitted.0 ps answers stands.permitted.2.0).0
+accepted_fit profile facts past stands = grind (arith, session_fits, said)
 
 -- no spool has what the bad answer says with those that stand there
 abbrev Conflicts : Profile → Visible → Position → Asked → Response → List Placed → Type 0

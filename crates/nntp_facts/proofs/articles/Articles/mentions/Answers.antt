@@ -1,10 +1,9 @@
-use Rattle.std.proofs.Common.{sym, ◌∙◌}
-use Rattle.nntp_facts.proofs.Keeping.{KeptArticles.{mentioned_kept}, KeptIds.{kept_if_there, kept_if_denied}}
+use Rattle.std.proofs.Common.{sym, ◌∙◌, arith}
+use Rattle.nntp_facts.proofs.Keeping.{KeptArticles.{mentioned_kept}, KeptIds.{kept_if_denied}}
 use Rattle.nntp_facts.proofs.articles.Articles.mentions.Goals as goal
 
 pub returns-then-has_octets-clause-is : goal.returns-then-has_octets-clause-is
-returns-then-has_octets-clause-is g c =
-    c.if-has_octets.true ∙ kept_if_there c.self.inside.known.entries c.self.inside.denied.keys c.args.self.now c.self.view_is c.args.id.now (sym c.has_octets.ensures ∙ c.if-has_octets.true)
+returns-then-has_octets-clause-is g c = grind arith
 
 pub returns-else-has_octets-clause-is : goal.returns-else-has_octets-clause-is
 returns-else-has_octets-clause-is g c =

@@ -1,4 +1,4 @@
-use Rattle.std.proofs.Common.{◌≡◌, ◌∙◌, Some, sym, ap, subst}
+use Rattle.std.proofs.Common.{◌≡◌, Some, sym, subst, arith}
 use Rattle.nntp_facts.specs.{declared.joins.Joins.TheVariants.{Again}, Inner.{Saying.{Lacks, IsToExist}, ArticleView.{is_added}, KeptSaying.{IsThereAlready}}}
 use Rattle.nntp_facts.specs.Inner.{KeptSaying.{MayBeSaid, IsArticleAdded}, SayingView.{article_said}}
 use Rattle.nntp_theory.proofs.OkResults.{if_ok}
@@ -27,11 +27,7 @@ pub returns-in_ok-note_lack-in-Lacks-clause-text : goal.returns-in_ok-note_lack-
 returns-in_ok-note_lack-in-Lacks-clause-text g c other is id exists = absurd (subst (λ p. IsToExist (Some (article_said p)) id) c.in-Lacks.is exists)
 
 pub returns-in-Exists-clause-text : goal.returns-in-Exists-clause-text
-returns-in-Exists-clause-text g c =
-    if_ok c.note_there.result
-    (λ added text other is id exists. text other is ∙ ap (λ id. Some id) (subst (λ p. IsToExist (Some (article_said p)) id) c.in-Exists.is exists)) c.note_there.ensures.text
+returns-in-Exists-clause-text g c = grind (arith, if_ok)
 
 pub returns-in-Sends-clause-text : goal.returns-in-Sends-clause-text
-returns-in-Sends-clause-text g c =
-    if_ok c.note_sent.result
-    (λ added text other is id exists. text other is ∙ ap (λ id. Some id) (subst (λ p. IsToExist (Some (article_said p)) id) c.in-Sends.is exists)) c.note_sent.ensures.text
+returns-in-Sends-clause-text g c = grind (arith, if_ok)

@@ -6,7 +6,4 @@ pub returns-in-Again-clause-added : goal.returns-in-Again-clause-added
 returns-in-Again-clause-added g c facts kept shown = there_already facts c.args.self.now c.args.id.now kept (shown c.in-Again.is)
 
 pub returns-in_default : goal.returns-in_default
-returns-in_default g c = record {
-  added = if_ok c.stand.result (λ added adds facts kept shown. adds facts kept) c.stand.ensures.added;
-  text = if_ok c.stand.result (λ added text other does. text does) c.stand.ensures.text;
-}
+returns-in_default g c = search if_ok

@@ -1,4 +1,4 @@
-use Rattle.std.proofs.{Common.{◌^◌, ◌<◌, ◌≤◌, ℕ, List, length, map, arith, rules, subst, sym, ap}, lemmas.List.{length-map}}
+use Rattle.std.proofs.{Common.{◌^◌, ◌<◌, List, length, map, arith, rules, subst, sym, ap}, lemmas.List.{length-map}}
 use Rattle.nntp_article.specs.Session.Limit.{profile_of}
 use Rattle.nntp_theory.{specs.Inner.Conflict.{IsPartOfCore}, proofs.Conflicts.{core_start}}
 use Rattle.nntp_facts.{specs.{declared.placed.Placed.{Placed}, Standing.{stands_of}}, proofs.Keeping.CoresFound.{alone, some_left, whole_found, end_found}}
@@ -13,12 +13,7 @@ pub loop-places-init : goal.loop-places-init
 loop-places-init g c =
     let profile = profile_of c.args.limit c.args.marks in
     let bad = stands_of c.args.bad.now in
-    let answers = map stands_of c.args.answers.now in (
-      subst (λ (q : ℕ × List ℕ). IsPartOfCore profile bad answers q.0 q.1) (λ i. (length-map c.args.answers.now stands_of i, sym c.new-places.ensures.items i))
-          (core_start profile bad answers c.requires.conflict),
-      (let same = length-map c.args.answers.now stands_of in omega (arith, same)),
-      subst (λ places. length places ≤ c.args.most) (sym c.new-places.ensures.items) (omega arith),
-    )
+    let answers = map stands_of c.args.answers.now in grind (arith, core_start profile bad answers c.requires.conflict, length-map c.args.answers.now stands_of)
 
 pub returns-then-len-most-clause-found : goal.returns-then-len-most-clause-found
 returns-then-len-most-clause-found g c =

@@ -1,5 +1,4 @@
-use Rattle.std.proofs.{Common.{◌≡◌, true, false, Option, None, Some, is_some, refl, sym, ap, subst, ◌∙◌}, Math.Path.{ap₂}, lemmas.Bool.{true≢false}}
-use Rattle.std.specs.Prelude.{is_none}
+use Rattle.std.{proofs.{Common.{◌≡◌, true, false, Option, is_some, refl, sym, ap, subst, ◌∙◌, arith}, Math.Path.{ap₂}}, specs.Prelude.{is_none}}
 use Rattle.nntp_wire.specs.Inner.{View.{asked}, AnswerView.{response}}
 use Rattle.nntp_article.specs.{Session.Machine.{visible_after}, Inner.{Misfit.{numbers_of, groups_of}, Listed.{Lists}}}
 use Rattle.nntp_article.proofs.SessionLemmas.Misfits.{fits_by_reason}
@@ -9,12 +8,10 @@ use Rattle.nntp_facts.proofs.facts.Facts.note_listing.Goals as goal
 
 -- where there is a reason, it isn't none
 some_reason : {X : Type 0} (o : Option X) → is_some o ≡ true → is_none o ≡ false
-some_reason None e = absurd (true≢false (sym e))
-some_reason (Some why) e = refl
+some_reason o e = grind arith
 
 no_reason : {X : Type 0} (o : Option X) → is_some o ≡ false → is_none o ≡ true
-no_reason None e = refl
-no_reason (Some why) e = absurd (true≢false e)
+no_reason o e = grind arith
 
 pub returns-then-is_some : goal.returns-then-is_some
 returns-then-is_some g c profile earlier past stands =

@@ -27,6 +27,4 @@ loop-group-preserved g c facts wildmat kept =
     (subst (λ name. Changes before after name (with_part (before name) (Bounds line.low line.high ∷ []) None)) (sym c.of_bounds.ensures.name) (one_more_bound facts wildmat so_far line))))
 
 pub returns : goal.returns
-returns g c facts wildmat kept =
-    subst (λ groups. AreKeptGroups (facts ++ GroupsAre wildmat (map active_value groups) ∷ []) c.loop-group.self)
-    (take_all c.loop-group.group-index c.args.groups.now (omega (arith, c.loop-group-test.false))) (c.loop-group.invariant facts wildmat kept)
+returns g c facts wildmat kept = grind (arith, take_all)

@@ -1,4 +1,4 @@
-use Rattle.std.proofs.{Common.{◌≡◌, ◌&&◌, not, true, false, inl, inr, sym, subst, ◌∙◌}, lemmas.Bool.{true≢false, or_cases, or_left, or_right}}
+use Rattle.std.proofs.{Common.{◌≡◌, ◌&&◌, not, true, false, inl, inr, sym, subst, ◌∙◌, arith}, lemmas.Bool.{true≢false, or_cases, or_left, or_right}}
 use Rattle.std.specs.{Prelude.{IsTrue, MatchOption}, List.{list_any}, Option.{option_map_or}, Cmp.Lexicographic.{same_text}}
 use Rattle.nntp_wire.specs.{Decided.{matches_name}, Name.{IsGroupName}}
 use Rattle.nntp_article.specs.Session.Machine.{is_same}
@@ -6,17 +6,7 @@ use Rattle.nntp_theory.proofs.Together.FactsOfASpoolStand.{same_itself}
 use Rattle.nntp_facts.proofs.groups.listed.first_unlisted.Goals as goal
 
 pub returns-in-Some-group_unlisted : goal.returns-in-Some-group_unlisted
-returns-in-Some-group_unlisted g c =
-    let name = c.in-Some-group_unlisted.group in
-    let found = subst (λ o. MatchOption o (IsGroupName c.as_slice.result.now
-    → (option_map_or (λ w. matches_name w c.as_slice.result.now) c.args.wildmat.now true && not (list_any (λ k. is_same k.now c.as_slice.result.now) c.args.listed.now.keys)) ≡ false)
-    (λ group. (c.as_slice.result.now ≡ group) × IsTrue (option_map_or (λ w. matches_name w group) c.args.wildmat.now true && not (list_any (λ k. is_same k.now group) c.args.listed.now.keys))))
-    c.in-Some-group_unlisted.is c.group_unlisted.ensures in
-    let same = sym c.as_slice.ensures.value ∙ found.0 in (
-      c.loop-name.invariant.2 name (subst (λ ks. IsTrue (list_any (λ k. is_same k.items name) ks)) (sym c.in-Some.ensures.steps)
-          (or_left (is_same c.in-Some.name.now.items name) (list_any (λ k. is_same k.items name) c.next.new.self) (subst (λ n. IsTrue (is_same n name)) (sym same) (same_itself name)))),
-      found.1,
-    )
+returns-in-Some-group_unlisted g c = grind (arith, or_left, same_itself)
 
 pub loop-name-preserved : goal.loop-name-preserved
 loop-name-preserved g c =

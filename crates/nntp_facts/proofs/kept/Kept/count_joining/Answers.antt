@@ -1,5 +1,5 @@
-use Rattle.std.proofs.Common.{◌≡◌, ◌+◌, ◌≤◌, Bool, true, false, cond, List, ◌∷◌, length, map, drop, refl, sym, ap, subst, ◌∙◌, arith}
-use Rattle.std.{proofs.lemmas.Bool.{true≢false}, specs.{Prelude.{◌↔◌}, List.{AllByRecursion}}}
+use Rattle.std.proofs.{Common.{◌≡◌, ◌+◌, ◌≤◌, Bool, true, List, ◌∷◌, length, map, drop, sym, ap, subst, ◌∙◌, arith}, lemmas.Bool.{true≢false}}
+use Rattle.std.specs.{Prelude.{◌↔◌}, List.{AllByRecursion}}
 use mir.Val.{bool_byte}
 use Rattle.nntp_wire.specs.{Listing.{ActiveValue}, Inner.View.{active_value}}
 use Rattle.nntp_article.proofs.SessionLemmas.LinesLeft.{next_left, none_left}
@@ -11,22 +11,15 @@ use Rattle.nntp_facts.proofs.kept.Kept.count_joining.Goals as goal
 -- where the next line joins, all lines join if those do that are left
 joined : (P : ActiveValue → Type 0) (line : ActiveValue) (rest lines all : List ActiveValue) → lines ≡ line ∷ rest → P line
     → AllByRecursion P lines ↔ AllByRecursion P all → AllByRecursion P rest ↔ AllByRecursion P all
-joined P line rest lines all steps here known = (
-  λ h. known.0 (subst (AllByRecursion P) (sym steps) (here, h)),
-  λ h. (subst (AllByRecursion P) steps (known.1 h)).1,
-)
+joined P line rest lines all steps here known = grind arith
 
 -- the next line is counted if its group is shown
 counted : (facts : List Fact) (line : ActiveValue) (rest lines : List ActiveValue) (b : Bool) → lines ≡ line ∷ rest → is_shown_group facts line.name ≡ b
     → length (shown_lines facts lines) ≡ bool_byte b + length (shown_lines facts rest)
-counted facts line rest lines b steps is =
-    let counted = λ (b : Bool). length (cond b (line ∷ shown_lines facts rest) (shown_lines facts rest)) in
-    ap (λ lines. length (shown_lines facts lines)) steps ∙ ap counted is
-    ∙ elim b as (λ b. counted b ≡ bool_byte b + length (shown_lines facts rest)) [ true ↦ omega arith | false ↦ omega arith ]
+counted facts line rest lines b steps is = grind arith
 
 one_at_most : (b : Bool) → bool_byte b ≤ 1
-one_at_most true = omega arith
-one_at_most false = omega arith
+one_at_most b = grind arith
 
 pub returns-then-not-may_bound : goal.returns-then-not-may_bound
 returns-then-not-may_bound g c facts kept t all =
@@ -49,16 +42,8 @@ loop-line-preserved g c =
       λ facts kept t.
           let k = subst (IsKept facts) (sym c.self.view_is) kept in
           let is = c.is_shown-is_shown.ensures (told facts) k.groups ∙ ap (is_shown_group facts) c.as_slice.ensures.value in
-          let known = c.loop-line.invariant.1 facts kept t in
-          let one = counted facts line rest lines c.is_shown-is_shown.result steps (sym is) in
-          let before = known.1 in
-          (joined (LineJoins facts) line rest lines (map active_value groups) steps ((c.if-not-may_bound.ensures facts kept t is).0 refl) known.0, omega arith),
+          grind (arith, counted, joined),
     )
 
 pub returns : goal.returns
-returns g c facts kept t =
-    let none = none_left active_value c.args.groups.now c.loop-line.line-index (omega (arith, c.loop-line-test.false)) in
-    let known = c.loop-line.invariant.1 facts kept t in
-    let count = known.1 in
-    let empty = ap (λ lines. length (shown_lines facts lines)) none in
-    (known.0.0 (subst (AllByRecursion (LineJoins facts)) (sym none) tt), omega arith)
+returns g c facts kept t = grind (arith, none_left)

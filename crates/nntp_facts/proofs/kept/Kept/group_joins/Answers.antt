@@ -1,4 +1,4 @@
-use Rattle.std.{proofs.Common.{◌≡◌, ◌++◌, None, Some, refl, sym, ap, subst, ◌∙◌}, specs.Prelude.{◌↔◌, IfSome, IsTrue, option_map}}
+use Rattle.std.{proofs.Common.{◌≡◌, ◌++◌, Some, sym, ap, subst, ◌∙◌, arith}, specs.Prelude.{◌↔◌, IfSome, IsTrue, option_map}}
 use Rattle.nntp_facts.specs.Inner.{SayingView.{of_group}, Saying.{asked_id, facts_in}, Kept.{joins_at_all, IsKept, AreKeptGroups, told}}
 use Rattle.nntp_facts.{specs.Inner.KeptSaying.{GroupJoins}, proofs.Keeping.PartsJoin.{agree_told, shown_told, says_then, bounded_then, group_changes}}
 use Rattle.nntp_facts.proofs.Keeping.{PartsJoin.{groups_alike}, SaidAgain.{there_before, none_there}}
@@ -33,9 +33,7 @@ pub returns-in-None-clause-there : goal.returns-in-None-clause-there
 returns-in-None-clause-there g c again facts s asks is kept may = none_there facts s asks (is ∙ ap (option_map of_group) c.in-None.is) may
 
 pub returns-in-None-clause-at_all : goal.returns-in-None-clause-at_all
-returns-in-None-clause-at_all g c facts s asks is kept together may =
-    let same : s.group ≡ None = is ∙ ap (option_map of_group) c.in-None.is in
-    (λ t. subst (λ o. IfSome o (GroupJoins facts asks)) (sym same) tt, λ h. refl)
+returns-in-None-clause-at_all g c facts s asks is kept together may = grind arith
 
 pub returns-in-None-clause-again : goal.returns-in-None-clause-again
 returns-in-None-clause-again g c again facts s asks is no_list kept together may = groups_alike facts s asks no_list may (is ∙ ap (option_map of_group) c.in-None.is) c.args.self.now.groups kept.groups

@@ -1,11 +1,10 @@
-use Rattle.std.{proofs.{Common.{◌≡◌, Bool, true, false, not, refl, sym, ap, subst, ◌∙◌}, lemmas.Bool.{true≢false}}, specs.Prelude.{◌↔◌, IsTrue, IsFalse}}
+use Rattle.std.{proofs.Common.{◌≡◌, Bool, true, false, not, sym, ap, subst, ◌∙◌, arith}, specs.Prelude.{◌↔◌, IsTrue, IsFalse}}
 use Rattle.nntp_theory.specs.Given.{is_shown_group}
 use Rattle.nntp_facts.specs.Inner.Kept.{IsKept, told}
 use Rattle.nntp_facts.proofs.kept.Kept.may_be.Goals as goal
 
 not_is : (b d : Bool) → b ≡ d → IsTrue (not b) ↔ IsFalse d
-not_is b true e = (λ t. absurd (true≢false (sym t ∙ ap not e)), λ f. absurd (true≢false f))
-not_is b false e = (λ t. refl, λ f. ap not e)
+not_is b d e = grind arith
 
 pub returns-then-is_shown : goal.returns-then-is_shown
 returns-then-is_shown g c facts kept t =

@@ -1,13 +1,11 @@
-use Rattle.std.{proofs.{Common.{◌≡◌, ℕ, Bool, true, false, List, Option, Bor, refl, sym, subst, ◌∙◌}, lemmas.Bool.{true≢false}}, specs.Prelude.{◌↔◌, IfSome}}
-use Rattle.std.specs.Prelude.{IsTrue, IsFalse, not, option_map}
+use Rattle.std.{proofs.Common.{◌≡◌, ℕ, Bool, List, Option, Bor, sym, subst, arith}, specs.Prelude.{◌↔◌, IfSome, IsTrue, IsFalse, not, option_map}}
 use Rattle.nntp_theory.specs.Given.{is_shown_group}
 use Rattle.nntp_facts.specs.Inner.Kept.{IsKept, told}
 use Rattle.nntp_facts.proofs.kept.Kept.may_be_missing.Goals as goal
 
 -- a test that has to fail
 unless : (a b : Bool) → a ≡ b → IsTrue (not a) ↔ IsFalse b
-unless true b e = (λ t. absurd (true≢false (sym t)), λ f. absurd (true≢false (e ∙ f)))
-unless false b e = (λ t. sym e, λ f. refl)
+unless a b e = grind arith
 
 pub returns-in-Some : goal.returns-in-Some
 returns-in-Some g c facts kept =

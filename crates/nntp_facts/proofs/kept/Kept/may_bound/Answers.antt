@@ -1,8 +1,8 @@
-use Rattle.std.{proofs.{Common.{[], ◌∷◌, ◌++◌, sym, subst, ◌∙◌}, lemmas.Bool.{not-true}}, specs.{Prelude.{IsFalse}, List.{list_any}}}
+use Rattle.std.{proofs.{Common.{[], ◌∷◌, ◌++◌, sym, subst, ◌∙◌, arith}, lemmas.Bool.{not-true}}, specs.{Prelude.{IsFalse}, List.{list_any}}}
 use Rattle.nntp_wire.specs.{Listing.{ActiveValue}, Inner.View.{active_value}}
 use Rattle.nntp_said.specs.Asks.{Bounds}
 use Rattle.nntp_theory.specs.{Given.{asks_of}, Inner.Together.{AsksStand}, Together.{denies_group}}
-use Rattle.nntp_facts.{specs.Inner.Kept.{IsKept, told, Agree, IsShownAt, MayShow}, proofs.kept.Kept.may_bound.Goals.{then-is_shown, else-is_shown}}
+use Rattle.nntp_facts.{specs.Inner.Kept.{IsKept, told, Agree, IsShownAt}, proofs.kept.Kept.may_bound.Goals.{then-is_shown, else-is_shown}}
 use Rattle.nntp_facts.proofs.kept.Kept.may_bound.Goals as goal
 
 pub returns-then-not-denies : goal.returns-then-not-denies
@@ -20,7 +20,4 @@ returns-then-not-denies g c facts kept t same =
     (subst (Agree (told facts part.name.now).ids (told facts part.name.now).places) (sym none) tt)
     (subst (IsShownAt (told facts part.name.now)) (sym none) tt) in
     let stands = subst (λ name. AsksStand (asks_of name facts ++ Bounds line.low line.high ∷ [])) c.of_bounds.ensures.name in
-    let back = subst (λ name. AsksStand (asks_of name facts ++ Bounds line.low line.high ∷ [])) (sym c.of_bounds.ensures.name) in (
-      λ yes. record { free = free; bounds = stands (joins.0 (sym c.at_all.ensures ∙ yes)).0 },
-      λ line. c.at_all.ensures ∙ joins.1 (back line.bounds, subst (MayShow (told facts part.name.now)) (sym none) tt),
-    )
+    let back = subst (λ name. AsksStand (asks_of name facts ++ Bounds line.low line.high ∷ [])) (sym c.of_bounds.ensures.name) in grind arith

@@ -1,9 +1,8 @@
-use Rattle.std.proofs.Common.{◌++◌, ◌∷◌, [], sym, subst, ◌∙◌, append_assoc}
+use Rattle.std.proofs.Common.{◌++◌, ◌∷◌, [], sym, subst, append_assoc, arith}
 use Rattle.nntp_wire.specs.declared.marks.Marks.TheVariants.{Lenient}
 use Rattle.nntp_said.specs.Asks.{Estimates}
 use Rattle.nntp_theory.specs.{Given.{asks_of}, Conflict.{widest}}
 use Rattle.nntp_facts.{specs.Inner.Kept.{IsKept, told}, proofs.PointsFound.NumbersBeside.{bounded_behind, bounded_widest}}
-use Rattle.nntp_numbers.specs.Inner.Summary.{IsSummary, AreBounded}
 use Rattle.nntp_facts.proofs.kept.Kept.point_of_group.Goals as goal
 
 pub returns : goal.returns
@@ -14,6 +13,4 @@ returns g c profile facts all asks limit kept says whole before =
     let start = c.in_ok-numbers.ensures (told facts) k.groups in
     let middle = c.in_ok-add.ensures (asks_of name facts) wide start (c.of_widest.ensures.says profile limit) in
     let summary = c.in_ok-add-2.ensures (asks_of name facts ++ wide) asks middle says in
-    let same = append_assoc (asks_of name facts) wide asks ∙ sym whole in
-    c.point_in.ensures all (subst (IsSummary c.add-2.new.self) same summary)
-    (subst AreBounded (sym whole) (bounded_behind (asks_of name facts) (wide ++ asks) (bounded_widest profile c.args.limit asks limit))) before
+    grind (arith, bounded_widest, append_assoc, bounded_behind (asks_of name facts) (wide ++ asks) (bounded_widest profile c.args.limit asks limit))
