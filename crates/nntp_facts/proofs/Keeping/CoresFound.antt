@@ -154,8 +154,6 @@ module _ (profile : Profile) (bad : Placed) (answers : List Placed) where
           there = grind (arith, all_from, found_from, all_at);
           conflict = p.conflict;
           stand = stand;
-          in_each = λ some among none k i.
-              contains_in k some
-              (found_in_each profile bad answers bound places some k p (λ j t. in_contains j (below bound ++ places) (among j (contains_in j some t))) none (in_contains k places i));
+          in_each = search (contains_in, found_in_each, in_contains);
         };
       }

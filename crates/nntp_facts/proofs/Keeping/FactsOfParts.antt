@@ -1,5 +1,5 @@
 -- What the parts of an answer say, read off their facts.
-use Rattle.std.proofs.Common.{◌≡◌, ℕ, Bool, true, false, ◌||◌, cond, List, [], ◌∷◌, ◌++◌, map, Option, None, Some, refl, ap, ◌∙◌, append-nil, arith}
+use Rattle.std.proofs.Common.{◌≡◌, ℕ, Bool, false, ◌||◌, cond, List, [], ◌∷◌, ◌++◌, map, Option, None, Some, refl, ap, ◌∙◌, append-nil, arith}
 use Rattle.std.{proofs.lemmas.List.Folds.{list_any-append}, specs.{List.{list_any}, Option.{option_map_or, option_or}}}
 use Rattle.nntp_wire.specs.declared.command.What.{What}
 use Rattle.nntp_article.specs.{Article.Parts.{Id, Line}, Session.{Spool.{Name}, Machine.{is_same}}}
@@ -88,8 +88,7 @@ asks_only : (here name : Name) (asks : List Ask) → asks_of name (map (Asks her
 asks_only here name [] = by (is_same here name)
   where
     by : (b : Bool) → [] ≡ cond {A = List Ask} b [] []
-    by true = refl
-    by false = refl
+    by b = grind arith
 asks_only here name (ask ∷ asks) = by (is_same here name) (asks_only here name asks)
   where
     by : (b : Bool) → asks_of name (map (Asks here) asks) ≡ cond b asks [] → cond b (ask ∷ []) [] ++ asks_of name (map (Asks here) asks) ≡ cond b (ask ∷ asks) []

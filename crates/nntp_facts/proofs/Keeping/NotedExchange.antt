@@ -5,7 +5,7 @@ use Rattle.std.{proofs.Common.{length-append}, specs.List.{AllByRecursion}}
 use Rattle.nntp_article.specs.{Session.{Limit.{profile_of}, Machine.{start, fits, visible_after}}, declared.session.profile.Profile.{Profile}}
 use Rattle.nntp_pair.specs.{Pairing.{Paired, asked_at, asked_of, responses_of}, Inner.Pairing.{IsSpelled, lines_in}}
 use Rattle.nntp_said.specs.{Asks.{position_after}, declared.position.Position.TheVariants.{Nowhere}, Facts.{Fact, facts_of}, Inner.Facts.{FitsAll}}
-use Rattle.nntp_theory.specs.{Given.{facts_of_session}, Inner.{Given.{size}, Together.{IsWellFormed, Together, Join}, Exchanged.{said_by, said_behind, AreFew}}}
+use Rattle.nntp_theory.specs.Inner.{Given.{size}, Together.{IsWellFormed, Together, Join}, Exchanged.{said_by, said_behind, AreFew}}
 use Rattle.nntp_theory.specs.{Answered.{SomePermitsEach, facts_of_all}, Classes.{visible_from, position_from}, Permitted.{exchanged, ArePermittedBehind}}
 use Rattle.nntp_theory.{specs.declared.noted.Noted.TheVariants.{Consistent, OutOfPlace, Contradiction}, proofs.Members.{all_both, all_back, any_back}}
 use Rattle.nntp_theory.proofs.Session.PairsGoOn.{MayFollow, of_these, permitted_next, facts_next, visible_next, position_next, as_many, ends, with_pair}
@@ -100,8 +100,7 @@ module _ (profile : Profile) (facts : FactsKept) (earlier : List (List Paired)) 
         new_facts = ap₂ (λ v at. facts_of profile.marks v at (asked_at pair.place) pair.response) s.visible s.position
 
         own : said_by profile.marks past ++ new ≡ said_by profile.marks (past ++ pair ∷ [])
-        own = ap (λ more. said_by profile.marks past ++ more) new_facts
-            ∙ sym (ap (λ q. facts_of_session profile.marks q.0 q.1) (ends past pair) ∙ facts_next profile.marks (asked_of past) (responses_of past) (asked_at pair.place) pair.response (as_many past))
+        own = grind (arith, ends, facts_next, as_many)
 
         whole : all ++ new ≡ said_behind profile.marks earlier (past ++ pair ∷ [])
         whole = append_assoc (facts_of_all profile.marks (map exchanged earlier)) (said_by profile.marks past) new ∙ ap (λ own. facts_of_all profile.marks (map exchanged earlier) ++ own) own

@@ -113,17 +113,13 @@ module _ (profile : Profile) (facts : FactsKept) (earlier : List (List Paired)) 
             let whole = subst (λ facts. AllByRecursion (IsPlaced profile.marks facts) facts) said_with (all_placed profile sessions fit_with) in
             let more = all_from (IsPlaced profile.marks all) (kept ++ own)
             (λ fact i. wider profile.marks (kept ++ own) all among fact (all_at (IsPlaced profile.marks (kept ++ own)) fact (kept ++ own) whole i)) in
-            let last = all_back (IsPlaced profile.marks all) kept own more in
-            all_both (IsPlaced profile.marks all) kept (group ++ own) (all_front (IsPlaced profile.marks all) kept own more)
-            (all_both (IsPlaced profile.marks all) group own (group_placed profile profile.marks all (group_of own) (group_selectable profile.marks all own last)) last)
+            search (all_back, all_both, all_front, group_placed, group_selectable)
 
         small : size all < 2 ^ 210
         small =
             let room = subst (λ facts. size facts < 2 ^ 209) (facts_behind profile.marks before (exchanged past))
             (room_behind profile.marks earlier past s.sessions s.earlier_few (record { lines = s.lines; few = s.few })) in
-            let both = size-append kept (group ++ own) in
-            let one = told_size profile bad few in
-            omega (arith, room, both, one)
+            grind (arith, size-append kept (group ++ own), told_size profile bad few)
 
         permitted : Together all → ArePermittedBehind profile earlier (past ++ pair ∷ [])
         permitted together =

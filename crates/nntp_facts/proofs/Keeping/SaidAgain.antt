@@ -10,9 +10,9 @@ use Rattle.nntp_said.specs.{Asks.{Ask}, Facts.{Fact}}
 use Rattle.nntp_theory.specs.{Given.{is_denied, says_some, demand, join, IsGivenNumber}, Together.{is_possible}, Inner.Together.{AsksStand}}
 use Rattle.nntp_theory.{specs.Inner.Estimates.{is_within}, proofs.Together.{FewEnough.{few_for, within_all}, FactsOfASpoolStand.{same_itself}}}
 use Rattle.nntp_theory.proofs.{GivenNumbers.GivenNumbersMeet.{same_demand}, Members.{all_both, any_in, first_found}}
-use Rattle.nntp_numbers.specs.Inner.{Part.{Said, Says, only_has, part_denies, is_one_of, ends_of, join_ends}, Summary.{Summary, has, IsSummary, AreBounded}}
-use Rattle.nntp_numbers.{specs.Inner.Summary.{AddsNothing}, proofs.{MoreAsks.{are_possible, added}, HullOfMarks.{is_known_by, apart_by_hull, stands_by_hull}}}
-use Rattle.nntp_numbers.proofs.{HullOfMarks.{said_some, shown_says, demand_says, some_is}, AsksSettled.{ArePossible}, Implied.{Implies}}
+use Rattle.nntp_numbers.specs.Inner.{Part.{Said, Says, only_has, part_denies, is_one_of, join_ends}, Summary.{Summary, has, IsSummary, AreBounded, AddsNothing}}
+use Rattle.nntp_numbers.proofs.{MoreAsks.{are_possible, added}, HullOfMarks.{apart_by_hull, stands_by_hull, said_some, shown_says, demand_says, some_is}}
+use Rattle.nntp_numbers.proofs.{AsksSettled.{ArePossible}, Implied.{Implies}}
 use Rattle.nntp_facts.specs.Inner.{Saying.{OfGroup, Saying, MaySay}, Kept.{KeptGroup, Told, told, IsKeptGroup, AreKept, Agree, IsShownAt, MayShow, ids_with}}
 use Rattle.nntp_facts.{specs.Inner.{Kept.{places_with, AreKeptWith}, KeptSaying.{HasSaid, IsThereAlready}}, proofs.Keeping.KeptGroups.{Groups, kept_of}}
 use Rattle.nntp_facts.proofs.Keeping.KeptGroups.{part_kept, bounded_more, agree_kept, same_id}
@@ -20,17 +20,11 @@ use Rattle.nntp_facts.proofs.Keeping.KeptGroups.{part_kept, bounded_more, agree_
 -- ---- asks of which the same is kept
 
 module _ (s : Summary) (asks others : List Ask) (sum : IsSummary s asks) (same : IsSummary s others) where
-  same_ends : ends_of others ≡ ends_of asks
-  same_ends = sym same.ends ∙ sum.ends
-
   demand_is : demand others ≡ demand asks
   demand_is = sym same.demand ∙ sum.demand
 
   same_some : list_any says_some others ≡ list_any says_some asks
   same_some = grind (arith, some_is, said_some, shown_says, demand_says)
-
-  same_hull : (n : ℕ) → is_known_by others n ≡ is_known_by asks n
-  same_hull n = grind (arith, same_some, same_ends)
 
   module _ (bounded : AreBounded asks) (others_bounded : AreBounded others) where
     same_denied : (n : ℕ) → is_denied others n ≡ is_denied asks n
@@ -38,10 +32,10 @@ module _ (s : Summary) (asks others : List Ask) (sum : IsSummary s asks) (same :
 
     module _ (stand : AsksStand asks) where
       given_before : (n : ℕ) → IsGivenNumber others n → IsGivenNumber asks n
-      given_before n g = grind (arith, apart_by_hull, stands_by_hull, same_hull, demand_is, same_denied)
+      given_before n g = grind (arith, apart_by_hull, stands_by_hull, same_some, demand_is, same_denied)
 
       given_still : (n : ℕ) → IsGivenNumber asks n → IsGivenNumber others n
-      given_still n g = grind (arith, apart_by_hull, stands_by_hull, same_hull, demand_is, same_denied)
+      given_still n g = grind (arith, apart_by_hull, stands_by_hull, same_some, demand_is, same_denied)
 
       -- they stand together alike
       stands_alike : ArePossible others → AsksStand others

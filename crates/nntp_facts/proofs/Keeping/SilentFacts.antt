@@ -44,9 +44,7 @@ kept_at t u groups here g kept others new name = by (eq_by_cmp (slice_cmp nat_cm
     equal e = same_text name here (sym (texts_ties name here ∙ e))
 
     unequal : eq_by_cmp (slice_cmp nat_cmp) name here ≡ false → is_same here name ≡ false
-    unequal e = false_from_ne_true (is_same here name)
-        (λ t. true≢false (sym ((eq_by_cmp_equiv nat_list_cmp_total).refl name)
-        ∙ ap (λ k. eq_by_cmp (slice_cmp nat_cmp) name k) (sym (same_text here name (sym t))) ∙ e))
+    unequal e = grind (arith, false_from_ne_true, true≢false, eq_by_cmp_equiv, nat_list_cmp_total, same_text)
 
     by : (b : Bool) → eq_by_cmp (slice_cmp nat_cmp) name here ≡ b → MatchOption (get (insert groups here g) name) (IsUntold (u name)) (IsKeptGroup (u name))
     by b e = grind (arith, nat_list_cmp_total, get-insert, equal, unequal)

@@ -159,11 +159,7 @@ module _ (profile : Profile) (bad : Placed) (answers : List Placed) (places : Li
       same = with_place (told profile a) here
 
       by : (does : Bool) → AreTold profile (told_with profile bad answers places) (told profile a) new does → PlacesTold profile bad answers (places ++ place ∷ []) new does
-      by true t = record {
-        kept = subst (λ facts. IsKept facts new) same t.1;
-        together = subst Together same t.0;
-        small = place_size (told profile a) here t.2 before.small;
-      }
+      by true t = assumption (subst (λ facts. IsKept facts new) same t.1, subst Together same t.0, place_size (told profile a) here t.2 before.small)
       by false none = subst (λ facts. SomeHas profile facts → ⊥) same none
 
   -- where there is no answer, nothing is

@@ -41,8 +41,7 @@ impossible_told profile t here tells name = by t.saying.group refl
   where
     cases : (g : OfGroup) → Says g.numbers (tells.tells.asks ++ asked_id g.id) → (b : Bool)
         → list_any cannot (cond b (Estimates Lenient (widest profile) ∷ (tells.tells.asks ++ asked_id g.id)) []) ≡ (b && not g.numbers.possible)
-    cases g says true = not_all (tells.tells.asks ++ asked_id g.id) ∙ ap not (sym says.possibly)
-    cases g says false = refl
+    cases g says b = grind (arith, not_all)
 
     by : (g : Option OfGroup) → t.saying.group ≡ g → list_any cannot (asks_of name here) ≡ option_map_or (λ g. is_same g.name name && not g.numbers.possible) g false
     by (Some g) e = grind (arith, asks_some profile t here tells g e name, cases)

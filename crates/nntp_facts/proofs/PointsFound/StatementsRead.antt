@@ -44,8 +44,7 @@ module _ (profile : Profile) (t : Statement) (facts : List Fact) (h : TellsAlone
       ∙ by t.saying.groups refl
     where
       of_group : (g : Option Name) → list_any (shows_group name) (the_group profile g) ≡ option_map_or (λ g. is_same g name) g false
-      of_group None = refl
-      of_group (Some g) = or_no (is_same g name)
+      of_group g = grind (arith, or_no)
 
       twice : (a b : Option Name) → (b ≡ None) ⊎ (b ≡ a)
           → (option_map_or (λ g. is_same g name) a false || option_map_or (λ g. is_same g name) b false) ≡ (option_map_or (λ g. is_same g name) a false || false)

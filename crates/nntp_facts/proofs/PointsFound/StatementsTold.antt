@@ -1,13 +1,13 @@
 -- What an answer tells by itself, and the group of which it speaks.
-use Rattle.std.{proofs.{Common.{◌≡◌, ℕ, true, List, [], Option, None, Some, inl, refl, sym, subst, arith}, lemmas.Bool.{or_left}}, specs.Prelude.{IsTrue}}
-use Rattle.std.specs.{Prelude.{IfSome, unwrap_or}, List.{AllByRecursion}}
+use Rattle.std.{proofs.{Common.{◌≡◌, ℕ, true, List, [], Option, sym, subst, arith}, lemmas.Bool.{or_left}}, specs.Prelude.{IsTrue, IfSome, unwrap_or}}
+use Rattle.std.specs.List.{AllByRecursion}
 use Rattle.nntp_wire.specs.{Name.{IsGroupName}, Answer.{Asked, Response}, declared.marks.Marks.{Marks}}
 use Rattle.nntp_article.specs.{Session.{Spool.{Name}, Machine.{Visible, fits}}, declared.session.profile.Profile.{Profile}, Inner.Misfit.{numbers_of}}
-use Rattle.nntp_said.specs.{declared.position.Position.{Position}, Facts.{Fact, ThereIs, here, facts_of, group_of}}
+use Rattle.nntp_said.specs.{declared.position.Position.{Position}, Facts.{Fact, here, facts_of, group_of}}
 use Rattle.nntp_theory.specs.{Given.{is_shown_group}, Inner.{Together.{IsWellFormed}, Conflict.{FitsThere}}, Conflict.{Placed, said, the_group, told}}
-use Rattle.nntp_theory.proofs.{Members.{In, in_front, in_back, all_at, all_both}, Together.{FactsJoin.{answer_agrees}, FactsOfASpoolStand.{same_itself}}}
-use Rattle.nntp_facts.specs.Inner.{Saying.{Saying, OfGroup, TellsHere, TellsThere, IsSelectedShown, sent_facts, there_facts}, Points.{TellsAlone}}
-use Rattle.nntp_facts.proofs.Keeping.ToldAnswers.{there_told, group_said, none_said, selected_spoken}
+use Rattle.nntp_theory.proofs.{Members.{in_front, in_back, all_at, all_both}, Together.{FactsJoin.{answer_agrees}, FactsOfASpoolStand.{same_itself}}}
+use Rattle.nntp_facts.{specs.Inner.{Saying.{Saying, TellsHere, TellsThere, IsSelectedShown}, Points.{TellsAlone}}, proofs.Keeping.ToldAnswers.{there_told}}
+use Rattle.nntp_facts.proofs.Keeping.ToldAnswers.{group_said, none_said, selected_spoken}
 
 -- facts that show the selected group
 shown_by : (profile : Profile) (selected : Option Name) → IfSome selected (λ name. is_shown_group (the_group profile selected) name ≡ true)
@@ -19,17 +19,7 @@ module _ (profile : Profile) (a : Placed) (s : Saying) (t : TellsThere a.selecte
 
   -- the group of which it speaks is one
   group_formed : AllByRecursion IsWellFormed (said profile.marks a) → IfSome a.selected IsGroupName → IfSome (group_of (said profile.marks a)) IsGroupName
-  group_formed formed name = by s.there_is refl s.group refl
-    where
-      there : (n : Name) → s.there_is ≡ Some n → IsGroupName n
-      there n e = all_at IsWellFormed (ThereIs n) (said profile.marks a) formed
-          (subst (In (ThereIs n)) h.tells.same
-          (in_back (ThereIs n) (sent_facts s.article) _ (in_front (ThereIs n) (there_facts s.there_is) _ (subst (λ o. In (ThereIs n) (there_facts o)) (sym e) (inl refl)))))
-
-      by : (o : Option Name) → s.there_is ≡ o → (g : Option OfGroup) → s.group ≡ g → IfSome (group_of (said profile.marks a)) IsGroupName
-      by (Some n) e g is = subst (λ o. IfSome o IsGroupName) (sym (group_said a.selected s (said profile.marks a) t n e)) (there n e)
-      by None e (Some g) is = subst (λ o. IfSome o IsGroupName) (selected_spoken a.selected s (said profile.marks a) t g e is) name
-      by None e None is = subst (λ o. IfSome o IsGroupName) (sym (none_said a.selected s (said profile.marks a) t is)) tt
+  group_formed formed name = grind (arith, all_at, h, in_back, in_front, group_said, selected_spoken, none_said)
 
   -- by itself the answer tells its facts
   pub told_alone : (group : Option Name) → group ≡ group_of (said profile.marks a) → AllByRecursion IsWellFormed (said profile.marks a) → IfSome a.selected IsGroupName

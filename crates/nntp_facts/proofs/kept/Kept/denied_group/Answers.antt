@@ -1,10 +1,9 @@
-use Rattle.std.{proofs.Common.{◌++◌, ap, sym, subst}, specs.Prelude.{option_map}}
+use Rattle.std.{proofs.Common.{◌++◌, ap, sym, subst, arith}, specs.Prelude.{option_map}}
 use Rattle.nntp_facts.specs.Inner.{Points.{IsPointOf}, SayingView.{active_said}, StatementView.{statement_of}}
 use Rattle.nntp_facts.proofs.kept.Kept.denied_group.Goals as goal
 
 pub returns-in-None : goal.returns-in-None
-returns-in-None g c profile facts more h = subst (IsPointOf (facts ++ more) 1) (sym c.point-in-None.ensures)
-    (c.denied_by_name.ensures profile facts more h (ap (option_map active_said) c.in-None.is))
+returns-in-None g c profile facts more h = grind (arith, c.denied_by_name.ensures profile facts more h (ap (option_map active_said) c.in-None.is))
 
 pub returns-in_ok-denied_or_unlisted-in-Some : goal.returns-in_ok-denied_or_unlisted-in-Some
 returns-in_ok-denied_or_unlisted-in-Some g c profile facts more h = subst (IsPointOf (facts ++ more) 1) (sym c.point.ensures)

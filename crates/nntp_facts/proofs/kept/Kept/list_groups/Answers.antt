@@ -9,8 +9,8 @@ pub returns : goal.returns
 returns g c = on_ok c.list.result (λ listed facts kept may join.
     let k = subst (IsKept facts) (sym c.self.view_is) kept in
     let lines = map active_value c.args.groups.now in
-    record {
-      groups = c.in_ok-bound_all.ensures facts c.args.wildmat.now k.groups;
-      names = listed facts lines k.names may (length-map c.args.groups.now active_value);
-      articles = articles_kept facts (GroupsAre c.args.wildmat.now lines ∷ []) c.self.inside.articles (λ id. refl) k.articles;
-    }) c.list.ensures
+    assumption (
+      c.in_ok-bound_all.ensures facts c.args.wildmat.now k.groups,
+      listed facts lines k.names may (length-map c.args.groups.now active_value),
+      articles_kept facts (GroupsAre c.args.wildmat.now lines ∷ []) c.self.inside.articles (λ id. refl) k.articles,
+    )) c.list.ensures

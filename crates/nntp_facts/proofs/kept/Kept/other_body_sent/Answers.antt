@@ -1,5 +1,4 @@
-use Rattle.std.proofs.{Common.{ap, sym, subst, ◌∙◌}, lemmas.Bool.{true≢false}}
-use Rattle.nntp_theory.specs.Conflict.{BodyOf}
+use Rattle.std.proofs.Common.{sym, subst, arith}
 use Rattle.nntp_facts.specs.Inner.Kept.{IsKept}
 use Rattle.nntp_facts.proofs.kept.Kept.other_body_sent.Goals as goal
 
@@ -9,6 +8,4 @@ returns-then-may_have_body g c facts kept =
     (c.may_have_body.ensures facts k.articles).0 c.if-may_have_body.true
 
 pub returns-else-may_have_body : goal.returns-else-may_have_body
-returns-else-may_have_body g c facts kept =
-    let k = subst (IsKept facts) (sym c.self.view_is) kept in
-    (ap BodyOf c.as_bytes.ensures.value, λ same. true≢false (sym ((c.may_have_body.ensures facts k.articles).1 same) ∙ c.if-may_have_body.false))
+returns-else-may_have_body g c facts kept = grind (arith, c.may_have_body.ensures facts (subst (IsKept facts) (sym c.self.view_is) kept).articles)

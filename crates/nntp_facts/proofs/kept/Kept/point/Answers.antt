@@ -1,31 +1,25 @@
-use Rattle.std.{proofs.Common.{◌++◌, sym, subst}, specs.Prelude.{option_map}}
+use Rattle.std.{proofs.Common.{◌++◌, sym, subst, arith}, specs.Prelude.{option_map}}
 use Rattle.nntp_facts.specs.Inner.{PointView.{point_of}, Points.{IsPointOf, NoneBefore}, StatementView.{rank_of}}
 use Rattle.nntp_theory.proofs.OkResults.{if_ok}
 use Rattle.nntp_facts.proofs.kept.Kept.point.Goals as goal
 
 pub returns-in-Step : goal.returns-in-Step
-returns-in-Step g c profile facts more limit h before = subst (λ kind. IsPointOf (facts
-    ++ more) (rank_of kind) (option_map point_of c.impossible.result)) (sym c.in-Step.is) (c.impossible.ensures profile facts more c.args.self.now h)
+returns-in-Step g c profile facts more limit h before = grind (arith, c.impossible.ensures profile facts more c.args.self.now h)
 
 pub returns-in-IdOf : goal.returns-in-IdOf
-returns-in-IdOf g c profile facts more limit h before = subst (λ kind. IsPointOf (facts
-    ++ more) (rank_of kind) (option_map point_of c.other_id.result)) (sym c.in-IdOf.is) (c.other_id.ensures profile facts more h)
+returns-in-IdOf g c profile facts more limit h before = grind (arith, c.other_id.ensures profile facts more h)
 
 pub returns-in-PlaceOf : goal.returns-in-PlaceOf
-returns-in-PlaceOf g c profile facts more limit h before = subst (λ kind. IsPointOf (facts
-    ++ more) (rank_of kind) (option_map point_of c.other_place.result)) (sym c.in-PlaceOf.is) (c.other_place.ensures profile facts more h)
+returns-in-PlaceOf g c profile facts more limit h before = grind (arith, c.other_place.ensures profile facts more h)
 
 pub returns-in-Article : goal.returns-in-Article
-returns-in-Article g c profile facts more limit h before = subst (λ kind. IsPointOf (facts
-    ++ more) (rank_of kind) (option_map point_of c.denied_article.result)) (sym c.in-Article.is) (c.denied_article.ensures profile facts more h)
+returns-in-Article g c profile facts more limit h before = grind (arith, c.denied_article.ensures profile facts more h)
 
 pub returns-in-HeadOf : goal.returns-in-HeadOf
-returns-in-HeadOf g c profile facts more limit h before = subst (λ kind. IsPointOf (facts
-    ++ more) (rank_of kind) (option_map point_of c.other_head.result)) (sym c.in-HeadOf.is) (c.other_head.ensures profile facts more h)
+returns-in-HeadOf g c profile facts more limit h before = grind (arith, c.other_head.ensures profile facts more h)
 
 pub returns-in-BodyOf : goal.returns-in-BodyOf
-returns-in-BodyOf g c profile facts more limit h before = subst (λ kind. IsPointOf (facts
-    ++ more) (rank_of kind) (option_map point_of c.other_body.result)) (sym c.in-BodyOf.is) (c.other_body.ensures profile facts more h)
+returns-in-BodyOf g c profile facts more limit h before = grind (arith, c.other_body.ensures profile facts more h)
 
 pub returns-in-Group : goal.returns-in-Group
 returns-in-Group g c = if_ok c.denied_group.result (λ point found profile facts more limit h before.

@@ -2,8 +2,5 @@ use Rattle.nntp_facts.proofs.PointsFound.NumbersBeside.{number_free}
 use Rattle.std.proofs.Common.{arith}
 use Rattle.nntp_facts.proofs.kept.points.numbers.denied.Goals as goal
 
-pub returns-in-Some : goal.returns-in-Some
-returns-in-Some g c all summary bounded = grind arith
-
 pub returns-in-None : goal.returns-in-None
 returns-in-None g c all summary bounded = grind (arith, number_free)
