@@ -27,15 +27,12 @@ below_more places place = let next : suc place ≡ place + 1 = omega arith in ap
 -- one of the first places is one of them
 taken : (k : ℕ) (n : ℕ) (places : List ℕ) → In k (take n places) → In k places
 taken k zero places i = absurd i
-taken k (suc n) [] i = absurd i
-taken k (suc n) (j ∷ places) (inl e) = inl e
-taken k (suc n) (j ∷ places) (inr i) = inr (taken k n places i)
+taken k (suc n) s i = grind (arith, taken k n)
 
 -- those that are found ascend from the bound on
 found_from : (Stand : List ℕ → Type 0) (bound : ℕ) (places : List ℕ) → AreFound Stand bound places → (k : ℕ) → In k places → bound ≤ k
 found_from Stand bound [] f k i = absurd i
-found_from Stand bound (j ∷ places) f k (inl e) = let le = f.0 in omega (arith, le, e)
-found_from Stand bound (j ∷ places) f k (inr i) = let le = f.0 in let rest = found_from Stand (j + 1) places f.2 k i in omega (arith, le, rest)
+found_from Stand bound (j ∷ places) f k s = grind (arith, found_from Stand (j + 1) places f.2 k)
 
 -- each is below the next
 pub found_ascend : (Stand : List ℕ → Type 0) (bound : ℕ) (places : List ℕ) → AreFound Stand bound places → IsTrue (is_ascending places)

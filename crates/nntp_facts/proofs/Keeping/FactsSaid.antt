@@ -1,6 +1,6 @@
 -- Where no facts are said, nothing is added.
-use Rattle.std.proofs.{Common.{◌≡◌, false, true, List, [], ◌∷◌, Option, None, Some, refl, sym, subst, append-nil}, lemmas.Bool.{true≢false}}
-use Rattle.std.specs.Prelude.{is_some, option_map, slice_get}
+use Rattle.std.{proofs.{Common.{◌≡◌, false, true, List, [], Option, None, refl, sym, subst, append-nil}, lemmas.Bool.{true≢false}}, specs.Prelude.{is_some}}
+use Rattle.std.specs.Prelude.{option_map, slice_get}
 use Rattle.nntp_said.specs.Facts.{Fact}
 use Rattle.nntp_theory.specs.{Given.{asks_of}, Inner.Together.{AsksStand, Together, Join}}
 use Rattle.nntp_facts.specs.Inner.Kept.{Kept, IsKept, AreAdded}
@@ -8,8 +8,7 @@ use Rattle.nntp_facts.specs.Inner.Kept.{Kept, IsKept, AreAdded}
 -- where there is no first fact there is none
 pub no_first : {X : Type 0} (of : X → Fact) (first : Option X) (facts : List Fact) → option_map of first ≡ slice_get facts 0 → is_some first ≡ false → facts ≡ []
 no_first of None [] there none = refl
-no_first of None (fact ∷ facts) there none = absurd cc
-no_first of (Some x) facts there none = absurd (true≢false none)
+no_first of s facts there none = search true≢false
 
 -- no facts join what stands together
 join_none : (facts : List Fact) → Together facts → Join facts []

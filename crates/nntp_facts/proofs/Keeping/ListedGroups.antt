@@ -1,5 +1,5 @@
 -- What a list of groups has to join.
-use Rattle.std.proofs.Common.{◌≡◌, ℕ, Bool, true, false, ◌||◌, cond, not, List, [], ◌∷◌, ◌++◌, Option, inl, inr, refl, sym, ap, subst, ◌∙◌, append-nil, arith}
+use Rattle.std.proofs.Common.{◌≡◌, ℕ, Bool, true, false, ◌||◌, cond, not, List, [], ◌∷◌, ◌++◌, Option, refl, sym, ap, subst, ◌∙◌, append-nil, arith}
 use Rattle.std.proofs.{lemmas.Bool.{true≢false, and_parts, and_from, or_left, false_from_ne_true, not-true, true_from_ne_false}, Math.Bool.{or-false}}
 use Rattle.std.specs.{Prelude.{◌↔◌, IsFalse}, List.{AllByRecursion, list_any, list_all, flat_map}, Option.{option_map_or}, Cmp.Lexicographic.{same_text}}
 use Rattle.nntp_wire.specs.{Listing.{ActiveValue}, Decided.{matches_name}}
@@ -32,12 +32,7 @@ differs name other (line ∷ lines) s e =
 -- where no group is listed twice, the bounds of a listed one are those of its line
 pub bounds_at : (line : ActiveValue) (lines : List ActiveValue) → names_differ lines ≡ true → In line lines → bounds_in line.name lines ≡ Bounds line.low line.high ∷ []
 bounds_at line [] d i = absurd i
-bounds_at line (x ∷ xs) d (inl e) = grind (arith, and_parts, same_itself, no_bounds, differs)
-bounds_at line (x ∷ xs) d (inr i) =
-    let p = and_parts (list_all (λ word. not (is_same x.name word)) (group_names xs)) (names_differ xs) d in
-    let there = any_in (λ other. is_same other.name line.name) line xs i (same_itself line.name) in
-    let apart : is_same x.name line.name ≡ false = false_from_ne_true (is_same x.name line.name) (λ s. true≢false (sym there ∙ differs x.name line.name xs s p.0)) in
-    ap (λ b. cond b (Bounds x.low x.high ∷ []) [] ++ bounds_in line.name xs) apart ∙ bounds_at line xs p.1 i
+bounds_at line (x ∷ xs) d s = grind (arith, and_parts, same_itself, no_bounds, differs, any_in, false_from_ne_true, true≢false, bounds_at line xs)
 
 module _ (facts : List Fact) (p : Option (List ℕ)) (lines : List ActiveValue) where
   pub listing_asks : (name : Name) → asks_of name (GroupsAre p lines ∷ []) ≡ bounds_in name lines

@@ -1,16 +1,16 @@
 -- When the parts of an answer join what was said, and what is kept then.
-use Rattle.std.proofs.Common.{◌≡◌, ℕ, true, false, cond, List, [], ◌∷◌, ◌++◌, Option, None, Some, is_some, MatchOption, refl, sym, ap, subst, ◌∙◌, arith}
+use Rattle.std.proofs.Common.{◌≡◌, ℕ, true, false, cond, List, [], ◌++◌, Option, None, Some, is_some, MatchOption, refl, sym, ap, subst, ◌∙◌, arith}
 use Rattle.std.{proofs.lemmas.{Bool.{true≢false, or_left, or_right}, List.Folds.{list_any-append}}, specs.Prelude.{◌↔◌, IsFalse, IfSome}}
 use Rattle.std.specs.{Option.{option_map_or, option_or}, List.{AllByRecursion, list_any}, Cmp.Lexicographic.{same_text}}
 use Rattle.nntp_article.specs.{Article.Parts.{Id}, Session.{Spool.{Name}, Machine.{is_same}}}
-use Rattle.nntp_said.specs.{Asks.{Ask}, Facts.{Fact, IdAt, TextIs}}
+use Rattle.nntp_said.specs.{Asks.{Ask}, Facts.{Fact}}
 use Rattle.nntp_theory.specs.{Given.{asks_of, is_shown_group, first_given, id_in}, Inner.Together.{IsWellFormed, said_of, said_nothing, join_said, Together}}
 use Rattle.nntp_theory.specs.{Inner.Together.{JoinNames, JoinNumbers, JoinIds, JoinArticle, Join}, Together.{denies_group, number_in}}
 use Rattle.nntp_theory.proofs.Together.{TwoListsOfFacts.{given_append}, FactsJoin.{asks_append}, FactsOfASpoolStand.{same_itself}}
 use Rattle.nntp_theory.proofs.Ids.OnePlaceOfAnId.{agree_together, shown_with_id}
-use Rattle.nntp_facts.specs.Inner.Saying.{OfGroup, OfArticle, Lacks, Exists, Sends, Saying, asked_id, sent_facts, lack_facts, id_facts, group_facts, facts_in}
-use Rattle.nntp_facts.specs.Inner.{Saying.{MaySay, IsToExist, MayBeOf, IsShownThen}, Kept.{told, Told, IsUntold, AreKept, AreKeptGroups, with_part, Changes}}
-use Rattle.nntp_facts.specs.Inner.{Kept.{Agree, IsShownAt, MayShow, AreKeptWith, id_of, place_of}, KeptSaying.{GroupJoins, JoinGroups, said_in, ArticleJoins}}
+use Rattle.nntp_facts.specs.Inner.Saying.{OfGroup, OfArticle, Lacks, Exists, Saying, asked_id, sent_facts, lack_facts, id_facts, group_facts, facts_in, MaySay}
+use Rattle.nntp_facts.specs.Inner.{Saying.{IsToExist, MayBeOf, IsShownThen}, Kept.{told, Told, IsUntold, AreKept, AreKeptGroups, with_part, Changes, Agree}}
+use Rattle.nntp_facts.specs.Inner.{Kept.{IsShownAt, MayShow, AreKeptWith, id_of, place_of}, KeptSaying.{GroupJoins, JoinGroups, said_in, ArticleJoins}}
 use Rattle.nntp_facts.proofs.Keeping.{KeptNamesAndGroups.{groups_kept}, KeptGroups.{Groups}, FactsOfOneGroup.{AskOf, asked_here, asked_elsewhere, GivesId}}
 use Rattle.nntp_facts.proofs.Keeping.{FactsOfOneGroup.{gives_joins}, FactsOfParts.{given_is_read, asks_are_read, ids_in, of_articles, of_group, group_asks}}
 use Rattle.nntp_facts.proofs.Keeping.{FactsOfParts.{group_ids, group_places, shown_group, denied_group}, SaidOfArticles.{nothing_more, said_is_read, lack_said}}
@@ -28,10 +28,7 @@ of_part None name (Some e) placed may id = absurd placed
 of_part (Some (other, Lacks)) name None placed may id = lack_said other id
 of_part (Some (other, Lacks)) name (Some e) placed may id = absurd placed
 of_part (Some (other, Exists)) name None placed may id = absurd (may other refl)
-of_part (Some (other, Exists)) name (Some e) placed may id =
-    nothing_more (said_of (IdAt name e.0 e.1 ∷ []) id) ∙ there_said name e.0 e.1 id ∙ ap (λ q. said_in (Some (q, Exists)) id) (may other refl)
-of_part (Some (other, Sends what lines)) name None placed may id = nothing_more (said_of (TextIs what other lines ∷ []) id) ∙ text_said what other lines id
-of_part (Some (other, Sends what lines)) name (Some e) placed may id = grind (arith, nothing_more, there_said, text_said, text_at)
+of_part s name d placed may id = grind (arith, nothing_more, there_said, text_said, text_at)
 
 -- ids and numbers of what is told agree where facts stand together
 pub agree_told : (facts : List Fact) → Together facts → (name : Name) (id : Option (ℕ × Id)) → Agree (told facts name).ids (told facts name).places id

@@ -4,7 +4,7 @@ use Rattle.nntp_wire.specs.{Limit.{greatest}, declared.{limit.Limit.{Limit}, mar
 use Rattle.nntp_article.specs.{Session.Spool.{Name}, declared.session.profile.Profile.{Profile}}
 use Rattle.nntp_said.specs.{Asks.{Ask, Estimates}, Facts.{Fact}}
 use Rattle.nntp_theory.specs.{Given.{asks_of, is_denied, denies, demand, IsGivenNumber}, Together.{MeetsDemand}, Inner.Conflict.{AreApart}, Conflict.{widest}}
-use Rattle.nntp_theory.{specs.Conflict.{Point, Number, Count, First, rank, ConflictAt, AreTooMany}, proofs.Members.{any_back}}
+use Rattle.nntp_theory.{specs.Conflict.{Point, Number, Count, rank, ConflictAt, AreTooMany}, proofs.Members.{any_back}}
 use Rattle.nntp_numbers.specs.Inner.Summary.{AreBounded}
 use Rattle.nntp_facts.specs.{Inner.{Points.{IsAbout, NoneBefore}, StatementView.{rank_of_numbers}}, declared.points.NumbersKind.{NumbersKind}}
 use Rattle.nntp_facts.specs.declared.points.NumbersKind.TheVariants as kinds
@@ -37,15 +37,11 @@ module _ (all : List Fact) (name : Name) where
 
   pub number_free : AreApart (asks_of name all) → IsFreeAt 2
   number_free apart (Number other n) e is c = true≢false (sym c.1 ∙ subst (λ nm. AreApart (asks_of nm all)) is apart n c.0)
-  number_free apart (Count other) e is c = absurd (omega (arith, e))
-  number_free apart (First other) e is c = absurd (omega (arith, e))
-  number_free apart point e is c = absurd is
+  number_free apart point e is c = grind arith
 
   pub count_free : (AreTooMany (asks_of name all) → ⊥) → IsFreeAt 3
   count_free few (Count other) e is c = subst (λ nm. AreTooMany (asks_of nm all) → ⊥) is few c
-  count_free few (Number other n) e is c = absurd (omega (arith, e))
-  count_free few (First other) e is c = absurd (omega (arith, e))
-  count_free few point e is c = absurd is
+  count_free few point e is c = grind arith
 
   pub first_free : MeetsDemand (demand (asks_of name all)) (IsGivenNumber (asks_of name all)) → IsFreeAt 4
   first_free met point e is c = grind arith
