@@ -1,6 +1,6 @@
 -- What was said before is said again: all stands together as before, and what is kept is right still.
-use Rattle.std.proofs.Common.{◌≡◌, ℕ, ◌-◌, ◌^◌, ◌<◌, Bool, true, ◌&&◌, ◌||◌, IsTrue, List, ◌++◌, Option, None, Some, is_some, MatchOption, inl, inr, refl, sym}
-use Rattle.std.proofs.{Common.{ap, subst, ◌∙◌, arith}, Math.Bool.{or-false}, lemmas.Bool.{true≢false, and_parts, or_from, eqb-true, eq-eqb, cases_lt, ltb-true}}
+use Rattle.std.proofs.Common.{◌≡◌, ℕ, ◌^◌, ◌<◌, Bool, true, ◌&&◌, ◌||◌, IsTrue, List, ◌++◌, Option, None, Some, is_some, MatchOption, inl, inr, refl, sym, ap}
+use Rattle.std.proofs.{Common.{subst, ◌∙◌, arith}, Math.Bool.{or-false}, lemmas.Bool.{true≢false, and_parts, or_from, eqb-true, eq-eqb, cases_lt, ltb-true}}
 use Rattle.std.{proofs.lemmas.Bool.{leb-true, false_from_ne_true}, specs.{Prelude.{IfSome}, List.{list_any}, Cmp.Lexicographic.{nat_list_cmp_total}}}
 use Rattle.std.specs.FinMap.{len, get, insert, slice_cmp-IsAntisymmetric, nat_cmp-IsAntisymmetric}
 use Rattle.nntp_wire.proofs.ShownMaps.{insert-same}

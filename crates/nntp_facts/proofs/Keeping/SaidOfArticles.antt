@@ -6,8 +6,8 @@ use Rattle.nntp_article.specs.{Article.Parts.{Id, Line}, Session.{Spool.{Name}, 
 use Rattle.nntp_said.specs.Facts.{Fact, IdAt, TextIs, NoArticle}
 use Rattle.nntp_theory.specs.{Given.{head_in, body_in}, Inner.Together.{SaidOfArticle, said_of, said_nothing, join_said, JoinArticle, JoinArticles}}
 use Rattle.nntp_theory.proofs.Together.TwoListsOfFacts.{given_append, or_none}
-use Rattle.nntp_facts.specs.Inner.{Kept.{KeptArticle, AreKeptArticles}, Articles.{head_sent, body_sent, denied}, Saying.{Lacks, Exists, Sends}}
-use Rattle.nntp_facts.{specs.Inner.KeptSaying.{said_in}, proofs.Keeping.FactsOfParts.{IsRead}}
+use Rattle.nntp_facts.specs.Inner.{Kept.{KeptArticle, AreKeptArticles}, Articles.{head_sent, body_sent}, Saying.{Lacks, Exists, Sends}, KeptSaying.{said_in}}
+use Rattle.nntp_facts.proofs.Keeping.FactsOfParts.{IsRead}
 
 -- ---- one list behind the other
 

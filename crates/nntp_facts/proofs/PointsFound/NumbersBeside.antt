@@ -7,7 +7,6 @@ use Rattle.nntp_theory.specs.{Given.{asks_of, is_denied, denies, demand, IsGiven
 use Rattle.nntp_theory.{specs.Conflict.{Point, Number, Count, rank, ConflictAt, AreTooMany}, proofs.Members.{any_back}}
 use Rattle.nntp_numbers.specs.Inner.Summary.{AreBounded}
 use Rattle.nntp_facts.specs.{Inner.{Points.{IsAbout, NoneBefore}, StatementView.{rank_of_numbers}}, declared.points.NumbersKind.{NumbersKind}}
-use Rattle.nntp_facts.specs.declared.points.NumbersKind.TheVariants as kinds
 
 -- their ranks are these
 pub above_one : (kind : NumbersKind) → 1 < rank_of_numbers kind

@@ -4,7 +4,7 @@ use Rattle.std.specs.Prelude.{option_map}
 use Rattle.nntp_article.specs.declared.session.profile.Profile.{Profile}
 use Rattle.nntp_wire.specs.declared.marks.Marks.TheVariants.{Lenient}
 use Rattle.nntp_said.specs.Facts.{Fact}
-use Rattle.nntp_theory.specs.{Inner.{Together.{IsWellFormed, Together}, Conflict.{FitsThere}}, Conflict.{Placed, told, told_with, Point, Step, ConflictAt}}
+use Rattle.nntp_theory.specs.{Inner.{Together.{IsWellFormed, Together}, Conflict.{FitsThere}}, Conflict.{Placed, told, told_with, Point, ConflictAt}}
 use Rattle.nntp_theory.{specs.Conflict.{IsFirstPoint}, proofs.{Members.{all_at, all_from, all_both}, Conflicts.{with_told, told_fitting, told_placed}}}
 use Rattle.nntp_theory.proofs.PointsOfConflict.{stand_or_conflict}
 use Rattle.nntp_facts.specs.Inner.{Points.{Answers, AreHeld, Statement, TellsAlone, IsBeside, IsPointOf, NoneBefore}, PointView.{point_of}}

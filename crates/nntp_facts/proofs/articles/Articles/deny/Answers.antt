@@ -1,4 +1,4 @@
-use Rattle.nntp_facts.{specs.Inner.{Articles.{denied}, ArticleView.{entries_value}}, proofs.Keeping.KeptIds.{one_more_denied}}
+use Rattle.nntp_facts.{specs.Inner.ArticleView.{entries_value}, proofs.Keeping.KeptIds.{one_more_denied}}
 use Rattle.std.proofs.Common.{arith}
 use Rattle.std.specs.FinMap as finite
 use Rattle.nntp_facts.proofs.articles.Articles.deny.Goals as goal

@@ -1,6 +1,5 @@
 use Rattle.nntp_facts.proofs.Keeping.KeptIds.{denied_there}
 use Rattle.std.proofs.Common.{arith}
-use Rattle.std.specs.FinMap as finite
 use Rattle.nntp_facts.proofs.articles.Articles.is_denied.Goals as goal
 
 pub returns-then-contains : goal.returns-then-contains

@@ -1,6 +1,5 @@
 use Rattle.std.{specs.{Ordering.{nat_cmp}, Cmp.{nat_cmp_total}, Rc.{rc_str_bytes}}, proofs.Common.{arith}}
 use Rattle.nntp_wire.proofs.ShownMaps.{get-shown}
-use Rattle.std.specs.FinMap as map
 use Rattle.nntp_facts.proofs.details.Details.id_text.Goals as goal
 
 pub returns : goal.returns

@@ -1,5 +1,5 @@
-use Rattle.std.proofs.{Common.{◌≡◌, ◌+◌, ◌≤◌, Bool, true, List, ◌∷◌, length, map, drop, sym, ap, subst, ◌∙◌, arith}, lemmas.Bool.{true≢false}}
-use Rattle.std.specs.{Prelude.{◌↔◌}, List.{AllByRecursion}}
+use Rattle.std.{proofs.{Common.{◌≡◌, ◌+◌, ◌≤◌, Bool, List, ◌∷◌, length, map, drop, sym, ap, subst, ◌∙◌, arith}, lemmas.Bool.{true≢false}}, specs.Prelude.{◌↔◌}}
+use Rattle.std.specs.List.{AllByRecursion}
 use mir.Val.{bool_byte}
 use Rattle.nntp_wire.specs.{Listing.{ActiveValue}, Inner.View.{active_value}}
 use Rattle.nntp_article.proofs.SessionLemmas.LinesLeft.{next_left, none_left}
