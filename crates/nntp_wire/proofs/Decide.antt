@@ -1,6 +1,6 @@
 -- What can be decided.
 use Rattle.std.proofs.{Common.{◌≡◌, ℕ, ◌⊎◌, ◌≤◌, Bool, IsTrue, Option, None, List, [], ◌∷◌, inl, inr, arith}, lemmas.Bool.{cases_Bool, leb-true, leb-false}}
-use Rattle.std.specs.{Prelude.{nat_le, IsFalse}, List.{AllByRecursion}}
+use Rattle.std.specs.{Prelude.{nat_le}, List.{AllByRecursion}}
 
 -- it holds, or it does not
 abbrev pub Dec : Type 0 → Type 0
@@ -17,9 +17,6 @@ dec_both h q = grind arith
 
 pub dec_three : {P Q R : Type 0} → Dec P → Dec Q → Dec R → Dec (P × Q × R)
 dec_three h q r = grind arith
-
-pub dec_unless : (b : Bool) {P : Type 0} → Dec P → Dec (IsFalse b → P)
-dec_unless b p = grind arith
 
 pub dec_to : {P Q : Type 0} → Dec P → Dec Q → Dec (P → Q)
 dec_to h q = grind arith

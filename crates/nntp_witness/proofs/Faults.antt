@@ -6,7 +6,3 @@ use Rattle.nntp_witness.specs.Inner.Making.{Makes}
 -- want of memory that is passed on stays that
 pub memory_passed : {A : Type 0} (r : Result A SpoolFault) (P : A → Type 0) (fault : SpoolFault) → IsErr r × IsErrAnd r (λ e. e ≡ fault) → fault ≡ Memory → Makes r P
 memory_passed r P fault h m = grind arith
-
--- what is made has what follows
-pub made_so : {A : Type 0} (r : Result A SpoolFault) (P Q : A → Type 0) → ((x : A) → P x → Q x) → Makes r P → Makes r Q
-made_so r P Q f h = grind arith

@@ -2,7 +2,7 @@
 use Rattle.nntp_wire.specs.{declared.marks.Marks.{Marks}, Answer.{Asked, Response}}
 use Rattle.std.proofs.{Common.{◌≡◌, ◌↔◌, List, [], ◌∷◌, ◌++◌, sym, subst, arith}, lemmas.Grind.{flat_map-append}}
 use Rattle.nntp_article.specs.{Session.{Spool.{Name}, Machine.{Visible}}, declared.session.profile.Profile.{Profile}}
-use Rattle.nntp_said.{specs.{Asks.{Ask}, declared.position.Position.{Position}, Facts.{Fact, ThereIs, Asks, facts_of}}, proofs.Rows.{Row, row}}
+use Rattle.nntp_said.{specs.{declared.position.Position.{Position}, Facts.{Fact, facts_of}}, proofs.Rows.{Row, row}}
 use Rattle.nntp_theory.specs.{Given.{asks_in, asks_of, shows_group, id_in, head_in, body_in}, Inner.Together.{IsWellFormed, AsksStand, Together, AgreeWithin}}
 use Rattle.nntp_theory.{specs.{Inner.Together.{Join}, Together.{denies_group, number_in, shows_article, denies_article}}, proofs.Members.{all_both, all_back}}
 use Rattle.nntp_theory.proofs.Together.TwoListsOfFacts.{apart_both, apart_shown, apart_denied, give_one_both, give_same_of_both}
@@ -57,9 +57,6 @@ module _ {profile : Profile} {v : Visible} {at : Position} {Fits : Type 0} where
 pub answer_agrees : (how : Marks) (v : Visible) (at : Position) (asked : Asked) (response : Response) → AgreeWithin (facts_of how v at asked response)
 answer_agrees how v at asked response = row_agrees (row (record { limit = 0; marks = how }) v at asked response)
 
--- and a group that is shown, or none
+-- and no facts do
 pub none_agrees : AgreeWithin []
 none_agrees = assumption
-
-pub group_agrees : (name : Name) (ask : Ask) → AgreeWithin (ThereIs name ∷ Asks name ask ∷ [])
-group_agrees name ask = assumption
