@@ -1,7 +1,7 @@
 -- What a checker holds, as octets and sessions come.
 use Rattle.std.proofs.Common.{◌≡◌, ◌≢◌, ◌∙◌, refl, sym, ap, subst, ℕ, ◌+◌, ◌<◌, ◌^◌, false, List, [], ◌∷◌, ◌++◌, length, take, Option, None, Some, slice_get}
-use Rattle.std.proofs.{Common.{inl, arith, append_assoc, append-nil, length-append, Result, Ok, Err, MatchResult, IfOk, OnOk, IfErr}, lemmas.Bool.{false≢true}}
-use Rattle.std.{proofs.lemmas.{Bool.{true≢false}, Option.{slice_get_within}}, specs.Prelude.{MatchOption, ⊤}}
+use Rattle.std.proofs.{Common.{inl, arith, append_assoc, append-nil, length-append, Result, MatchResult, OnOk, IfErr}, lemmas.Bool.{false≢true, true≢false}}
+use Rattle.std.{proofs.lemmas.Option.{slice_get_within}, specs.Prelude.{MatchOption, ⊤}}
 use Rattle.nntp_article.specs.{Session.Limit.{profile_of}, declared.session.profile.Profile.{Profile}}
 use Rattle.nntp_wire.specs.{declared.{limit.Limit.{Limit}, marks.Marks.{Marks}, overviews.Overviews.TheVariants.{Opaque}}, Session.{ClientStream, taken}}
 use Rattle.nntp_pair.specs.{Pairing.{Paired, Unpaired, IsNext, bad as pair_end, HasNext}, declared.class.PairClass.{PairClass}}
@@ -13,8 +13,9 @@ use Rattle.nntp_several.{specs.{Sessions.{Recorded, BadBehind}, Told.{with_more}
 use Rattle.nntp_verdict.specs.{Judging.{IsAnsweredThroughout, IsVerdictOfAll}, Inner.Judging.{IsVerdictFrom, IsNoForGood, IsNoAtWholeAnswer, HaveEnded, Passed}}
 use Rattle.nntp_verdict.specs.Inner.{Verdict.{verdict_of_last}, Checking.{Checked, judging, decided, failed, Keeps, HasPassed, IsHeld, StandsForAll, HasBegun}}
 use Rattle.nntp_verdict.specs.Inner.Checking.{IsFinished, IsFinishedOfAll, has_failed, counts_of, unrecorded, IsTaken as IsTakenBy, IsUntaken}
-use Rattle.nntp_verdict.specs.{Inner.CheckerView.{settled}, Verdict.{JudgementOfAll, consistent_of_all, bad_of_all, sessions_verdict_shown}}
-use Rattle.nntp_verdict.{specs.declared.sessions_verdict.SessionsVerdict.{SessionsVerdict}, proofs.JudgeLemmas.{is-due, alone}}
+use Rattle.nntp_verdict.specs.{Inner.CheckerView.{settled, HasJudged, HasEnded}, Verdict.{JudgementOfAll, consistent_of_all, bad_of_all}}
+use Rattle.nntp_verdict.{specs.{Verdict.{sessions_verdict_shown}, declared.sessions_verdict.SessionsVerdict.{SessionsVerdict}}, proofs.JudgeLemmas.{is-due}}
+use Rattle.nntp_verdict.proofs.JudgeLemmas.{alone}
 use Rattle.nntp_pair.specs.declared.peek.Peek.TheVariants as peek
 use Rattle.nntp_pair.specs.declared.pair_error.PairError.TheVariants as errors
 
@@ -205,9 +206,7 @@ begun-told facts answers fed j told = search decided-ended
 module _ {A : Type 0} (facts : FactsKept) (answers : List ℕ) (fed : Fed) (new : FactsKept) (counts : List ℕ) (last : Fed) where
   -- octets are taken, where so many came then
   pub taken-settled : (side : Side) (octets : List ℕ) (then : Fed) (told : Option (SessionsVerdict A)) → IsTaken side octets fed then
-      → ((limit : Limit) (marks : Marks) (before : List Recorded) (session : Recorded) → Keeps (profile_of limit marks) before session facts answers then
-      → MatchOption told (HasPassed (profile_of limit marks) before session new counts last × (last.has_failed ≡ false))
-      (λ verdict. StandsForAll limit marks (decided (sessions_verdict_shown verdict) then.counts) before session))
+      → HasJudged facts answers then new counts last told
       → IsTakenBy side octets (judging facts answers fed) (settled (judging new counts last) (counted (given Client side octets) (given Server side octets) fed.counts) told)
   taken-settled side octets then None taken judged =
       taken-judging side octets facts answers fed then (judging new counts last) taken (λ limit marks before session keeps. (judged limit marks before session keeps).0)
@@ -218,9 +217,7 @@ module _ {A : Type 0} (facts : FactsKept) (answers : List ℕ) (fed : Fed) (new 
 
   -- and what is held then is held of some sessions
   pub taken-sound : (side : Side) (octets : List ℕ) (then : Fed) (told : Option (SessionsVerdict A)) → IsHeld facts answers fed → IsTaken side octets fed then
-      → ((limit : Limit) (marks : Marks) (before : List Recorded) (session : Recorded) → Keeps (profile_of limit marks) before session facts answers then
-      → MatchOption told (HasPassed (profile_of limit marks) before session new counts last × (last.has_failed ≡ false))
-      (λ verdict. StandsForAll limit marks (decided (sessions_verdict_shown verdict) then.counts) before session))
+      → HasJudged facts answers then new counts last told
       → MatchOption told (IsHeld new counts last) (λ _. ⊤)
   taken-sound side octets then None was taken judged =
       let session = with_more was.session (given Client side octets) (given Server side octets) in
@@ -231,8 +228,7 @@ module _ {A : Type 0} (facts : FactsKept) (answers : List ℕ) (fed : Fed) (new 
 
   -- the next session begins
   pub begun-settled : (told : Option (SessionsVerdict A)) → last ≡ unfed Opaque → IsFed last (taken Opaque []) [] []
-      → ((limit : Limit) (marks : Marks) (before : List Recorded) (session : Recorded) → Keeps (profile_of limit marks) before session facts answers fed
-      → MatchOption told (HaveEnded (profile_of limit marks) (before ++ session ∷ []) new counts) (λ verdict. IsVerdictFrom limit marks before session (sessions_verdict_shown verdict)))
+      → HasEnded facts answers fed new counts told
       → HasBegun (judging facts answers fed) (settled (judging new counts last) (record { client = 0; server = 0 }) told)
   begun-settled None is fed_is ended = record {
     worked = refl;
@@ -243,8 +239,7 @@ module _ {A : Type 0} (facts : FactsKept) (answers : List ℕ) (fed : Fed) (new 
       begun-told facts answers fed (sessions_verdict_shown verdict) (λ limit marks before session passed. ended limit marks before session passed.keeps)
 
   pub begun-sound : (told : Option (SessionsVerdict A)) → IsHeld facts answers fed → last ≡ unfed Opaque → IsFed last (taken Opaque []) [] []
-      → ((limit : Limit) (marks : Marks) (before : List Recorded) (session : Recorded) → Keeps (profile_of limit marks) before session facts answers fed
-      → MatchOption told (HaveEnded (profile_of limit marks) (before ++ session ∷ []) new counts) (λ verdict. IsVerdictFrom limit marks before session (sessions_verdict_shown verdict)))
+      → HasEnded facts answers fed new counts told
       → MatchOption told (IsHeld new counts last) (λ _. ⊤)
   begun-sound None was is fed_is ended =
       let before = was.before ++ was.session ∷ [] in
@@ -252,14 +247,6 @@ module _ {A : Type 0} (facts : FactsKept) (answers : List ℕ) (fed : Fed) (new 
       (session-begins (profile_kept facts) before new counts last is fed_is (ended facts.limit facts.marks was.before was.session was.passed.keeps))
       (ap (λ (f : Fed). f.has_failed) is)
   begun-sound (Some verdict) was is fed_is ended = tt
-
--- so it is answered once that is settled
-pub settled-taken : {A E : Type 0} (told : Result (Option (SessionsVerdict A)) E) (answer : Result ⊤ PairError) (held now after : Checked) (counts : OctetCounts)
-    → MatchResult told (λ told. (answer ≡ Ok tt) × (after ≡ settled now counts told)) (λ _. (answer ≡ Err errors.Memory) × (after ≡ failed))
-    → (side : Side) (octets : List ℕ) → has_failed held ≡ false → count_of side (counts_of held) + length octets < 2 ^ 64
-    → IfOk told (λ told. IsTakenBy side octets held (settled now counts told))
-    → MatchResult answer (λ _. IsTakenBy side octets held after) (λ error. IsUntaken error side octets held after)
-settled-taken told answer held now after counts settles side octets worked room taken = grind arith
 
 -- what a checker gives of several sessions is what it gives of one
 pub finished-alone : (held : Checked) (j : JudgementOfAll) → IsFinishedOfAll held j → IsFinished held (verdict_of_last j)

@@ -13,7 +13,7 @@ ghost use Rattle.nntp_verdict.specs.Inner.Checking.{Keeps, HasPassed, IsSound, S
 ghost use Rattle.nntp_verdict.specs.Inner.Checking.{IsToldWithoutSession, IsFinished, IsFinishedOfAll, IsUnfinished, decided, told_bad, without_session};
 ghost use Rattle.nntp_verdict.specs.Inner.Checking.{unrecorded, failed, has_failed, counts_of};
 ghost use Rattle.nntp_verdict.specs.Checking.{IsToldBad};
-ghost use Rattle.nntp_verdict.specs.Inner.CheckerView.{going_on, of_state, settled};
+ghost use Rattle.nntp_verdict.specs.Inner.CheckerView.{HasEnded, HasJudged, going_on, of_state, settled};
 ghost use Rattle.nntp_verdict.specs.Judging.{IsVerdictOfAll};
 ghost use Rattle.nntp_verdict.specs.Inner.Judging.{IsVerdictFrom, HaveEnded};
 ghost use Rattle.nntp_verdict.specs.Verdict.{JudgementOfAll, sessions_verdict_shown, verdict_shown};
@@ -128,10 +128,14 @@ impl<A: Allocator + Copy> Checker<A> {
             return Err(PairError::TooLong);
         };
         match &mut self.state {
-            State::Judging(ongoing) => {
-                let told = ongoing.take(side, piece);
-                self.state.settle(told, counts)
-            }
+            State::Judging(ongoing) => match ongoing.take(side, piece) {
+                Ok(None) => Ok(()),
+                Ok(Some(verdict)) => {
+                    self.state.decide(verdict, counts);
+                    Ok(())
+                }
+                Err(_) => Err(self.state.fail()),
+            },
             State::Decided { counts: held, .. } => {
                 *held = counts;
                 Ok(())
@@ -152,10 +156,14 @@ impl<A: Allocator + Copy> Checker<A> {
         ensures { MatchResult result (λ _. HasBegun self.old self.new) (λ error. IsUnbegun error self.old self.new) }
     {
         match &mut self.state {
-            State::Judging(ongoing) => {
-                let told = ongoing.begin_session();
-                self.state.settle(told, NO_OCTETS)
-            }
+            State::Judging(ongoing) => match ongoing.begin_session() {
+                Ok(None) => Ok(()),
+                Ok(Some(verdict)) => {
+                    self.state.decide(verdict, NO_OCTETS);
+                    Ok(())
+                }
+                Err(_) => Err(self.state.fail()),
+            },
             State::Decided { counts, .. } => {
                 *counts = NO_OCTETS;
                 Ok(())
@@ -238,26 +246,19 @@ impl<A: Allocator + Copy> State<A> {
         }
     }
 
-    /// Goes on as a judgement told: as it is, with the verdict that stands behind so many octets, or without memory.
-    fn settle(
-        &mut self,
-        told: Result<Option<SessionsVerdict<A>>, AllocError>,
-        counts: OctetCounts,
-    ) -> Result<(), PairError>
-        ensures { MatchResult told (λ told. (result ≡ Ok tt) × (of_state self.new ≡ settled (of_state self.old) counts told))
-            (λ _. (result ≡ Err Memory) × (of_state self.new ≡ failed)) }
+    /// The judgement ends with a verdict, where so many octets came of each stream of the last session.
+    fn decide(&mut self, verdict: SessionsVerdict<A>, counts: OctetCounts)
+        ensures { of_state self.new ≡ decided (sessions_verdict_shown verdict) counts }
     {
-        match told {
-            Ok(None) => Ok(()),
-            Ok(Some(verdict)) => {
-                *self = State::Decided { verdict, counts };
-                Ok(())
-            }
-            Err(_) => {
-                *self = State::Failed;
-                Err(PairError::Memory)
-            }
-        }
+        *self = State::Decided { verdict, counts };
+    }
+
+    /// The judgement ends without memory.
+    fn fail(&mut self) -> PairError
+        ensures { (result ≡ Memory) × (of_state self.new ≡ failed) }
+    {
+        *self = State::Failed;
+        PairError::Memory
     }
 }
 
@@ -362,10 +363,7 @@ fn end_session<A: Allocator + Copy>(
 ) -> Result<Option<SessionsVerdict<A>>, AllocError>
     requires all { HasNext (left_of feed.now) → ⊥ }
     requires whole { feed.now.has_failed ≡ false }
-    ensures { IfOk result (λ told. (limit : Limit) (marks : Marks) (before : List Recorded) (session : Recorded)
-        → Keeps (profile_of limit marks) before session judge.old.facts judge.old.answers.items feed.now
-        → MatchOption told (HaveEnded (profile_of limit marks) (before ++ session ∷ []) judge.new.facts judge.new.answers.items)
-        (λ verdict. IsVerdictFrom limit marks before session (sessions_verdict_shown verdict))) }
+    ensures { IfOk result (HasEnded judge.old.facts judge.old.answers.items feed.now judge.new.facts judge.new.answers.items) }
 {
     match feed.finish() {
         Ending::End { .. } => {
@@ -388,10 +386,7 @@ fn go_on<A: Allocator + Copy>(
     requires kept { (limit : Limit) × (marks : Marks) × (before : List Recorded) × (session : Recorded)
         × Keeps (profile_of limit marks) before session judge.old.facts judge.old.answers.items feed.old }
     requires whole { feed.old.has_failed ≡ false }
-    ensures { IfOk result (λ told. (limit : Limit) (marks : Marks) (before : List Recorded) (session : Recorded)
-        → Keeps (profile_of limit marks) before session judge.old.facts judge.old.answers.items feed.old
-        → MatchOption told (HasPassed (profile_of limit marks) before session judge.new.facts judge.new.answers.items feed.new × (feed.new.has_failed ≡ false))
-        (λ verdict. StandsForAll limit marks (decided (sessions_verdict_shown verdict) feed.old.counts) before session)) }
+    ensures { IfOk result (HasJudged judge.old.facts judge.old.answers.items feed.old judge.new.facts judge.new.answers.items feed.new) }
 {
     loop {
         let exchange = match feed.peek() {

@@ -62,7 +62,8 @@ pub record IsHeld (facts : FactsKept) (answers : List ℕ) (fed : Fed) : Type 0 
 -- what a checker holds while its judgement goes on, it holds of some sessions
 abbrev pub IsSound : Checked → Type 0
 IsSound (judging facts answers fed) = IsHeld facts answers fed
-IsSound held = ⊤
+IsSound (decided judgement counts) = ⊤
+IsSound failed = ⊤
 
 -- the judgement is the verdict, whatever octets of the last session and whatever sessions follow: a no that nothing can mend
 pub record IsDecided (limit : Limit) (marks : Marks) (judgement : JudgementOfAll) (before : List Recorded) (session : Recorded) : Type 0 where
