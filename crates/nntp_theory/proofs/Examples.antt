@@ -3,12 +3,12 @@ use Rattle.nntp_wire.specs.declared.{marks.Marks.TheVariants.{Lenient}, water_ma
 use Rattle.nntp_wire.specs.{Answer.{Response, greeting, to, group_is, numbers_are, sends, plain}, Command.{Request, by_id, by_number, current, group}}
 use Rattle.nntp_wire.specs.Command.{list_group, from_one, next, last, retrieve}
 use Rattle.std.proofs.Common.{◌≡◌, ℕ, ◌<◌, ◌≤◌, true, false, IsTrue, List, [], ◌∷◌, ◌++◌, None, Some, map, inl, inr, refl, ap, subst, sym, arith}
-use Rattle.std.{proofs.lemmas.{Bool.{cases_eq, eqb-true, le-ltb, or_cases, Decides.{nat_tests}}, Fmt.{decimal_digit}}, specs.Prelude.{codes}}
+use Rattle.std.{proofs.lemmas.{Bool.{le-ltb, or_cases}, Fmt.{decimal_digit}}, specs.Prelude.{codes}}
 use Rattle.nntp_said.specs.{Asks.{Ask, Estimates, StepsUp, StepsDown, StandsAt, IsTop, IsBottom, Has, Lacks}, declared.position.Position.TheVariants.{First}}
 use Rattle.nntp_said.specs.{declared.position.Position.TheVariants.{Known}, Facts.{Fact, ThereIs, Asks, IdAt}}
-use Rattle.nntp_theory.specs.{Together.{number_in}, Inner.Together.{AsksStand, Together}, Given.{IsGivenNumber, asks_of, is_shown, is_denied, demand}}
-use Rattle.nntp_theory.specs.Given.{IsOneMore, AreInvented, invented, facts_of_session, is_mentioned, id_shown, first_given, head_in, is_known}
-use Rattle.nntp_theory.specs.declared.demand.Demand.TheVariants.{NotEmpty, SecondIs}
+use Rattle.nntp_theory.specs.{Inner.Together.{AsksStand, Together}, Given.{asks_of, is_shown, is_denied, demand, IsOneMore, AreInvented, invented}}
+use Rattle.nntp_theory.specs.{Given.{facts_of_session, is_mentioned, id_shown, first_given, head_in, is_known}, declared.demand.Demand.TheVariants.{NotEmpty}}
+use Rattle.nntp_theory.specs.declared.demand.Demand.TheVariants.{SecondIs}
 
 abbrev g : List ℕ
 g = codes "g"
@@ -116,10 +116,7 @@ computed = assumption
 
 -- no number below 4 is shown
 four_is_shown_least : (n : ℕ) → IsTrue (is_shown (asks_of (codes "g") stepped) n) → 4 ≤ n
-four_is_shown_least n t = elim (or_cases _ _ t) [
-  | inl e ↦ (let same = eqb-true 4 n e in omega arith)
-  | inr r ↦ elim (or_cases _ _ r) [ inl e ↦ (let same = eqb-true 4 n e in omega arith) | inr f ↦ cc ]
-]
+four_is_shown_least n t = grind arith
 
 -- and none is known, as the marks are lenient
 four_is_least : (n : ℕ) → IsTrue (is_known (asks_of (codes "g") stepped) n) → 4 ≤ n
@@ -132,22 +129,13 @@ one_is_given = record { needed = λ n t. le-ltb n 4 (four_is_least n t); wanted 
 -- ---- then 1 and 2 are denied
 
 still_shown_least : (n : ℕ) → IsTrue (is_shown denied n) → 4 ≤ n
-still_shown_least n t = elim (or_cases _ _ t) [
-  | inl e ↦ (let same = eqb-true 4 n e in omega arith)
-  | inr r ↦ elim (or_cases _ _ r) [ inl e ↦ (let same = eqb-true 4 n e in omega arith) | inr f ↦ cc ]
-]
+still_shown_least n t = grind arith
 
 still_least : (n : ℕ) → IsTrue (is_known denied n) → 4 ≤ n
 still_least n t = elim (or_cases (is_shown denied n) _ t) [ inl s ↦ still_shown_least n s | inr f ↦ cc ]
 
 below_three : (m : ℕ) → 1 ≤ m → m < 3 → IsTrue (is_denied denied m)
-below_three m some low = elim (cases_eq m 1) [
-  | inl e ↦ subst (λ m. is_denied denied m ≡ true) (sym e) refl
-  | inr other ↦ elim (cases_eq m 2) [
-    | inl e ↦ subst (λ m. is_denied denied m ≡ true) (sym e) refl
-    | inr also ↦ absurd (omega (arith, other, also))
-  ]
-]
+below_three m some low = grind arith
 
 three_is_given : IsOneMore denied 3
 three_is_given = record { needed = λ n t. le-ltb n 4 (still_least n t); wanted = refl; first = (omega arith, refl, below_three) }
@@ -161,11 +149,7 @@ seen_needs_none n x = let w = x.wanted in cc
 
 -- so no number is left, and what is asked doesn't stand together
 emptied_falls : AsksStand emptied → ⊥
-emptied_falls h = by h.demand_met.0 h.demand_met.1
-  where
-    by : (n : ℕ) → IsGivenNumber emptied n → ⊥
-    by n (inl s) = cc
-    by n (inr x) = let free = x.first.1 in grind (arith, nat_tests)
+emptied_falls h = grind arith
 
 -- before LAST was answered no number was needed: the group has none
 unasked_needs_none : (n : ℕ) → IsOneMore (asks (group (codes "g") ∷ stat 5 ∷ []) (selected 1 5 5 ∷ plain 423 ∷ [])) n → ⊥
@@ -186,10 +170,7 @@ one_is_invented = (1, (omega arith, ap (is_mentioned absent) invented_one, passe
     passed i some low = subst (λ i. is_mentioned absent (invented i) ≡ true) (let e : 0 ≡ i = omega arith in e) (ap (is_mentioned absent) invented_zero)
 
 repeated_falls : Together repeated → ⊥
-repeated_falls h =
-    let one = h.ids_once (codes "g") (codes "<a@b>") in
-    let at_two : first_given (number_in (codes "g") (codes "<a@b>")) repeated ≡ Some 2 = one.1.1.1.1.1.0 in
-    cc
+repeated_falls h = grind (arith, (h.ids_once (codes "g") (codes "<a@b>")).1.1.1.1.1.0)
 
 -- ---- NEXT from the unseen first number, and LAST back to it
 

@@ -16,17 +16,13 @@ T-is_true b h = grind arith
 
 below_keys : {K X : Type 0} (R : K → K → Ordering) (x : K) (es : List (K × X)) → T (below_all R x es) → AllByRecursion (λ y. R x y ≡ Less) (map (λ e. e.0) es)
 below_keys R x [] h = tt
-below_keys R x (e ∷ es) h =
-    let p = and_parts (is_lt (R x e.0)) (below_all R x es) (T-is_true _ h) in
-    ((grind arith), below_keys R x es (T_from_true _ p.1))
+below_keys R x (e ∷ es) h = grind (arith, below_keys R x es (T_from_true _ (and_parts (is_lt (R x e.0)) (below_all R x es) (T-is_true _ h)).1))
 
 -- the keys of sorted entries are sorted
 pub sorted_keys : {K X : Type 0} (R : K → K → Ordering) (es : List (K × X)) → T (is_sorted R es) → IsStrictlySortedBy R (map (λ e. e.0) es)
 unfolding IsStrictlySortedBy
 sorted_keys R [] h = tt
-sorted_keys R (e ∷ es) h =
-    let p = and_parts (below_all R e.0 es) (is_sorted R es) (T-is_true _ h) in
-    (below_keys R e.0 es (T_from_true _ p.0), sorted_keys R es (T_from_true _ p.1))
+sorted_keys R (e ∷ es) h = grind (arith, below_keys, sorted_keys R es (T_from_true _ (and_parts (below_all R e.0 es) (is_sorted R es) (T-is_true _ h)).1))
 
 -- ---- how many keys there are
 
@@ -53,9 +49,7 @@ find_distinct : {K X : Type 0} {R : K → K → Ordering} (o : IsTotalOrder R) (
 unfolding IsDistinct
 find_distinct o k v [] d i = absurd i
 find_distinct {R = R} o k v (e ∷ es) d (inl same) = grind arith
-find_distinct {R = R} o k v (e ∷ es) d (inr i) =
-    let apart = all_at (λ y. eq_by_cmp R e.0 y ≡ false) k (map (λ e. e.0) es) d.0 (in_map (λ e. e.0) (k, v) es i) in
-    ap (λ b. cond b (Some e.1) (find R k es)) ((eq_by_cmp_equiv o).symm k e.0 ∙ apart) ∙ find_distinct o k v es d.1 i
+find_distinct {R = R} o k v (e ∷ es) d (inr i) = grind (arith, all_at (λ y. eq_by_cmp R e.0 y ≡ false) k (map (λ e. e.0) es) d.0 (in_map (λ e. e.0) (k, v) es i), find_distinct o k v es d.1 i)
 
 -- an entry of a map is found
 pub find_entry : {K X : Type 0} {R : K → K → Ordering} (o : IsTotalOrder R) (k : K) (v : X) (es : List (K × X)) → T (is_sorted R es) → In (k, v) es → find R k es ≡ Some v
@@ -117,9 +111,7 @@ module _ {K X : Type 0} {R : K → K → Ordering} (o : IsTotalOrder R) (same : 
   -- what is found was made of one of the keys
   pub get-made_of : (f : K → X) (ks : List K) (q : K) (v : X) → get (made_of f ks) q ≡ Some v → In q ks × (v ≡ f q)
   unfolding made_of
-  get-made_of f ks q v e =
-      let i = entry_in same q v (map (λ k. (k, f k)) ks) (sym (get-from_entries o (map (λ k. (k, f k)) ks) q) ∙ e) in
-      grind (arith, from_map)
+  get-made_of f ks q v e = grind (arith, entry_in same q v (map (λ k. (k, f k)) ks) (sym (get-from_entries o (map (λ k. (k, f k)) ks) q) ∙ e), from_map)
 
   -- a key is found
   found : (f : K → X) (ks : List K) (q : K) → In q ks → IsSome (find R q (map (λ k. (k, f k)) ks))

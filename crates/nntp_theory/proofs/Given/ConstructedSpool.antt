@@ -205,8 +205,7 @@ module _ (limit : ℕ) (B : ℕ) (facts : List Fact) where
   -- and back
   sent_there : (id : Id) (fact : Fact) → gives_article id fact ≡ true → In id (sent_in fact)
   unfolding sent_in
-  sent_there id (TextIs what other lines) t = inl (same_text other id (sym t))
-  sent_there id fact t = cc
+  sent_there id fact t = grind (arith, same_text)
 
   -- the ids are those that are used or sent
   id_made : (id : Id) → In id made_ids ↔ (IsUsed made id ⊎ IsTrue (is_sent facts id))
@@ -270,9 +269,7 @@ module _ (limit : ℕ) (B : ℕ) (facts : List Fact) where
 
     -- the numbers below B aren't all used
     not_all_used : (done : List ℕ) → length (mentioned facts) + length done < B → ((i : ℕ) → i < B → list_any (eqb i) (done ++ mentioned facts) ≡ true) → ⊥
-    not_all_used done few all =
-        let le = le-length_from_below (done ++ mentioned facts) B all in
-        grind (arith, mentioned, length-append)
+    not_all_used done few all = grind (arith, le-length_from_below (done ++ mentioned facts) B all, length-append)
 
     -- the next number isn't mentioned, and those before it are
     invents : (k : ℕ) (done : List ℕ) → Used k done → length (mentioned facts) + length done < B
@@ -316,9 +313,7 @@ module _ (limit : ℕ) (B : ℕ) (facts : List Fact) where
         → AreInvented facts k (flat_map (λ (g : Name × Numbers). unshown_in facts g.0 (entries g.1)) (groups_from k gs))
     unfolding groups_from
     groups_invented [] k done used few = tt
-    groups_invented (g ∷ gs) k done used few =
-        let ns = keys (number_map g) in
-        grind (arith, groups_from, after_ids, mentioned, entries_group, ids_invented, groups_invented gs (after_ids g k ns))
+    groups_invented (g ∷ gs) k done used few = grind (arith, mentioned, entries_group, ids_invented, groups_invented gs (after_ids g k (keys (number_map g))))
 
     -- the ids are invented in turn
     made_invented : length (mentioned facts) + length (unshown_ids facts made) < B → AreInvented facts 0 (unshown_ids facts made)

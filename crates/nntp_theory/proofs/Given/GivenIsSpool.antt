@@ -1,8 +1,8 @@
 -- The spool that is given is a spool.
 use Rattle.std.specs.{Ordering.{nat_cmp}, Prelude.{unwrap_or}, List.{AllByRecursion, list_any}, Option.{option_map_or}, FinMap.{get, len, empty_of_len}}
-use Rattle.std.{specs.{FinMap.{get-empty}, Cmp.Lexicographic.{same_text}}, proofs.Common.{◌≡◌, ℕ, ◌≤◌, Bool, true, false, cond, IsTrue, List, ◌∷◌, ◌++◌}}
-use Rattle.std.proofs.{Common.{Option, None, Some, is_some, IsSome, inl, inr, refl, sym, ap, subst, ◌∙◌, arith}, lemmas.Bool.{true≢false, and_parts, or_cases}}
-use Rattle.std.proofs.lemmas.{Bool.{cases_eq}, List.Elements.{All-from_recursion}}
+use Rattle.std.{specs.{FinMap.{get-empty}, Cmp.Lexicographic.{same_text}}, proofs.Common.{◌≡◌, ℕ, ◌≤◌, true, IsTrue, List, ◌∷◌, ◌++◌, Option, Some, is_some}}
+use Rattle.std.proofs.{Common.{IsSome, inl, inr, refl, sym, ap, subst, ◌∙◌, arith}, lemmas.Bool.{true≢false, and_parts, or_cases, cases_eq}}
+use Rattle.std.proofs.lemmas.List.Elements.{All-from_recursion}
 use Rattle.nntp_theory.proofs.{GivenNumbers.LeastNumber.{not_number}, Together.FewEnough.{within_one}, Given.{ShownNames.{shown_named}, GivenHolds.{Setting}}}
 use Rattle.nntp_theory.proofs.{Given.GivenHolds.{one_given, group_of_number, id_cases, shown_at, unshown_once}, Members.{In, all_at, all_both, any_in}}
 use Rattle.nntp_theory.proofs.{Members.{found_in, first_found}, Ids.PlainHead.{plain_says, plain_is_head, plain_is_clean}, Session.FittingFacts.{IsFitting}}
@@ -12,7 +12,7 @@ use Rattle.nntp_theory.specs.Together.{number_in, IsFewFor}
 use Rattle.nntp_article.specs.{Article.Parts.{is_head, said_id, head_part, body_part, Id, Line}, Session.Spool.{Spool, Text, IsNumber, IsGroup, numbers}}
 use Rattle.nntp_article.specs.{Session.{Spool.{IsSpool, Name, is_line, Numbers}, Machine.{is_same, says_own_id}}, declared.session.profile.Profile.{Profile}}
 use Rattle.nntp_said.specs.Facts.{Fact, TextIs}
-use Rattle.nntp_wire.specs.{Name.{IsGroupName, IsMessageId}, declared.command.What.TheVariants.{Article, Head}}
+use Rattle.nntp_wire.specs.Name.{IsGroupName, IsMessageId}
 
 -- a head for an id, without lines that hold NUL, CR or LF, and it says no other id
 record IsHeadOf (id : Id) (head : List Line) : Type 0 where
@@ -107,23 +107,7 @@ module _ (profile : Profile) (B : ℕ) (G : Spool) (facts : List Fact) (s : Sett
 
   -- a head that was sent is one
   sent_head : (id : Id) (lines : List Line) (fact : Fact) → IsFitting profile fact → IsWellFormed fact → head_in id fact ≡ Some lines → IsHeadOf id lines
-  sent_head id lines (TextIs Article other (Some ls)) f h e = by (is_same other id) refl e
-    where
-      whole : IsHeadOf other (head_part ls)
-      whole = grind (arith, and_parts, head_lines, own_id)
-
-      by : (b : Bool) → is_same other id ≡ b → cond b (Some (head_part ls)) None ≡ Some lines → IsHeadOf id lines
-      by true is e = subst (λ id. IsHeadOf id lines) (same_text other id (sym is)) (subst (IsHeadOf other) (let q : head_part ls ≡ lines = cc in q) whole)
-      by false is e = cc
-  sent_head id lines (TextIs Head other (Some ls)) f h e = by (is_same other id) refl e
-    where
-      whole : IsHeadOf other ls
-      whole = let p = and_parts (is_head ls) _ f in record { is_a_head = p.0; is_clean = h.1; own = own_id other ls p.1 }
-
-      by : (b : Bool) → is_same other id ≡ b → cond b (Some ls) None ≡ Some lines → IsHeadOf id lines
-      by true is e = subst (λ id. IsHeadOf id lines) (same_text other id (sym is)) (subst (IsHeadOf other) (let q : ls ≡ lines = cc in q) whole)
-      by false is e = cc
-  sent_head id lines fact f h e = cc
+  sent_head id lines fact f h e = grind (arith, head_lines, own_id, same_text)
 
   -- the head of an id is one
   head_is : (id : Id) (t : Text) → get G.articles id ≡ Some t → IsHeadOf id t.head

@@ -35,14 +35,8 @@ same_group facts name k (e ∷ es) (f ∷ fs) xs ys keys ag ag' h g =
         → (es ≡ fs) × ((j : ℕ) × AreInvented facts j xs × AreInvented facts j ys))
         → AreInvented facts k ((cond (is_some o) [] (e.1 ∷ []) ++ unshown_in facts name es) ++ xs) → AreInvented facts k ((cond (is_some o) [] (f.1 ∷ []) ++ unshown_in facts name fs) ++ ys)
         → ((e ∷ es) ≡ (f ∷ fs)) × ((j : ℕ) × AreInvented facts j xs × AreInvented facts j ys)
-    by (Some id) is rec h g =
-        let r = rec k h g in
-        let a = ag e.0 e.1 id (inl refl) is in
-        let b = ag' f.0 f.1 id (inl refl) (ap (id_shown facts name) (sym first_key) ∙ is) in
-        (joined id (a ∙ sym b) r.0, r.1)
-    by None is rec (i, a, is_i, h) (j, b, is_j, g) =
-        let same = first_free_once (λ i. is_mentioned facts (invented i)) k i j a b in
-        grind (arith, first_free_once, joined, true≢false)
+    by (Some id) is rec h g = grind (arith, ag e.0 e.1 id (inl refl) is, ag' f.0 f.1 id (inl refl) (ap (id_shown facts name) (sym first_key) ∙ is))
+    by None is rec (i, a, is_i, h) (j, b, is_j, g) = grind (arith, first_free_once (λ i. is_mentioned facts (invented i)) k i j a b, joined, true≢false)
 
 -- ---- groups
 

@@ -1,14 +1,12 @@
 -- Whether each part of what is asked of a group stands can be decided, where there are the given numbers.
-use Rattle.std.proofs.{Common.{◌≡◌, ℕ, Bool, true, false, ◌||◌, ◌==◌, ◌⊎◌, IsTrue, List, is_some, inl, inr, refl, sym, ◌∙◌, arith}, lemmas.Bool.{true≢false}}
-use Rattle.std.{proofs.lemmas.Bool.{not-true, not-false, eqb-true, eq-eqb, leb-true, le-leb, or_cases, or_left, or_right, cases_lt}, specs.Prelude.{not}}
-use Rattle.std.specs.{Prelude.{nat_le, IsFalse}, List.{AllByRecursion, list_all}, Cmp.{nat_cmp_total}, FinMap.{get, len, keys, contains_key-keys}}
-use Rattle.std.specs.FinMap.{nat_cmp-IsAntisymmetric}
+use Rattle.std.proofs.{Common.{◌≡◌, ℕ, Bool, ◌||◌, ◌==◌, ◌⊎◌, IsTrue, List, is_some, inl, inr, refl, sym, ◌∙◌, arith}, lemmas.Bool.{true≢false, not-false}}
+use Rattle.std.{proofs.lemmas.Bool.{eqb-true, eq-eqb, leb-true, le-leb, or_cases, or_left, or_right, cases_lt}, specs.Prelude.{not, nat_le, IsFalse}}
+use Rattle.std.specs.{List.{AllByRecursion, list_all}, Cmp.{nat_cmp_total}, FinMap.{get, len, keys, contains_key-keys, nat_cmp-IsAntisymmetric}}
 use Rattle.nntp_article.specs.Session.Spool.{Numbers, IsNumber}
 use Rattle.nntp_said.{proofs.FiniteMapsDecided.{Dec, dec_true, dec_by, dec_all, each_key, passes, fails}, specs.Asks.{Ask}}
 use Rattle.nntp_theory.specs.{declared.demand.Demand.{Demand, TheVariants.{NoDemand, NotEmpty, OnlyOne, SecondIs, Impossible}}, Given.{demand, is_known}}
 use Rattle.nntp_theory.specs.{Given.{is_denied, IsGivenNumber, HasGivenNumbers}, Together.{MeetsDemand, IsFewFor}, Conflict.{AreTooMany}}
-use Rattle.nntp_theory.proofs.{Members.{all_at, all_from}, GivenNumbers.{LeastNumber.{Empty, Begins, firsts}, GivenNumbersMeet.{same_demand}}}
-use Rattle.nntp_theory.proofs.GivenNumbers.CountOfGivenNumbers.{as_many_given}
+use Rattle.nntp_theory.proofs.{Members.{all_at, all_from}, GivenNumbers.{LeastNumber.{Empty, Begins, firsts}, CountOfGivenNumbers.{as_many_given}}}
 
 -- whether the numbers meet a demand
 dec_demand : (N : Numbers) (d : Demand) → Dec (MeetsDemand d (IsNumber N))
@@ -53,10 +51,7 @@ module _ (asks : List Ask) (N : Numbers) (given : HasGivenNumbers asks N) where
     where
       by : (b : Bool) → list_all (λ n. not (is_denied asks n)) (keys N) ≡ b
           → ((n : ℕ) × IsTrue (is_known asks n) × IsTrue (is_denied asks n)) ⊎ ((n : ℕ) → IsTrue (is_known asks n) → IsFalse (is_denied asks n))
-      by true e = inr (λ n k. not-true (is_denied asks n) (passes nat_cmp_total nat_cmp-IsAntisymmetric (λ n. not (is_denied asks n)) (keys N) n e (sym (contains_key-keys N n) ∙ (given n).1 (inl k))))
-      by false e =
-          let f = fails nat_cmp_total nat_cmp-IsAntisymmetric (λ n. not (is_denied asks n)) (keys N) e in
-          grind (arith, contains_key-keys, not-false, true≢false)
+      by b e = grind (arith, passes, nat_cmp_total, nat_cmp-IsAntisymmetric, contains_key-keys, fails, not-false, true≢false)
 
   -- the given numbers are more than is estimated, or they aren't
   pub too_many_or_not : AreTooMany asks ⊎ ((M : Numbers) → HasGivenNumbers asks M → AllByRecursion (IsFewFor M) asks)
@@ -67,7 +62,4 @@ module _ (asks : List Ask) (N : Numbers) (given : HasGivenNumbers asks N) where
 
   -- they don't meet the demand, or do
   pub unmet_or_met : (MeetsDemand (demand asks) (IsGivenNumber asks) → ⊥) ⊎ MeetsDemand (demand asks) (IsGivenNumber asks)
-  unmet_or_met = elim (dec_demand N (demand asks)) [
-    | inl met ↦ inr (same_demand (IsNumber N) (IsGivenNumber asks) (λ n. (given n).0) (λ n. (given n).1) (demand asks) met)
-    | inr not_met ↦ inl (λ met. not_met (same_demand (IsGivenNumber asks) (IsNumber N) (λ n. (given n).1) (λ n. (given n).0) (demand asks) met))
-  ]
+  unmet_or_met = grind (arith, dec_demand N (demand asks))

@@ -4,14 +4,14 @@ use Rattle.std.proofs.Common.{◌≡◌, ℕ, ◌≤◌, ◌⊎◌, true, false,
 use Rattle.std.proofs.lemmas.Bool.{true≢false, and_cases, false_from_ne_true, eqb-true, ltb-true, ltb-false, cases_lt, eq-eqb, not-false, or_cases, or_left}
 use Rattle.std.{proofs.lemmas.Bool.{or_right, and_parts, and_from, cases_Bool, or_parts, Decides.{nat_tests}}, specs.{Prelude.{IsFalse}, List.{AllByRecursion}}}
 use Rattle.std.specs.{List.{list_any}, FinMap.{get}}
-use Rattle.nntp_article.specs.Session.{Spool.{Numbers, IsNumber, IsNextAbove, NoneAbove, NoneBelow}, Machine.{is_in_range, AreEnds}}
+use Rattle.nntp_article.specs.Session.{Spool.{Numbers, IsNumber, IsNextAbove, NoneAbove}, Machine.{is_in_range, AreEnds}}
 use Rattle.nntp_said.specs.Asks.{Ask, Meets, Estimates, Bounds, ListsIn, Has, Lacks, StandsAt, StandsNowhere, StepsUp, StepsDown, IsTop, IsBottom}
 use Rattle.nntp_said.specs.declared.position.Position.TheVariants.{Nowhere, First, Known}
 use Rattle.nntp_theory.specs.Given.{shows, denies, demand_in, join, demand, IsGivenNumber, HasGivenNumbers, says_some, is_end}
 use Rattle.nntp_theory.specs.{declared.demand.Demand.{Demand, TheVariants.{NoDemand}}, Together.{is_possible, MeetsDemand, IsFewFor}}
 use Rattle.nntp_theory.{specs.Inner.Together.{AsksStand}, proofs.Members.{In, all_at, all_from, any_in, in_contains, each_of, found_in}}
-use Rattle.nntp_theory.proofs.GivenNumbers.{LeastNumber.{Empty, Begins, firsts, least_is, least_none}, MetNumbersStand.{of_first, listed_in, finds, in_range}}
-use Rattle.nntp_theory.proofs.GivenNumbers.MetNumbersStand.{in_range_back, shown_known}
+use Rattle.nntp_theory.proofs.GivenNumbers.{LeastNumber.{firsts, least_is, least_none}, MetNumbersStand.{of_first, listed_in, finds, in_range, in_range_back}}
+use Rattle.nntp_theory.proofs.GivenNumbers.MetNumbersStand.{shown_known}
 
 -- numbers that meet two demands as one meet each
 parted : (P : ℕ → Type 0) (d e : Demand) → MeetsDemand (join d e) P → MeetsDemand d P × MeetsDemand e P
@@ -36,9 +36,7 @@ shows_some ask n h = grind arith
 -- and so of all
 pub no_demand : (asks : List Ask) → list_any says_some asks ≡ false → demand asks ≡ NoDemand
 no_demand [] f = refl
-no_demand (ask ∷ asks) f =
-    let p = or_parts (says_some ask) (list_any says_some asks) f in
-    grind (arith, or_parts, no_demand asks p.1)
+no_demand (ask ∷ asks) f = grind (arith, no_demand asks (or_parts (says_some ask) (list_any says_some asks) f).1)
 
 -- where a number is given, it is said that there is one
 pub some_said : (asks : List Ask) (n : ℕ) → IsGivenNumber asks n → IsTrue (list_any says_some asks)
@@ -98,12 +96,7 @@ module _ (asks : List Ask) (G : Numbers) (stand : AsksStand asks) (given : HasGi
       of_first G d.0 (NoneAbove G) (least_is G d.0 d.1 (λ n j. let e = d.2 n j in omega arith)) (λ n above. none_of (get G n) (λ j. let e = d.2 n j in omega arith))
   meets_in_G (IsTop (Known c)) i p few = λ n above. none_of (get G n) (λ j. let g = ltb-false c n (not_denied_in_G (IsTop (Known c)) i n j) in omega arith)
   meets_in_G (IsTop Nowhere) i p few = cc
-  meets_in_G (IsBottom First) i p few =
-      let d = demand_in_G (IsBottom First) i in
-      elim (firsts G) [
-        | Begins c e there all ↦ of_first G c (NoneBelow G) e (λ n below. none_of (get G n) (λ j. let a = all n j in omega arith))
-        | Empty e none ↦ absurd (none d.0 d.1)
-      ]
+  meets_in_G (IsBottom First) i p few = grind (arith, demand_in_G (IsBottom First) i, firsts G)
   meets_in_G (IsBottom (Known c)) i p few = λ n below. none_of (get G n) (λ j. let g = ltb-false n c (not_denied_in_G (IsBottom (Known c)) i n j) in omega arith)
   meets_in_G (IsBottom Nowhere) i p few = cc
 

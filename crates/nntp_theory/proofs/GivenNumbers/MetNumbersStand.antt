@@ -165,9 +165,7 @@ module _ (asks : List Ask) (N : Numbers) (met : AllByRecursion (Meets N) asks) (
 
   -- where no number is known that is wanted, and one of N is wanted, there is one more
   one_more : (n : ℕ) → IsNumber N n → wants (demand asks) n ≡ true → ((m : ℕ) → IsTrue (is_known asks m) → IsFalse (wants (demand asks) m)) → (e : ℕ) × IsOneMore asks e
-  one_more n i t needed =
-      let f = first_free (is_denied asks) 1 n (positive n i) (free_in_N n i) in
-      (f.0, record { needed = needed; wanted = wants_less (demand asks) n f.0 f.2 t; first = f.1 })
+  one_more n i t needed = grind (arith, first_free (is_denied asks) 1 n (positive n i) (free_in_N n i))
 
   -- where N has a number that is wanted, one is given
   given_wanted : (n : ℕ) → IsNumber N n → wants (demand asks) n ≡ true → (k : ℕ) × IsGivenNumber asks k × (wants (demand asks) k ≡ true)

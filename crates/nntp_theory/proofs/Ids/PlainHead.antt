@@ -17,9 +17,7 @@ clean c h = grind arith
 -- octets of an id make a line
 all_clean : (cs : List ℕ) → list_all is_id_octet cs ≡ true → (is_clean cs ≡ true) × (list_all (λ c. nat_lt c 256) cs ≡ true)
 all_clean [] h = (refl, refl)
-all_clean (c ∷ cs) h =
-    let p = and_parts (is_id_octet c) _ h in
-    grind (arith, clean, and_from, all_clean cs p.1)
+all_clean (c ∷ cs) h = grind (arith, all_clean cs (and_parts (is_id_octet c) _ h).1)
 
 -- the line of an id
 id_line : (cs : List ℕ) → list_all is_id_octet cs ≡ true → is_line (codes "Message-ID: " ++ cs) ≡ true

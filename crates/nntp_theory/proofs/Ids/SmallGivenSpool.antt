@@ -46,11 +46,10 @@ shown_numbers name facts = flat_map (numbers_in name) facts
 -- a group that a fact shows is one of its names
 names_shown : (name : Name) (fact : Fact) → shows_group name fact ≡ true → In name (names_in fact)
 unfolding names_in
-names_shown name (ThereIs g) t = inl (same_text g name (sym t))
 names_shown name (GroupsAre p lines) t =
     let f = found_in (λ line. is_same line.name name) lines t in
     subst (λ g. In g (map (λ line. line.name) lines)) (same_text f.0.name name (sym f.2)) (in_map (λ line. line.name) f.0 lines f.1)
-names_shown name fact t = cc
+names_shown name fact t = grind (arith, same_text)
 
 -- a group that is shown is one of the names
 pub shown_name : (facts : List Fact) (name : Name) → IsTrue (is_shown_group facts name) → In name (names_of facts)
@@ -112,9 +111,7 @@ none_left g ask name (other ∷ names) same apart = by (is_same g other) refl (n
   where
     by : (b : Bool) → is_same g other ≡ b → length (flat_map (λ n. flat_map named_by (cond (is_same g n) (ask ∷ []) [])) names) ≡ 0
         → length (flat_map named_by (cond b (ask ∷ []) []) ++ flat_map (λ n. flat_map named_by (cond (is_same g n) (ask ∷ []) [])) names) ≡ 0
-    by true e rest =
-        let one : name ≡ other = sym (same_text g name (sym same)) ∙ same_text g other (sym e) in
-        absurd (true≢false (sym (subst (λ n. eq_by_cmp (slice_cmp nat_cmp) name n ≡ true) one ((eq_by_cmp_equiv nat_list_cmp_total).refl name)) ∙ apart.0))
+    by true e rest = grind (arith, sym (same_text g name (sym same)) ∙ same_text g other (sym e), true≢false, eq_by_cmp_equiv, nat_list_cmp_total)
     by false e rest = rest
 
 -- what an ask shows of several groups is no more than its size
@@ -145,9 +142,7 @@ both_parts f h (name ∷ names) = grind (arith, length-append, both_parts f h na
 numbers_few : (facts : List Fact) (names : List Name) → IsDistinct (eq_by_cmp (slice_cmp nat_cmp)) names → length (flat_map (λ name. shown_numbers name facts) names) ≤ size facts
 unfolding shown_numbers
 numbers_few [] names d = let none = nothing_few (λ name. []) names (λ name. refl) in omega arith
-numbers_few (fact ∷ facts) names d =
-    let parts = both_parts (λ name. numbers_in name fact) (λ name. shown_numbers name facts) names in
-    grind (arith, one_few, numbers_few facts names d)
+numbers_few (fact ∷ facts) names d = grind (arith, both_parts (λ name. numbers_in name fact) (λ name. shown_numbers name facts) names, one_few, numbers_few facts names d)
 
 -- no more ids are mentioned than the size
 mentioned_few : (facts : List Fact) → length (mentioned facts) ≤ size facts

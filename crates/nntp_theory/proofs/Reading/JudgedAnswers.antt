@@ -30,9 +30,7 @@ accepted_push past (x ∷ answers) answer = accepted_push (accepted_with past x)
 -- no more are accepted than there are answers
 pub accepted_few : (past : List Paired) (answers : List Judged) → length (all_accepted past answers) ≤ length past + length answers
 accepted_few past [] = omega arith
-accepted_few past (answer ∷ answers) = let rest = accepted_few (accepted_with past answer) answers in let one = by answer in omega (arith, rest, one) where
-  by : (answer : Judged) → length (accepted_with past answer) ≤ length past + 1
-  by answer = grind (arith, length-append)
+accepted_few past (answer ∷ answers) = grind (arith, length-append, accepted_few (accepted_with past answer) answers)
 
 -- the visible state that those that were accepted leave
 abbrev pub visible_behind : List Paired → Visible
@@ -66,9 +64,7 @@ module _ (Stand : List Paired → Type 0) where
   one_judged past a b c (Refused x) (Unspelled i place initial block) (n, h) (at, passed) = absurd (next-no-end (bad PairMalformed) a b x n (passed-ends a c place initial block passed))
   one_judged past a b c (Unspelled i place initial block) (Accepted y) (at, passed) (m, k) = absurd (next-no-end (bad PairMalformed) a c y m (passed-ends a b place initial block passed))
   one_judged past a b c (Unspelled i place initial block) (Refused y) (at, passed) (m, k) = absurd (next-no-end (bad PairMalformed) a c y m (passed-ends a b place initial block passed))
-  one_judged past a b c (Unspelled i place initial block) (Unspelled j also other next) (at, passed) (to, second) =
-      let one = one-passed a b c place also initial other block next passed second in
-      search rules
+  one_judged past a b c (Unspelled i place initial block) (Unspelled j also other next) (at, passed) (to, second) = grind (arith, one-passed a b c place also initial other block next passed second)
 
   -- ---- several answers
 
@@ -81,15 +77,7 @@ module _ (Stand : List Paired → Type 0) where
   -- the index counts the answers
   pub judged_count : (past : List Paired) (a b : Unpaired) (answers : List Judged) → AreJudged Stand past a answers b → b.index ≡ a.index + length answers
   judged_count past a b [] same = let e = ap (λ (u : Unpaired). u.index) same in omega (arith, e)
-  judged_count past a b (answer ∷ answers) (m, first, more) =
-      let rest = judged_count (accepted_with past answer) m b answers more in
-      let next = by answer first in
-      omega (arith, rest, next)
-    where
-      by : (answer : Judged) → IsJudged Stand past a answer m → m.index ≡ a.index + 1
-      by (Accepted pair) (next, h) = next.next_index
-      by (Refused pair) (next, h) = next.next_index
-      by (Unspelled index place initial block) (at, passed) = passed.next_index
+  judged_count past a b (answer ∷ answers) (m, first, more) = grind (arith, judged_count (accepted_with past answer) m b answers more)
 
   -- those that are accepted stand
   pub accepted_stand : (past : List Paired) (a b : Unpaired) (answers : List Judged) → Stand past → AreJudged Stand past a answers b → Stand (all_accepted past answers)
@@ -97,9 +85,7 @@ module _ (Stand : List Paired → Type 0) where
   accepted_stand past a b (answer ∷ answers) stand (m, first, more) = accepted_stand (accepted_with past answer) m b answers (by answer first) more
     where
       by : (answer : Judged) → IsJudged Stand past a answer m → Stand (accepted_with past answer)
-      by (Accepted pair) (next, h) = h
-      by (Refused pair) (next, h) = stand
-      by (Unspelled index place initial block) (at, passed) = stand
+      by answer judged = grind arith
 
   -- and weigh no more than the octets that they take
   pub accepted_weight : (past : List Paired) (a b : Unpaired) (answers : List Judged)

@@ -83,9 +83,7 @@ module _ (Stand : List Paired → Type 0) where
 
     -- two streams have a reading
     pub some_reading_by : (client : ClientStream) (server : List ℕ) → length server ≤ most → (answers : List Judged) × (ending : Ending) × IsReadingBy Stand client server answers ending
-    some_reading_by client server small =
-        let r = read_on [] (streams client server) (length server) (omega arith) (omega (arith, small)) in
-        (r.0, r.3.0, record { left = r.1; judged = r.2; ends = r.3.1; passed_over = r.3.2 })
+    some_reading_by client server small = grind (arith, read_on [] (streams client server) (length server) (omega arith) (omega (arith, small)))
 
 -- it is decided whether some spool permits exchanges
 pub some_reading : (profile : Profile) (client : ClientStream) (server : List ℕ) → length server < 2 ^ 210

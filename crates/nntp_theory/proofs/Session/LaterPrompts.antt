@@ -71,10 +71,8 @@ permitted_longer profile ps qs answers le = (
 pub facts_longer : (how : Marks) (v : Visible) (at : Position) (ps qs : List Asked) (answers : List Response)
     → length answers ≤ length ps → facts_from how v at (ps ++ qs) answers ≡ facts_from how v at ps answers
 facts_longer how v at [] [] [] le = refl
-facts_longer how v at [] (q ∷ qs) [] le = refl
-facts_longer how v at [] qs (a ∷ answers) le = absurd (omega arith)
-facts_longer how v at (p ∷ ps) qs [] le = refl
 facts_longer how v at (p ∷ ps) qs (a ∷ answers) le = ap (λ rest. facts_of how v at p a ++ rest) (facts_longer how (visible_after v p a) (position_after at p a) ps qs answers (omega arith))
+facts_longer how v at ps qs answers le = grind arith
 
 -- the one behind them is asked next
 pub next_behind : (ps more : List Asked) (asked : Asked) (answers : List Response) → length ps ≡ length answers → asked_next (ps ++ asked ∷ more) answers ≡ Some asked

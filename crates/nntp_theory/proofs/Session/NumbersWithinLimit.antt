@@ -1,6 +1,6 @@
 -- The numbers of a group are within the limit.
-use Rattle.std.proofs.{lemmas.Bool.{true≢false, and_parts, or_right, eqb-true, leb-true, lt-ltb, cases_lt, false_from_ne_true}, Common.{◌≡◌, ℕ, ◌≤◌, ◌<◌, Bool}}
-use Rattle.std.{proofs.Common.{true, cond, IsTrue, List, [], ◌∷◌, Option, inl, inr, refl, sym, subst, ◌∙◌, arith}, specs.Prelude.{IsFalse, nat_le, nat_lt}}
+use Rattle.std.proofs.{lemmas.Bool.{true≢false, and_parts, or_right, eqb-true, leb-true, lt-ltb, cases_lt, false_from_ne_true}, Common.{◌≡◌, ℕ, ◌≤◌, ◌<◌, true}}
+use Rattle.std.{proofs.Common.{cond, IsTrue, List, [], ◌∷◌, Option, inl, inr, refl, sym, subst, ◌∙◌, arith}, specs.Prelude.{IsFalse, nat_le, nat_lt}}
 use Rattle.std.specs.{List.{AllByRecursion, list_any}, Cmp.Lexicographic.{same_text}}
 use Rattle.nntp_theory.specs.{Inner.Estimates.{estimate_in, is_within}, Given.{is_shown_group, asks_in, asks_of, shows, denies, is_shown, is_denied}}
 use Rattle.nntp_theory.{specs.Given.{shows_group, is_end}, proofs.Members.{In, all_at, any_in, found_in, to_flat, from_flat}}
@@ -63,15 +63,9 @@ module _ (profile : Profile) (facts : List Fact) (how : Marks) (fitting : AllByR
       let not_denied : IsFalse (denies f.0 n) = false_from_ne_true _ (λ d. true≢false (sym (any_in (λ ask. denies ask n) f.0 (asks_of name facts) f.1 d) ∙ free)) in
       by g.0 (fits g.0 g.1) f.0 g.2 f.2 (few f.0 f.1) not_denied
     where
-      only : (b : Bool) (x ask : Ask) → In ask (cond b (x ∷ []) []) → x ≡ ask
-      only b x ask i = grind arith
-
       by : (fact : Fact) → IsFitting profile fact → (ask : Ask) → In ask (asks_in name fact) → is_end ask n ≡ true
           → IsTrue (is_within (estimate_in ask) count) → IsFalse (denies ask n) → (1 ≤ n) × (n ≤ profile.limit)
-      by (GroupsAre p lines) h ask i t few free =
-          let f = from_flat (λ (line : ActiveValue). cond (is_same line.name name) (Bounds line.low line.high ∷ []) []) ask lines i in
-          absurd (true≢false (sym (subst (λ a. is_end a n ≡ true) (sym (only (is_same f.0.name name) (Bounds f.0.low f.0.high) ask f.2)) t)))
-      by fact h ask i t few free = search arith
+      by fact h ask i t few free = grind (arith, from_flat)
 
   -- so a number that isn't denied is within it
   pub free_in_limit : (name : Name) → IsTrue (is_shown_group facts name) → (n : ℕ) → IsFalse (is_denied (asks_of name facts) n) → n ≤ profile.limit

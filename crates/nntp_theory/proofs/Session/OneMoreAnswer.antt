@@ -21,9 +21,7 @@ facts_grow how v at [] answers asked response e = cc
 facts_grow how v at (p ∷ []) [] asked response e = append-nil (facts_of how v at p response) ∙ ap (λ p. facts_of how v at p response) (asked_first p asked e)
 facts_grow how v at (p ∷ (q ∷ ps)) [] asked response e = append-nil (facts_of how v at p response) ∙ ap (λ p. facts_of how v at p response) (asked_first p asked e)
 facts_grow how v at (p ∷ ps) (a ∷ more) asked response e =
-    let w = visible_after v p a in
-    let to = position_after at p a in
-    grind (arith, append_assoc, facts_grow how w to ps more asked response e)
+    grind (arith, append_assoc, facts_grow how (visible_after v p a) (position_after at p a) ps more asked response e)
 
 -- what it leaves visible
 pub visible_grows : (v : Visible) (ps : List Asked) (answers : List Response) (asked : Asked) (response : Response) → asked_next ps answers ≡ Some asked

@@ -65,30 +65,22 @@ same_front (p ∷ ps) (a ∷ answers) (c ∷ others) sp tp rest more (b, tail, s
     let same = one-spelling p a c b d (tail ++ rest) (tail' ++ more) s t split in
     let left = append_cancel_left b (tail ++ rest) (tail' ++ more) (split ∙ ap (λ d. d ++ (tail' ++ more)) (sym same.1)) in
     let r = same_front ps answers others tail tail' rest more ss ts left (omega arith) in
-    let m = ap length whole ∙ length-append b tail in
-    let n = ap length whole' ∙ length-append d tail' in
-    let o = ap length same.1 in
-    let q = r.1 in
-    ((λ i. same.0 i ∷ r.0 i), omega arith)
+    grind (arith, append_cancel_left, length-append)
 
 -- the first answers of a reading, and what is left behind them
 first_spelled : (ps : List Asked) (answers : List Response) (sp : List ℕ) (n : ℕ) → Spelled ps answers sp → n ≤ length answers
     → (front : List ℕ) × (rest : List ℕ) × Spelled ps (take n answers) front × (sp ≡ front ++ rest) × (n < length answers → 0 < length rest)
 first_spelled ps [] sp zero s le = ([], sp, refl, refl, λ l. absurd (omega arith))
-first_spelled ps [] sp (suc n) s le = absurd (omega arith)
-first_spelled [] (a ∷ answers) sp n s le = absurd s
-first_spelled (p ∷ ps) (a ∷ answers) sp zero (b, tail, s, ss, whole) le = grind arith
 first_spelled (p ∷ ps) (a ∷ answers) sp (suc n) (b, tail, s, ss, whole) le =
     let r = first_spelled ps answers tail n ss (omega arith) in
     (b ++ r.0, r.1, (b, r.0, s, r.2, refl), whole ∙ ap (λ t. b ++ t) r.3 ∙ sym (append_assoc b r.0 r.1), λ l. r.4 (omega arith))
+first_spelled ps answers sp n s le = grind arith
 
 -- answers weigh no more than their octets
 pub light : (ps : List Asked) (answers : List Response) (sp : List ℕ) → Spelled ps answers sp → weight answers ≤ length sp
 light ps [] sp s = omega arith
 light [] (a ∷ answers) sp s = absurd s
-light (p ∷ ps) (a ∷ answers) sp (b, tail, s, ss, whole) =
-    let long = lines-few p a b s in
-    grind (arith, length-append, light ps answers tail ss)
+light (p ∷ ps) (a ∷ answers) sp (b, tail, s, ss, whole) = grind (arith, lines-few p a b s, length-append, light ps answers tail ss)
 
 -- who explains m answers explains fewer
 pub first_explained : (profile : Profile) (S : Spool) (client : ClientStream) (server : List ℕ) (n m : ℕ) (rest : List ℕ) → n ≤ m
@@ -153,9 +145,7 @@ module _ (P : Spool → Type 0) (profile : Profile) (client : ClientStream) (ser
 
   -- whoever explains answer k permits the first of them
   explained_permits : (T : Spool) (k : ℕ) → k < length r.answers → (y : ExplainsFirst profile T client server k) → Run profile T start (prompts_of client) (take (k + 1) r.answers)
-  explained_permits T k within y =
-      let f = (same_front (prompts_of client) y.1.answers r.answers y.1.octets r.spelled y.0 r.rest y.1.spelled r.is (sym y.1.whole ∙ r.whole) (omega arith)).0 in
-      grind arith
+  explained_permits T k within y = grind (arith, (same_front (prompts_of client) y.1.answers r.answers y.1.octets r.spelled y.0 r.rest y.1.spelled r.is (sym y.1.whole ∙ r.whole) (omega arith)).0)
 
   -- one that permits all of them explains both streams, or the answer behind them is bad
   at_the_end : SomeRuns r.answers → ((S : Spool) × (n : ℕ) × P S × Explains profile S client server n) ⊎ ((k : ℕ) × BadAmong P profile client server k)

@@ -63,15 +63,13 @@ one_more (p ∷ ps) (x ∷ answers) (y ∷ others) sp tp rest more (b, tail, s, 
 as_many : (ps : List Asked) (answers others : List Response) (sp tp rest more : List ℕ) → Spelled ps answers sp
     → Spelled ps others tp → sp ++ rest ≡ tp ++ more → length others ≡ length answers → (answers ≡ others) × (rest ≡ more)
 as_many ps [] [] sp tp rest more s t e count = (refl, ap (λ sp. sp ++ rest) (sym s) ∙ e ∙ ap (λ tp. tp ++ more) t)
-as_many ps [] (y ∷ others) sp tp rest more s t e count = absurd (omega arith)
-as_many ps (x ∷ answers) [] sp tp rest more s t e count = absurd (omega arith)
-as_many [] (x ∷ answers) (y ∷ others) sp tp rest more s t e count = absurd s
 as_many (p ∷ ps) (x ∷ answers) (y ∷ others) sp tp rest more (b, tail, s, ss, whole) (d, tail', t, ts, whole') e count =
     let split : b ++ (tail ++ rest) ≡ d ++ (tail' ++ more) = sym (append_assoc b tail rest) ∙ ap (λ sp. sp ++ rest) (sym whole) ∙ e ∙ ap (λ tp. tp ++ more) whole' ∙ append_assoc d tail' more in
     let same = one-spelling p x y b d (tail ++ rest) (tail' ++ more) s t split in
     let left = append_cancel_left b (tail ++ rest) (tail' ++ more) (split ∙ ap (λ d. d ++ (tail' ++ more)) (sym same.1)) in
     let r = as_many ps answers others tail tail' rest more ss ts left (omega arith) in
     ((λ i. same.0 i ∷ r.0 i), r.1)
+as_many ps answers others sp tp rest more s t e count = grind arith
 
 -- so two streams begin with k answers in one way
 pub one_before : (client : ClientStream) (server : List ℕ) (k : ℕ) (b c : AnswersFirst client server k) → (b.answers ≡ c.answers) × (b.rest ≡ c.rest)
@@ -85,9 +83,7 @@ closed_before client server k b c = ap (λ answers. (visible_from start.visible 
 
 -- a spelling has a whole frame
 pub not_cut : (profile : Profile) (v : Visible) (asked : Asked) (octets : List ℕ) (b : Bool) → IsCut asked octets → BeginsWithAnswer profile v asked octets b → ⊥
-not_cut profile v asked octets b none a =
-    let f = spelling-frame asked a.response a.front a.rest a.spells in
-    none f.0 f.1 a.rest (subst (λ o. HasFrame asked o f.0 f.1 a.rest) (sym a.whole) f.3)
+not_cut profile v asked octets b none a = grind (arith, spelling-frame asked a.response a.front a.rest a.spells)
 
 -- and what it spells is spelled by its frame
 pub not_malformed : (profile : Profile) (v : Visible) (asked : Asked) (octets : List ℕ) (b : Bool) → IsMalformed asked octets → BeginsWithAnswer profile v asked octets b → ⊥
@@ -98,9 +94,7 @@ not_malformed profile v asked octets b m a =
 
 -- one answer fits, or it doesn't
 one_fitting : (profile : Profile) (v : Visible) (asked : Asked) (octets : List ℕ) → BeginsWithAnswer profile v asked octets true → BeginsWithAnswer profile v asked octets false → ⊥
-one_fitting profile v asked octets a c =
-    let same = one-spelling asked a.response c.response a.front c.front a.rest c.rest a.spells c.spells (sym a.whole ∙ c.whole) in
-    true≢false (sym a.fitting ∙ ap (fits profile v asked) same.0 ∙ c.fitting)
+one_fitting profile v asked octets a c = grind (arith, one-spelling asked a.response c.response a.front c.front a.rest c.rest a.spells c.spells (sym a.whole ∙ c.whole))
 
 class_once : (closed : Bool) (profile : Profile) (v : Visible) (next : Option Asked) (octets : List ℕ) (c d : Class)
     → IsClass closed profile v next octets c → IsClass closed profile v next octets d → c ≡ d
@@ -171,10 +165,7 @@ settled_by profile client server k class h s = refl
 open_longer : (profile : Profile) (v : Visible) (asked : Asked) (octets more : List ℕ) (class : Class) → settled class false
     → IsOpenClass profile v asked octets class → IsOpenClass profile v asked (octets ++ more) class
 open_longer profile v asked octets more Surplus s h = absurd h
-open_longer profile v asked octets more Cut s h = absurd s
-open_longer profile v asked octets more Malformed s h = malformed_longer asked octets more h
-open_longer profile v asked octets more OutOfPlace s h = answer_longer profile v asked octets more false h
-open_longer profile v asked octets more Contradiction s h = answer_longer profile v asked octets more true h
+open_longer profile v asked octets more class s h = grind (arith, malformed_longer, answer_longer)
 
 -- Surplus octets on an open connection aren't settled
 not_open : (class : Class) → class ≡ Surplus → settled class false → ⊥

@@ -29,9 +29,7 @@ same_answers profile S T client server n m x y =
 -- what they say is bounded by the octets
 few_facts : (profile : Profile) (S : Spool) (client : ClientStream) (server : List ℕ) (n : ℕ) (x : Explains profile S client server n)
     → length server < 2 ^ 210 → size (facts_of_session profile.marks (prompts_of client) x.answers) < 2 ^ 210
-few_facts profile S client server n x small =
-    let most = size_by_octets profile.marks (prompts_of client) x.answers x.octets x.spelled in
-    grind (arith, length-append)
+few_facts profile S client server n x small = grind (arith, size_by_octets profile.marks (prompts_of client) x.answers x.octets x.spelled, length-append)
 
 -- where some spool explains two streams, the given one is their least explanation
 pub given_explains : (profile : Profile) (S G : Spool) (client : ClientStream) (server : List ℕ) (n : ℕ) (x : Explains profile S client server n)
@@ -50,9 +48,7 @@ given_explains profile S G client server n x small given =
 
 -- two streams have one outcome at most
 pub one_outcome : (profile : Profile) (client : ClientStream) (server : List ℕ) (h k : Outcome) → IsOutcome profile client server h → IsOutcome profile client server k → h ≡ k
-one_outcome profile client server (Yes S n) (Yes T m) x y =
-    let answers = same_answers profile S T client server n m x.explains y.explains in
-    grind (arith, given_once)
+one_outcome profile client server (Yes S n) (Yes T m) x y = grind (arith, same_answers profile S T client server n m x.explains y.explains, given_once)
 one_outcome profile client server (No k c) (No j d) x y =
     let place = bad_once (λ S. ⊤) profile client server k j x.0 y.0 in
     let class = one_class profile client server j c d (subst (λ k. HasClass profile client server k c) place x.1) y.1 in

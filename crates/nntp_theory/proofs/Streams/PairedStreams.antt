@@ -1,5 +1,5 @@
 -- What the pairing of two streams, and whether some spool permits its responses, say of the streams.
-use Rattle.std.proofs.{Common.{◌≡◌, ◌≢◌, ℕ, ◌+◌, Bool, false, List, [], ◌∷◌, ◌++◌, length, Some, refl, sym, ap, subst, ◌∙◌, arith}, lemmas.Bool.{true≢false}}
+use Rattle.std.proofs.{Common.{◌≡◌, ◌≢◌, ℕ, ◌+◌, Bool, false, List, [], ◌∷◌, ◌++◌, length, Some, refl, sym, subst, ◌∙◌, arith}, lemmas.Bool.{true≢false}}
 use Rattle.nntp_wire.{specs.{Answer.{Spells}, Frame.{frame_octets}, Session.{prompts_of, ClientStream}}, proofs.SpellsDecided.{one-spelling}}
 use Rattle.nntp_pair.specs.Pairing.{Paired, Unpaired, IsNext, AreNext, end, bad, IsPairing, responses_of, asked_at, streams, Place}
 use Rattle.nntp_pair.specs.declared.class.{PairClass.{PairClass, TheVariants.{Surplus as surplus, Cut as cut, Malformed as malformed}}, Class.{Class}}
@@ -78,9 +78,7 @@ module _ (profile : Profile) (client : ClientStream) (server : List ℕ) (pairs 
 
   -- what is asked there
   asked_is : asked_next (prompts_of client) (responses_of pairs) ≡ Some (asked_at pair.place)
-  asked_is =
-      let up = paired_up start.visible (streams client server) before pairs refl paired in
-      ap (λ ps. asked_next ps (responses_of pairs)) (sym (places-prompts client)) ∙ up.next ∙ ap first_asked next.place
+  asked_is = grind (arith, paired_up start.visible (streams client server) before pairs refl paired, places-prompts, first_asked)
 
   -- an answer that doesn't fit is permitted by no spool
   pub unfitting : fits profile (visible_from start.visible (prompts_of client) (responses_of pairs))

@@ -1,6 +1,6 @@
 -- More facts behind those that stand together.
 use Rattle.nntp_wire.specs.{declared.marks.Marks.{Marks}, Answer.{Asked, Response}}
-use Rattle.std.proofs.{Common.{◌≡◌, ◌↔◌, List, [], ◌∷◌, ◌++◌, sym, subst, arith}, lemmas.Grind.{flat_map-append}}
+use Rattle.std.proofs.{Common.{◌≡◌, ◌↔◌, List, [], ◌++◌, sym, subst, arith}, lemmas.Grind.{flat_map-append}}
 use Rattle.nntp_article.specs.{Session.{Spool.{Name}, Machine.{Visible}}, declared.session.profile.Profile.{Profile}}
 use Rattle.nntp_said.{specs.{declared.position.Position.{Position}, Facts.{Fact, facts_of}}, proofs.Rows.{Row, row}}
 use Rattle.nntp_theory.specs.{Given.{asks_in, asks_of, shows_group, id_in, head_in, body_in}, Inner.Together.{IsWellFormed, AsksStand, Together, AgreeWithin}}

@@ -1,6 +1,6 @@
 -- What holds of a spool stands together.
-use Rattle.std.proofs.Common.{◌≡◌, ℕ, ◌↔◌, Bool, true, false, cond, ◌&&◌, ◌==◌, IsTrue, List, [], ◌∷◌, ◌++◌, map, Option, None, Some, is_some, IsSome}
-use Rattle.std.proofs.{Common.{option_map, refl, sym, ap, subst, ◌∙◌, arith}, lemmas.Bool.{true≢false, and_parts, eqb-true, false_from_ne_true, not-true}}
+use Rattle.std.proofs.Common.{◌≡◌, ℕ, ◌↔◌, Bool, true, false, cond, ◌&&◌, ◌==◌, IsTrue, List, [], ◌∷◌, ◌++◌, map, Option, None, Some, is_some, IsSome, refl}
+use Rattle.std.proofs.{Common.{sym, ap, subst, ◌∙◌, arith}, lemmas.Bool.{true≢false, and_parts, eqb-true, false_from_ne_true, not-true}}
 use Rattle.std.{proofs.lemmas.List.Elements.{recursion_from_All}, specs.{Prelude.{IfSome}, List.{AllByRecursion, list_any}, Option.{option_map_or}}}
 use Rattle.std.specs.{Cmp.Lexicographic.{same_text, nat_list_eq_equiv}, FinMap.{get}}
 use Rattle.nntp_article.specs.{Article.Parts.{Line, Id, head_part, body_part}, Session.Spool.{Spool, Text, IsGroup, numbers, IsSpool, HasText, text_of}}
@@ -93,10 +93,7 @@ module _ (limit : ℕ) (S : Spool) (facts : List Fact) (spool : IsSpool limit S)
 
   -- what is sent of an article in S
   article_of : (what : What) (id : Id) (lines : Option (List Line)) → HasText S what id lines → (t : Text) × (get S.articles id ≡ Some t) × (text_of what t ≡ lines)
-  article_of what id lines h = by (get S.articles id) refl h
-    where
-      by : (o : Option Text) → get S.articles id ≡ o → option_map (text_of what) o ≡ Some lines → (t : Text) × (get S.articles id ≡ Some t) × (text_of what t ≡ lines)
-      by o is h = grind arith
+  article_of what id lines h = grind arith
 
   -- an id that is shown to have an article has one in S
   article_by_one : (id : Id) (fact : Fact) → Holds S fact → shows_article id fact ≡ true → IsSome (get S.articles id)
@@ -111,9 +108,7 @@ module _ (limit : ℕ) (S : Spool) (facts : List Fact) (spool : IsSpool limit S)
 
   -- the parts of an article that is sent
   parts_of : (id : Id) (t : Text) (lines : List Line) → get S.articles id ≡ Some t → Some (t.head ++ [] ∷ t.body) ≡ Some lines → (t.head ≡ head_part lines) × (t.body ≡ body_part lines)
-  parts_of id t lines e same =
-      let p = parts t.head t.body (spool.heads id t e).0 in
-      grind arith
+  parts_of id t lines e same = grind (arith, parts t.head t.body (spool.heads id t e).0)
 
   -- S has an article of the id, with a part that is these lines
   HasPart : (Text → List Line) → Id → List Line → Type 0
@@ -123,8 +118,7 @@ module _ (limit : ℕ) (S : Spool) (facts : List Fact) (spool : IsSpool limit S)
   has_part : (part : Text → List Line) (id other : Id) (t : Text) (ls lines : List Line) → get S.articles other ≡ Some t
       → part t ≡ ls → (b : Bool) → is_same other id ≡ b → cond b (Some ls) None ≡ Some lines → HasPart part id lines
   unfolding HasPart
-  has_part part id other t ls lines at same true is e = (t, subst (λ id. get S.articles id ≡ Some t) (same_text other id (sym is)) at, same ∙ (let q : ls ≡ lines = cc in q))
-  has_part part id other t ls lines at same false is e = cc
+  has_part part id other t ls lines at same b is e = grind (arith, same_text)
 
   -- a head that one fact gives is S's
   head_by_one : (id : Id) (lines : List Line) (fact : Fact) → Holds S fact → head_in id fact ≡ Some lines → HasPart (λ t. t.head) id lines
@@ -156,19 +150,12 @@ module _ (limit : ℕ) (S : Spool) (facts : List Fact) (spool : IsSpool limit S)
 
   -- lines of an article are lines
   lines_are : (id : Id) (t : Text) → get S.articles id ≡ Some t → AllByRecursion (λ line. IsTrue (is_line line)) t.head × AllByRecursion (λ line. IsTrue (is_line line)) t.body
-  lines_are id t e =
-      let all = recursion_from_All (λ line. IsTrue (is_line line)) (t.head ++ t.body) (spool.heads id t e).1 in
-      (all_front _ t.head t.body all, all_back _ t.head t.body all)
+  lines_are id t e = grind (arith, recursion_from_All (λ line. IsTrue (is_line line)) (t.head ++ t.body) (spool.heads id t e).1, all_front, all_back)
 
   -- and so those that are sent of it
   sent_lines : (what : What) (id : Id) (t : Text) (lines : Option (List Line)) → get S.articles id ≡ Some t
       → text_of what t ≡ lines → IfSome lines (λ lines. AllByRecursion (λ line. IsTrue (is_line line)) lines)
-  sent_lines what id t lines e same = subst (λ o. IfSome o (λ lines. AllByRecursion (λ line. IsTrue (is_line line)) lines)) same (by what (lines_are id t e))
-    where
-      by : (what : What) → AllByRecursion (λ line. IsTrue (is_line line)) t.head
-          × AllByRecursion (λ line. IsTrue (is_line line)) t.body
-          → IfSome (text_of what t) (λ lines. AllByRecursion (λ line. IsTrue (is_line line)) lines)
-      by what all = grind (arith, all_both)
+  sent_lines what id t lines e same = grind (arith, lines_are, all_both)
 
   -- names, ids and lines are S's
   well_formed : (fact : Fact) → Holds S fact → IsWellFormed fact

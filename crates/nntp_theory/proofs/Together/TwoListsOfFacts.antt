@@ -9,17 +9,11 @@ use Rattle.nntp_theory.{specs.{Given.{first_given}, Together.{GiveOne}, Inner.To
 
 -- where no more fact passes, the test is as before
 pub any_silent : (p : Fact → Bool) (facts more : List Fact) → list_any p more ≡ false → list_any p (facts ++ more) ≡ list_any p facts
-any_silent p facts more none = list_any-append p facts more ∙ ap (λ b. list_any p facts || b) none ∙ or_no (list_any p facts)
-  where
-    or_no : (b : Bool) → (b || false) ≡ b
-    or_no b = grind arith
+any_silent p facts more none = grind (arith, list_any-append)
 
 -- a test of one more
 pub any_more : (p : Fact → Bool) (facts : List Fact) (fact : Fact) → list_any p (facts ++ fact ∷ []) ≡ (list_any p facts || p fact)
-any_more p facts fact = list_any-append p facts (fact ∷ []) ∙ ap (λ b. list_any p facts || b) (or_no (p fact))
-  where
-    or_no : (b : Bool) → (b || false) ≡ b
-    or_no b = grind arith
+any_more p facts fact = grind (arith, list_any-append)
 
 -- nothing is both shown and denied
 abbrev pub Apart : (shows denies : Fact → Bool) → List Fact → Type 0
@@ -43,11 +37,7 @@ apart_denied shows denies facts more apart d = grind (arith, false_from_ne_true,
 -- what the first of both gives
 pub given_append : {A : Type 0} (f : Fact → Option A) (xs ys : List Fact) → first_given f (xs ++ ys) ≡ option_or (first_given f xs) (first_given f ys)
 given_append f [] ys = refl
-given_append {A} f (x ∷ xs) ys = by (f x) (given_append f xs ys)
-  where
-    by : (o : Option A) → first_given f (xs ++ ys) ≡ option_or (first_given f xs) (first_given f ys)
-        → option_or o (first_given f (xs ++ ys)) ≡ option_or (option_or o (first_given f xs)) (first_given f ys)
-    by o rest = grind arith
+given_append {A} f (x ∷ xs) ys = grind (arith, given_append f xs ys)
 
 -- where nothing more is given, what was is
 pub or_none : {A : Type 0} (o : Option A) → option_or o None ≡ o
@@ -67,19 +57,7 @@ given_silent f facts more none = given_append f facts more ∙ ap (λ o. option_
 
 -- two lists that each give one thing, and the same, give one thing
 pub give_one_both : {A : Type 0} (f : Fact → Option A) (facts more : List Fact) → GiveOne f facts → GiveOne f more → GiveSame f facts more → GiveOne f (facts ++ more)
-give_one_both {A} f facts more one within same =
-    all_both _ facts more
-    (all_from _ facts (λ x i. kept (f x) (all_at _ x facts one i)))
-    (all_from _ more (λ x i. added (f x) (all_at _ x more within i)))
-  where
-    kept : (o : Option A) → IfSome o (λ x. first_given f facts ≡ Some x) → IfSome o (λ x. first_given f (facts ++ more) ≡ Some x)
-    kept o h = grind (arith, given_append)
-
-    joined : (o p : Option A) (x : A) → first_given f facts ≡ o → first_given f more ≡ p → p ≡ Some x → IfSome p (λ x. IfSome o (λ y. x ≡ y)) → option_or o p ≡ Some x
-    joined o p x e g h s = grind arith
-
-    added : (o : Option A) → IfSome o (λ x. first_given f more ≡ Some x) → IfSome o (λ x. first_given f (facts ++ more) ≡ Some x)
-    added o h = grind (arith, given_append, joined)
+give_one_both {A} f facts more one within same = grind (arith, all_both, all_from, all_at, given_append)
 
 -- and back
 pub give_same_of_both : {A : Type 0} (f : Fact → Option A) (facts more : List Fact) → GiveOne f (facts ++ more) → GiveSame f facts more

@@ -1,11 +1,10 @@
 -- What octets spell is well formed.
-use Rattle.nntp_wire.specs.{declared.marks.Marks.{Marks}, Octets.{crlf, is_clean}, Inner.Octets.{are_octets}, Name.{IsGroupName, IsMessageId}, Block.{stuffed}}
-use Rattle.nntp_wire.specs.{Block.{sent, AreClean}, Listing.{active_groups}, Answer.{Asked, Response, group_is, numbers_are, sends, active_are, plain, Spells}}
+use Rattle.nntp_wire.specs.{declared.marks.Marks.{Marks}, Octets.{crlf}, Inner.Octets.{are_octets}, Name.{IsGroupName, IsMessageId}, Block.{stuffed, sent}}
+use Rattle.nntp_wire.specs.{Block.{AreClean}, Listing.{active_groups}, Answer.{Asked, Response, group_is, numbers_are, sends, active_are, plain, Spells}}
 use Rattle.nntp_wire.specs.Answer.{SaysByLines, SaysGroup, SaysNumbers, SaysArticle, SaysActive, SaysOverviews, SaysCapabilities, SaysCode, block_octets}
 use Rattle.nntp_wire.{specs.Answer.{IsCleanBlock, overviews_are}, proofs.{AnswerLemmas.{says-ways}, OctetLemmas.{octets-parts, unstuffed-octets}}}
 use Rattle.nntp_wire.proofs.ListingLemmas.{active_groups-named}
-use Rattle.std.{proofs.{Common.{◌≡◌, ℕ, true, IsTrue, List, [], ◌∷◌, ◌++◌, ◌⊎◌, Option, arith}, lemmas.Bool.{and_from}}, specs.Prelude.{IfSome, ⊤}}
-use Rattle.std.specs.List.{AllByRecursion}
+use Rattle.std.{proofs.Common.{◌≡◌, ℕ, true, IsTrue, List, [], ◌∷◌, ◌++◌, ◌⊎◌, Option, arith}, specs.{Prelude.{IfSome, ⊤}, List.{AllByRecursion}}}
 use Rattle.nntp_article.specs.{Session.{Spool.{is_line}, Machine.{Visible}}, declared.session.profile.Profile.{Profile}}
 use Rattle.nntp_said.{specs.{declared.position.Position.{Position}, Facts.{Fact, facts_of}}, proofs.Rows.{Row, row}}
 use Rattle.nntp_theory.specs.Inner.Together.{IsWellFormed}
@@ -13,9 +12,7 @@ use Rattle.nntp_theory.specs.Inner.Together.{IsWellFormed}
 -- the lines of octets that send them are lines
 sent_lines : (lines : List (List ℕ)) → AreClean lines → are_octets (sent lines) ≡ true → AllByRecursion (λ line. IsTrue (is_line line)) lines
 sent_lines [] clean h = tt
-sent_lines (line ∷ lines) clean h =
-    let p = octets-parts (stuffed line ++ crlf) (sent lines) h in
-    (and_from (is_clean line) (are_octets line) clean.0 (unstuffed-octets line (octets-parts (stuffed line) crlf p.0).0), sent_lines lines clean.1 p.1)
+sent_lines (line ∷ lines) clean h = grind (arith, octets-parts, unstuffed-octets, sent_lines lines clean.1 (octets-parts (stuffed line ++ crlf) (sent lines) h).1)
 
 -- and so those of a block
 block_lines : (block : Option (List (List ℕ))) → IsCleanBlock block → are_octets (block_octets block) ≡ true → IfSome block (λ lines. AllByRecursion (λ line. IsTrue (is_line line)) lines)
