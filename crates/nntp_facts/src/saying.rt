@@ -146,8 +146,10 @@ impl<'s> Saying<'s> {
             → TellsHere selected.now facts (saying_of result) (facts_of how v at (asked prompt.now) (response answer.now)) }
         ensures groups { (groups : List ActiveValue) → groups ≡ groups_of (response answer.now) → AreListed (saying_of result) groups }
     {
-        let mut facts = facts_of(how, selected, at, prompt, answer);
-        Saying::by(&mut facts, numbers_shown(answer, numbers))
+        Saying::by(
+            &mut facts_of(how, selected, at, prompt, answer),
+            numbers_shown(answer, numbers),
+        )
     }
 
     /// Returns what the facts say that are left, and goes past them; `shown` are the numbers that their

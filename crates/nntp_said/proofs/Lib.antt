@@ -2,5 +2,4 @@ pub mod CurrentArticle
 pub mod FactsHold
 pub mod FiniteMapsDecided
 pub mod PermittingDecided
-pub mod PlacedIds
 pub mod Rows

@@ -1,7 +1,7 @@
 //! The facts that an answer says, one after the other.
 ghost use Rattle.std.specs.Prelude.{◌≡◌, ◌↔◌, IsTrue, [], ◌∷◌, drop, option_map, slice_get};
 ghost use Rattle.std.specs.Iterator.{YieldsFirstBy, item_count};
-ghost use Rattle.nntp_said.specs.Inner.FactView.{fact_of, with_fact};
+ghost use Rattle.nntp_said.specs.Inner.FactView.{fact_of, facts_at};
 ghost use Rattle.nntp_said.specs.Inner.Places.{Place};
 
 use crate::fact::Fact;
@@ -11,19 +11,22 @@ use std::marker::Model;
 /// An iterator over what an answer says of the spool, which is at most three things.
 #[derive(Drop)]
 pub struct SaidFacts<'s> {
-    first: Option<Fact<'s>>,
-    second: Option<Fact<'s>>,
-    third: Option<Fact<'s>>,
+    /// The facts, up to the first place that has none.
+    places: [Option<Fact<'s>>; 3],
+    /// How many are passed.
+    passed: usize,
 }
 
 impl<'s> Model for SaidFacts<'s> {
-    ghost use Rattle.std.specs.Prelude.{List, []};
+    ghost use Rattle.std.specs.Prelude.{List, drop, ◌≤◌};
     ghost use Rattle.nntp_said.specs.Facts.{Fact as FactValue};
-    ghost use Rattle.nntp_said.specs.Inner.FactView.{with_fact};
+    ghost use Rattle.nntp_said.specs.Inner.FactView.{facts_at};
 
     ghost Value = { List FactValue };
 
-    ghost view = { λ s. with_fact s.first (with_fact s.second (with_fact s.third [])) };
+    ghost view = { λ s. facts_at (drop s.passed s.places) };
+
+    ghost invariant = { λ s. s.passed ≤ 3 };
 }
 
 impl<'s> SaidFacts<'s> {
@@ -32,9 +35,8 @@ impl<'s> SaidFacts<'s> {
         ensures { result ≡ [] }
     {
         SaidFacts {
-            first: None,
-            second: None,
-            third: None,
+            places: [None, None, None],
+            passed: 0,
         }
     }
 
@@ -43,9 +45,8 @@ impl<'s> SaidFacts<'s> {
         ensures { result ≡ fact_of fact.entry ∷ [] }
     {
         SaidFacts {
-            first: Some(fact),
-            second: None,
-            third: None,
+            places: [Some(fact), None, None],
+            passed: 0,
         }
     }
 
@@ -54,9 +55,8 @@ impl<'s> SaidFacts<'s> {
         ensures { result ≡ fact_of first.entry ∷ fact_of second.entry ∷ [] }
     {
         SaidFacts {
-            first: Some(first),
-            second: Some(second),
-            third: None,
+            places: [Some(first), Some(second), None],
+            passed: 0,
         }
     }
 
@@ -65,9 +65,8 @@ impl<'s> SaidFacts<'s> {
         ensures { result ≡ fact_of first.entry ∷ fact_of second.entry ∷ fact_of third.entry ∷ [] }
     {
         SaidFacts {
-            first: Some(first),
-            second: Some(second),
-            third: Some(third),
+            places: [Some(first), Some(second), Some(third)],
+            passed: 0,
         }
     }
 
@@ -75,22 +74,15 @@ impl<'s> SaidFacts<'s> {
     pub fn first(&self) -> Option<&Fact<'s>>
         ensures { option_map (λ fact. fact_of fact.now) result ≡ slice_get self.now 0 }
     {
-        self.first
-            .as_ref()
-            .or(self.second.as_ref())
-            .or(self.third.as_ref())
+        self.places.get(self.passed)?.as_ref()
     }
 
     /// Goes past the first of the facts that are left, if one is.
     pub fn pass_first(&mut self)
         ensures { self.new ≡ drop 1 self.old }
     {
-        if self.first.is_some() {
-            self.first = None;
-        } else if self.second.is_some() {
-            self.second = None;
-        } else {
-            self.third = None;
+        if let Some(Some(_)) = self.places.get(self.passed) {
+            self.passed += 1;
         }
     }
 
@@ -98,22 +90,31 @@ impl<'s> SaidFacts<'s> {
     pub fn place(&self, id: &MessageId<'_>) -> bool
         ensures { IsTrue result ↔ Place id.now self.now }
     {
-        if places(&self.first, id) {
-            return true;
-        }
-        if places(&self.second, id) {
-            return true;
-        }
-        places(&self.third, id)
+        one_places(self.places.split_at(self.passed).1, id)
     }
 }
 
-/// Tells whether there is a fact, and it gives the message-id at a number.
-fn places(fact: &Option<Fact<'_>>, id: &MessageId<'_>) -> bool
-    ensures { IsTrue result ↔ Place id.now (with_fact fact.now []) }
+/// Tells whether one of the facts, up to the first place that has none, gives the message-id at a number.
+fn one_places(places: &[Option<Fact<'_>>], id: &MessageId<'_>) -> bool
+    ensures { IsTrue result ↔ Place id.now (facts_at places.now) }
+{
+    for place in places {
+        let Some(fact) = place else {
+            return false;
+        };
+        if gives(fact, id) {
+            return true;
+        }
+    }
+    false
+}
+
+/// Tells whether the fact gives the message-id at a number.
+fn gives(fact: &Fact<'_>, id: &MessageId<'_>) -> bool
+    ensures { IsTrue result ↔ Place id.now (fact_of fact.now ∷ []) }
 {
     match fact {
-        Some(Fact::IdAt(_, _, other)) => other.as_slice() == id.as_slice(),
+        Fact::IdAt(_, _, other) => other.as_slice() == id.as_slice(),
         _ => false,
     }
 }

@@ -153,6 +153,6 @@ fn may_answer_listing<'a, A: Allocator + Copy, S: Allocator>(
         return Ok(false);
     }
     let selected = visible.selected_name();
-    let mut facts = facts_of(profile.marks, selected, position, prompt, answer);
-    hold(group, counts, listed.numbers(), listed.groups(), &mut facts)
+    let facts = &mut facts_of(profile.marks, selected, position, prompt, answer);
+    hold(group, counts, listed.numbers(), listed.groups(), facts)
 }

@@ -1,5 +1,5 @@
 -- What the values of src/fact.rt mean.
-use Rattle.std.specs.Prelude.{List, ◌∷◌, Option, None, Some}
+use Rattle.std.specs.Prelude.{List, [], ◌∷◌, Option, None, Some}
 use Rattle.nntp_wire.specs.Listing.{active_groups, listed_numbers}
 use Rattle.nntp_said.specs.declared.fact.Ask.{Ask, TheVariants.{Estimates, Bounds, Lists, Lacks, StandsAt, StandsNowhere, StepsUp, StepsDown, IsTop, IsBottom}}
 use Rattle.nntp_said.specs.declared.fact.Fact.{Fact, TheVariants.{ThereIs, ThereIsNo, Asks, IdAt, TextIs, NoArticle, GroupsAre}}
@@ -29,7 +29,8 @@ fact_of (TextIs what id block) = facts.TextIs what id.now block.now
 fact_of (NoArticle id) = facts.NoArticle id.now
 fact_of (GroupsAre wildmat block) = facts.GroupsAre wildmat.now (active_groups block.now)
 
--- the fact, if there is one, and then those
-abbrev pub with_fact : Option Fact → List facts.Fact → List facts.Fact
-with_fact None more = more
-with_fact (Some fact) more = fact_of fact ∷ more
+-- the facts up to the first place that has none
+abbrev pub facts_at : List (Option Fact) → List facts.Fact
+facts_at [] = []
+facts_at (None ∷ places) = []
+facts_at (Some fact ∷ places) = fact_of fact ∷ facts_at places

@@ -28,7 +28,7 @@ hold-requires-clause-listed g c =
     facts_list c.args.profile v c.args.position q a _ _ _ f
     (c.numbers.ensures ∙ ap (λ (l : Lists). l.numbers) c.requires.listed ∙ ap numbers_of value)
     (c.groups.ensures ∙ ap (λ (l : Lists). l.groups) c.requires.listed ∙ ap groups_of value)
-    (c.facts_of-facts.ensures v c.selected_name-selected.ensures)
+    (c.facts_of.ensures v c.selected_name-selected.ensures)
 
 pub returns-clause-may : goal.returns-clause-may
 returns-clause-may g c =
@@ -36,6 +36,6 @@ returns-clause-may g c =
     let q = asked c.prompt-prompt.result.now in
     let a = response c.answer-answer.result.now in
     let f = fitting c.args.profile v q a c.in_ok-why.why c.in_ok-why.ensures (sym c.is_some.ensures ∙ c.if-is_some.false) in
-    let may = permitted_where_held c.args.profile c.args.group.now v c.args.position q a c.facts_of-facts.result c.hold.result (sym c.is_closed.ensures ∙ c.if-is_closed.false) f
-    (c.facts_of-facts.ensures v c.selected_name-selected.ensures) c.hold.ensures.hold in
+    let may = permitted_where_held c.args.profile c.args.group.now v c.args.position q a c.facts_of.result c.hold.result (sym c.is_closed.ensures ∙ c.if-is_closed.false) f
+    (c.facts_of.ensures v c.selected_name-selected.ensures) c.hold.ensures.hold in
     rw (sym c.prompt-prompt.ensures, sym c.answer-answer.ensures.value) may

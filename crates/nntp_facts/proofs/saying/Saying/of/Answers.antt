@@ -7,7 +7,7 @@ use Rattle.nntp_facts.proofs.saying.Saying.of.Goals as goal
 pub returns-clause-tells : goal.returns-clause-tells
 returns-clause-tells c =
     told_here c.args.how c.args.at (asked c.args.prompt.now) (response c.args.answer.now) c.args.selected.now c.args.numbers.now c.numbers_shown.result.now _ c.by.result
-    (λ i. (c.type_inv.numbers i).fits) c.numbers_shown.ensures c.by.ensures c.facts_of-facts.ensures
+    (λ i. (c.type_inv.numbers i).fits) c.numbers_shown.ensures c.by.ensures c.facts_of.ensures
 
 pub returns-clause-groups : goal.returns-clause-groups
 returns-clause-groups c groups e =
@@ -15,5 +15,5 @@ returns-clause-groups c groups e =
     let v : Visible = record start.visible { selected = Some c.args.selected.now } in
     let q = asked c.args.prompt.now in
     let r = response c.args.answer.now in
-    let made = c.by.ensures ∙ ap (saying_by c.numbers_shown.result.now nothing) (c.facts_of-facts.ensures v refl) in
+    let made = c.by.ensures ∙ ap (saying_by c.numbers_shown.result.now nothing) (c.facts_of.ensures v refl) in
     subst (λ s. AreListed s groups) (sym made) (groups_said profile v c.args.at q r c.numbers_shown.result.now groups e)
