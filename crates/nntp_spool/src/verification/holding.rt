@@ -80,8 +80,8 @@ fn holds<A: Allocator + Copy, S: Allocator>(
     ensures holds { IfOk result (λ holds. IsTrue holds ↔ Holds group.old (fact_of fact.now)) }
 {
     match fact {
-        Fact::ThereIs(name) => Ok(group.find(name.as_slice()).is_some()),
-        Fact::ThereIsNo(word) => Ok(group.find(*word).is_none()),
+        Fact::ThereIs(name) => Ok(group.is_group(name.as_slice())),
+        Fact::ThereIsNo(word) => Ok(!group.is_group(*word)),
         Fact::Asks(name, ask) => Ok(group.meets(*name, ask, numbers)),
         Fact::IdAt(name, number, id) => Ok(group.has_id(*name, *number, id.as_str())),
         Fact::TextIs { what, id, block } => Ok(sends(group.spool(), *what, id.as_str(), *block)),

@@ -1,5 +1,5 @@
 //! The group of a spool that was looked up last: the next answer mostly speaks of it too.
-ghost use Rattle.std.specs.Prelude.{◌≡◌, ◌↔◌, true, Some, IsTrue, option_map, IfSome};
+ghost use Rattle.std.specs.Prelude.{◌≡◌, ◌↔◌, true, Some, IsTrue, is_some, option_map, IfSome};
 ghost use Rattle.std.specs.FinMap as map;
 ghost use Rattle.nntp_article.specs.Session.Spool.{numbers as numbers_of};
 ghost use Rattle.nntp_said.specs.Asks.{Meets};
@@ -12,14 +12,19 @@ use nntp_said::Ask;
 use std::alloc::Allocator;
 use std::marker::Model;
 
-/// A group: its name, its numbers, and the number to which a step in it led last, with the id there.
-type Group<'s, S> = (&'s str, &'s Numbers<S>, Option<(u64, &'s str)>);
+/// A group: its name and its numbers.
+type Group<'s, S> = (&'s str, &'s Numbers<S>);
+
+/// A number and the id there.
+type Entry<'s> = (u64, &'s str);
 
 /// A spool, and of its groups the one that was looked up last.
 #[derive(Drop)]
 pub(crate) struct LastGroup<'s, S: Allocator> {
     spool: &'s Content<S>,
     group: Option<Group<'s, S>>,
+    /// That to which a step in the group led last.
+    entry: Option<Entry<'s>>,
 }
 
 impl<'s, S: Allocator> Model for LastGroup<'s, S> {
@@ -35,7 +40,7 @@ impl<'s, S: Allocator> Model for LastGroup<'s, S> {
     ghost view = { λ s. s.spool.now };
 
     ghost invariant = { λ s. IfSome s.group (λ g. (map.get s.spool.now.groups g.0.now ≡ Some g.1.now)
-        × IfSome g.2 (λ e. map.get g.1.now e.0 ≡ Some e.1.now)) };
+        × IfSome s.entry (λ e. map.get g.1.now e.0 ≡ Some e.1.now)) };
 }
 
 impl<'s, S: Allocator> LastGroup<'s, S> {
@@ -43,7 +48,11 @@ impl<'s, S: Allocator> LastGroup<'s, S> {
     pub(crate) fn new(spool: &'s Content<S>) -> LastGroup<'s, S>
         ensures { result ≡ spool.now }
     {
-        LastGroup { spool, group: None }
+        LastGroup {
+            spool,
+            group: None,
+            entry: None,
+        }
     }
 
     /// Returns the spool.
@@ -53,24 +62,13 @@ impl<'s, S: Allocator> LastGroup<'s, S> {
         self.spool
     }
 
-    /// Returns the group that the word names. It is looked for only where it isn't the one of the last
-    /// lookup.
-    pub(crate) fn find(&mut self, word: &[u8]) -> Option<Group<'s, S>>
-        ensures numbers { option_map (λ g. g.1.now) result ≡ map.get self.old.groups word.now }
-        ensures name { IfSome result (λ g. g.0.now ≡ word.now) }
-        ensures entry { IfSome result (λ g. IfSome g.2 (λ e. map.get g.1.now e.0 ≡ Some e.1.now)) }
+    /// Tells whether the word names a group.
+    pub(crate) fn is_group(&mut self, word: &[u8]) -> bool
+        ensures is { result ≡ is_some (map.get self.old.groups word.now) }
         ensures spool { self.new ≡ self.old }
     {
-        if let Some((name, numbers, entry)) = self.group {
-            if name.as_bytes() == word {
-                return Some((name, numbers, entry));
-            }
-        }
-        self.group = match self.spool.kept_group(word) {
-            Some((name, numbers)) => Some((name, numbers, None)),
-            None => None,
-        };
-        self.group
+        turn_to(&mut self.group, &mut self.entry, self.spool, word);
+        self.group.is_some()
     }
 
     /// Tells whether the numbers of the group that the word names meet what is asked; `listed` are the
@@ -80,12 +78,9 @@ impl<'s, S: Allocator> LastGroup<'s, S> {
         ensures meets { IsTrue result ↔ Meets (numbers_of self.old word.now) (ask_of ask.now) }
         ensures spool { self.new ≡ self.old }
     {
-        match self.find(word) {
-            Some((name, numbers, mut entry)) => {
-                let meets = numbers.meet(ask, listed, &mut entry);
-                self.group = Some((name, numbers, entry));
-                meets
-            }
+        turn_to(&mut self.group, &mut self.entry, self.spool, word);
+        match self.group {
+            Some((_, numbers)) => numbers.meet(ask, listed, &mut self.entry),
             None => self.spool.no_numbers().meet(ask, listed, &mut None),
         }
     }
@@ -96,10 +91,36 @@ impl<'s, S: Allocator> LastGroup<'s, S> {
         ensures has { IsTrue result ↔ (map.get (numbers_of self.old word.now) number ≡ Some id.now) }
         ensures spool { self.new ≡ self.old }
     {
-        match self.find(word) {
-            Some((_, _, Some((at, there)))) if at == number => there == id,
-            Some((_, numbers, _)) => numbers.has_id(number, id),
-            None => false,
+        turn_to(&mut self.group, &mut self.entry, self.spool, word);
+        let Some((_, numbers)) = self.group else {
+            return false;
+        };
+        match self.entry {
+            Some((at, there)) if at == number => there == id,
+            _ => numbers.has_id(number, id),
         }
     }
+}
+
+/// Makes the group that is held the one that the word names, if there is one. It is looked for only where another is
+/// held.
+fn turn_to<'s, S: Allocator>(
+    group: &mut Option<Group<'s, S>>,
+    entry: &mut Option<Entry<'s>>,
+    spool: &'s Content<S>,
+    word: &[u8],
+)
+    requires held { IfSome group.old (λ g. (map.get spool.now.groups g.0.now ≡ Some g.1.now)
+        × IfSome entry.old (λ e. map.get g.1.now e.0 ≡ Some e.1.now)) }
+    ensures held { IfSome group.new (λ g. (map.get spool.now.groups g.0.now ≡ Some g.1.now)
+        × IfSome entry.new (λ e. map.get g.1.now e.0 ≡ Some e.1.now)) }
+    ensures numbers { option_map (λ g. g.1.now) group.new ≡ map.get spool.now.groups word.now }
+{
+    if let Some((name, _)) = group {
+        if name.as_bytes() == word {
+            return;
+        }
+    }
+    *group = spool.kept_group(word);
+    *entry = None;
 }
