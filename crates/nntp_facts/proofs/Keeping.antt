@@ -8,6 +8,7 @@ pub mod FactsSaid
 pub mod FittingAnswers
 pub mod GroupReaders
 pub mod HeldAnswers
+pub mod HeldIds
 pub mod KeptArticles
 pub mod KeptGroups
 pub mod KeptIds

@@ -3,6 +3,7 @@ pub mod Articles
 pub mod Between
 pub mod GroupHeld
 pub mod GroupView
+pub mod IdsHeld
 pub mod Kept
 pub mod KeptSaying
 pub mod KeptView

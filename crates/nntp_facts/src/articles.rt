@@ -217,7 +217,7 @@ impl<A: Allocator + Copy> Articles<A> {
         }
         let entry = self.known.entry(RcStr::from_str(self.alloc, id)?)?;
         let text = entry.key().clone()?;
-        let article = entry.or_insert(KnownArticle::unsent());
+        let article = entry.or_insert(KnownArticle::Unsent);
         Ok(Added::named_if(article.note(self.alloc, sent)?, text))
     }
 
@@ -233,7 +233,7 @@ impl<A: Allocator + Copy> Articles<A> {
         }
         let entry = self.known.entry(RcStr::from_str(self.alloc, id)?)?;
         let text = entry.key().clone()?;
-        entry.or_insert(KnownArticle::unsent());
+        entry.or_insert(KnownArticle::Unsent);
         Ok(Added::Named(text))
     }
 

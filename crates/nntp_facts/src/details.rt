@@ -1,8 +1,6 @@
 //! The details that are kept of one group: its numbers, and the ids that are shown at numbers.
 ghost use Rattle.std.specs.Prelude.{◌≡◌, ◌↔◌, List, [], ◌++◌, IsTrue, IfSome, IfOk, OnOk, Some, option_map};
 ghost use Rattle.std.specs.Option.{option_copied};
-ghost use Rattle.std.specs.Ordering.{nat_cmp};
-ghost use Rattle.std.specs.BTreeMap.{get as entry};
 ghost use Rattle.std.specs.Rc.{rc_str_bytes};
 ghost use Rattle.std.specs.FinMap.{get, insert, empty};
 ghost use Rattle.nntp_said.specs.Asks.{Ask};
@@ -16,10 +14,10 @@ ghost use Rattle.nntp_facts.specs.Inner.Between.{group_between};
 ghost use Rattle.nntp_facts.specs.Inner.KeptSaying.{HasSaid, IsTextOf};
 ghost use Rattle.nntp_numbers.specs.Inner.Unseen.{unseen_in, unseen_high_in};
 
+use crate::numbered_ids::NumberedIds;
 use crate::saying::{GroupPart, IdAt};
-use nntp_numbers::Numbers;
+use nntp_numbers::{AscendingNumbers, Numbers};
 use std::alloc::{AllocError, Allocator, Global};
-use std::collections::{BTreeMap, BTreeSet};
 use std::marker::Model;
 use std::rc::RcStr;
 
@@ -27,16 +25,10 @@ use std::rc::RcStr;
 #[derive(Drop)]
 pub(crate) struct Details<A: Allocator = Global> {
     numbers: Numbers<A>,
-    /// The ids that are shown, each by its number.
-    ids: BTreeMap<u64, RcStr<A>, A>,
-    /// The numbers at which ids are shown, each by its id.
-    places: BTreeMap<RcStr<A>, u64, A>,
+    ids: NumberedIds<A>,
 }
 
 impl<A: Allocator> Model for Details<A> {
-    ghost use Rattle.std.specs.Prelude.{map};
-    ghost use Rattle.std.specs.FinMap.{from_entries};
-    ghost use Rattle.std.specs.Rc.{rc_str_bytes};
     ghost use Rattle.nntp_facts.specs.Inner.Kept.{KeptGroup};
     ghost use Rattle.nntp_facts.specs.Inner.GroupView.{coded_group};
 
@@ -44,12 +36,7 @@ impl<A: Allocator> Model for Details<A> {
 
     ghost coded = { coded_group };
 
-    ghost view = { λ g. record {
-      numbers = g.numbers;
-      ids = from_entries (map (λ e. (e.0, rc_str_bytes e.1)) g.ids.entries);
-      places = from_entries
-          (map (λ e. (rc_str_bytes e.0, e.1)) g.places.entries);
-    } };
+    ghost view = { λ g. record { numbers = g.numbers; ids = g.ids.0; places = g.ids.1 } };
 }
 
 impl<A: Allocator + Copy> Details<A> {
@@ -60,8 +47,7 @@ impl<A: Allocator + Copy> Details<A> {
     {
         Details {
             numbers: Numbers::new(alloc),
-            ids: BTreeMap::new(alloc),
-            places: BTreeMap::new(alloc),
+            ids: NumberedIds::new(alloc),
         }
     }
 
@@ -72,8 +58,7 @@ impl<A: Allocator + Copy> Details<A> {
     {
         Details {
             numbers: Numbers::between(alloc, low, high),
-            ids: BTreeMap::new(alloc),
-            places: BTreeMap::new(alloc),
+            ids: NumberedIds::new(alloc),
         }
     }
 
@@ -119,18 +104,7 @@ impl<A: Allocator + Copy> Details<A> {
         if self.id(number).is_some() {
             return Ok(());
         }
-        self.identify(number, id)
-    }
-
-    /// Adds that the number has the id. After an error the value says nothing of use.
-    fn identify(&mut self, number: u64, id: RcStr<A>) -> Result<(), AllocError>
-        ensures numbers { self.new.numbers ≡ self.old.numbers }
-        ensures ids { OnOk result ((self.new.ids ≡ insert self.old.ids number (rc_str_bytes id))
-            × (self.new.places ≡ insert self.old.places (rc_str_bytes id) number)) }
-    {
-        self.ids.insert(number, id.clone()?)?;
-        self.places.insert(id, number)?;
-        Ok(())
+        self.ids.add(number, id)
     }
 }
 
@@ -148,7 +122,7 @@ impl<A: Allocator> Details<A> {
     pub(crate) fn marks(&self) -> Option<(u64, u64)>
         ensures { IfSome result (λ marks. self.now ≡ group_between marks.0 marks.1) }
     {
-        if self.ids.is_empty() && self.places.is_empty() {
+        if self.ids.is_empty() {
             self.numbers.marks()
         } else {
             None
@@ -235,8 +209,8 @@ impl<A: Allocator> Details<A> {
     }
 
     /// Returns the numbers that are shown, ascending.
-    pub(crate) fn shown(&self) -> &BTreeSet<u64, A>
-        ensures { result.now.keys ≡ self.now.numbers.shown }
+    pub(crate) fn shown(&self) -> AscendingNumbers<'_>
+        ensures { result ≡ self.now.numbers.shown }
     {
         self.numbers.shown()
     }
@@ -255,23 +229,13 @@ impl<A: Allocator> Details<A> {
     pub(crate) fn id_text(&self, number: u64) -> Option<&RcStr<A>>
         ensures { option_map (λ id. rc_str_bytes id.now) result ≡ get self.now.ids number }
     {
-        find(&self.ids, number)
+        self.ids.id(number)
     }
 
     /// Returns the number of the id, if one is shown.
     pub(crate) fn place(&self, id: &str) -> Option<u64>
         ensures { result ≡ get self.now.places id.now }
     {
-        self.places.get(id).copied()
-    }
-}
-
-/// Returns what a map has at the number. Sessions ascend, so the greatest number is tried first.
-fn find<V, A: Allocator>(map: &BTreeMap<u64, V, A>, n: u64) -> Option<&V>
-    ensures { option_copied result ≡ entry nat_cmp map.now n }
-{
-    match map.last_key_value() {
-        Some((last, value)) if *last <= n => { if *last == n { Some(value) } else { None } }
-        _ => map.get(&n),
+        self.ids.place(id)
     }
 }

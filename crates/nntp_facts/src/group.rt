@@ -16,10 +16,9 @@ ghost use Rattle.nntp_numbers.specs.Inner.Unseen.{unseen_in, unseen_high_in};
 
 use crate::details::Details;
 use crate::saying::GroupPart;
-use nntp_numbers::Numbers;
+use nntp_numbers::{AscendingNumbers, Numbers};
 use std::alloc::{AllocError, Allocator, Global};
 use std::boxed::Box;
-use std::collections::BTreeSet;
 use std::marker::Model;
 use std::rc::RcStr;
 
@@ -149,8 +148,8 @@ impl<A: Allocator> Group<A> {
     }
 
     /// Returns the numbers that are shown, ascending, if there may be some.
-    pub(crate) fn shown(&self) -> Option<&BTreeSet<u64, A>>
-        ensures { MatchOption result (self.now.numbers.shown ≡ []) (λ shown. shown.now.keys ≡ self.now.numbers.shown) }
+    pub(crate) fn shown(&self) -> Option<AscendingNumbers<'_>>
+        ensures { MatchOption result (self.now.numbers.shown ≡ []) (λ shown. shown ≡ self.now.numbers.shown) }
     {
         match self.details() {
             Some(details) => Some(details.shown()),

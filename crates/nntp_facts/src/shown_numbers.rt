@@ -5,8 +5,8 @@ ghost use Rattle.nntp_facts.specs.Inner.Readers.{with_ids};
 ghost use Rattle.nntp_facts.specs.Inner.ReadersView.{number_value};
 
 use crate::group::Group;
+use nntp_numbers::AscendingNumbers;
 use std::alloc::{Allocator, Global};
-use std::collections::btree_set;
 use std::marker::Model;
 use std::rc::RcStr;
 
@@ -22,7 +22,7 @@ pub struct ShownNumber<'a, A: Allocator = Global> {
 /// An iterator over the numbers that answers show in a group, ascending.
 #[derive(Drop)]
 pub struct ShownNumbers<'a, A: Allocator = Global> {
-    rest: Option<btree_set::Iter<'a, u64>>,
+    rest: Option<AscendingNumbers<'a>>,
     group: &'a Group<A>,
 }
 
@@ -41,11 +41,10 @@ impl<'a, A: Allocator> ShownNumbers<'a, A> {
     pub(crate) fn new(group: &'a Group<A>) -> ShownNumbers<'a, A>
         ensures { result ≡ with_ids group.now group.now.numbers.shown }
     {
-        let rest = match group.shown() {
-            Some(shown) => Some(shown.iter()),
-            None => None,
-        };
-        ShownNumbers { rest, group }
+        ShownNumbers {
+            rest: group.shown(),
+            group,
+        }
     }
 }
 
@@ -59,8 +58,8 @@ impl<'a, A: Allocator> Iterator for ShownNumbers<'a, A> {
     fn next(&mut self) -> Option<ShownNumber<'a, A>> {
         let number = self.rest.as_mut()?.next()?;
         Some(ShownNumber {
-            number: *number,
-            id: self.group.id_text(*number),
+            number,
+            id: self.group.id_text(number),
         })
     }
 }

@@ -5,6 +5,7 @@ pub mod GapsOfAPart
 pub mod HullOfMarks
 pub mod Implied
 pub mod MoreAsks
+pub mod NumberSets
 pub mod PassingNumbers
 pub mod SaidInARange
 pub mod SaidOfAsks

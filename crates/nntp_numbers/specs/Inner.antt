@@ -1,4 +1,5 @@
 pub mod Between
+pub mod NumberSets
 pub mod Part
 pub mod PartOf
 pub mod PartView

@@ -8,29 +8,24 @@ ghost use Rattle.nntp_numbers.specs.Inner.Summary.{has, denied_after, AgreesWith
 
 use crate::ends::Ends;
 use crate::gaps::{Gaps, none_in_gaps};
+use crate::number_set::NumberSet;
 use crate::numbers_part::NumbersPart;
-use crate::shown::none_outside;
 use nntp_intervals::IntervalSet;
 use std::alloc::Allocator;
-use std::collections::BTreeSet;
 
 impl<'s> NumbersPart<'s> {
     /// Tells whether the part can be, and nothing is both shown and denied.
-    pub(crate) fn agrees<A: Allocator>(
-        &self,
-        shown: &BTreeSet<u64, A>,
-        denied: &IntervalSet<A>,
-    ) -> bool
-        ensures { IsRegular (said self.now) → IsTrue result ↔ AgreesWith shown.now.keys denied.now (said self.now) }
+    pub(crate) fn agrees<A: Allocator>(&self, shown: &NumberSet<A>, denied: &IntervalSet<A>) -> bool
+        ensures { IsRegular (said self.now) → IsTrue result ↔ AgreesWith shown.now denied.now (said self.now) }
     {
         self.is_possible && self.denies_none(shown) && self.shows_free(denied)
     }
 
     /// Tells whether no number that is shown is denied by the part.
-    fn denies_none<A: Allocator>(&self, shown: &BTreeSet<u64, A>) -> bool
-        ensures { IsRegular (said self.now) → IsTrue result ↔ ((n : ℕ) → has shown.now.keys n ≡ true → part_denies (said self.now) n ≡ false) }
+    fn denies_none<A: Allocator>(&self, shown: &NumberSet<A>) -> bool
+        ensures { IsRegular (said self.now) → IsTrue result ↔ ((n : ℕ) → has shown.now n ≡ true → part_denies (said self.now) n ≡ false) }
     {
-        none_outside(shown, self.low, self.high) && none_in_gaps(shown, self.gaps())
+        shown.none_outside(self.low, self.high) && none_in_gaps(shown, self.gaps())
     }
 
     /// Tells whether no number of the part is denied.

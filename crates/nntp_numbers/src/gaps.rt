@@ -4,10 +4,9 @@ ghost use Rattle.std.specs.Iterator.{YieldsFirst, item_count};
 ghost use Rattle.nntp_intervals.specs.Inner.Intervals.{holds};
 ghost use Rattle.nntp_numbers.specs.Inner.Summary.{has, gaps};
 
-use crate::shown::meets;
+use crate::number_set::NumberSet;
 use nntp_intervals::IntervalSet;
 use std::alloc::{AllocError, Allocator};
-use std::collections::BTreeSet;
 use std::marker::Model;
 
 /// An iterator over the intervals of a range before, between and behind ascending numbers, some of
@@ -69,11 +68,11 @@ impl<'a> Gaps<'a> {
 }
 
 /// Tells whether no shown number is in one of the intervals.
-pub(crate) fn none_in_gaps<A: Allocator>(shown: &BTreeSet<u64, A>, mut gaps: Gaps<'_>) -> bool
-    ensures { IsTrue result ↔ ((n : ℕ) → has shown.now.keys n ≡ true → holds gaps.entry n ≡ false) }
+pub(crate) fn none_in_gaps<A: Allocator>(shown: &NumberSet<A>, mut gaps: Gaps<'_>) -> bool
+    ensures { IsTrue result ↔ ((n : ℕ) → has shown.now n ≡ true → holds gaps.entry n ≡ false) }
 {
     while let Some((first, last)) = gaps.next() {
-        if meets(shown, first, last) {
+        if shown.meets(first, last) {
             return false;
         }
     }

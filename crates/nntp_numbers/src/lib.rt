@@ -2,13 +2,16 @@
 #![tactic(auto)]
 
 mod agreement;
+mod ascending_numbers;
 mod ends;
 mod free;
 mod gaps;
+mod number_set;
 mod numbers;
 mod numbers_part;
 mod shown;
 mod tally;
 
+pub use ascending_numbers::AscendingNumbers;
 pub use numbers::Numbers;
 pub use numbers_part::NumbersPart;

@@ -14,23 +14,24 @@ ghost use Rattle.nntp_numbers.specs.Inner.Between.{numbers_between};
 
 mod conflict;
 
+use crate::ascending_numbers::AscendingNumbers;
 use crate::ends::{self, Ends};
 use crate::free::denies_outside;
 use crate::gaps::deny_gaps;
+use crate::number_set::NumberSet;
 use crate::numbers_part::NumbersPart;
-use crate::shown::{HowMany, how_many_wanted, is_shown, show};
+use crate::shown::{HowMany, how_many_wanted};
 use crate::tally::Tally;
 use nntp_intervals::IntervalSet;
 use nntp_theory::Demand;
 use std::alloc::{AllocError, Allocator, Global};
-use std::collections::BTreeSet;
 use std::marker::Model;
 
 /// What the answers so far say of the numbers of one group.
 #[derive(Drop)]
 pub struct Numbers<A: Allocator = Global> {
     /// The numbers that are there.
-    shown: BTreeSet<u64, A>,
+    shown: NumberSet<A>,
     /// The numbers that are not there.
     denied: IntervalSet<A>,
     /// The greatest number of numbers that there may be.
@@ -49,7 +50,7 @@ impl<A: Allocator> Model for Numbers<A> {
 
     ghost coded = { coded_summary };
 
-    ghost view = { λ g. record { shown = g.shown.keys; denied = g.denied; estimate = g.estimate; ends = g.ends; demand = g.demand } };
+    ghost view = { λ g. record { shown = g.shown; denied = g.denied; estimate = g.estimate; ends = g.ends; demand = g.demand } };
 }
 
 impl<A: Allocator + Copy> Numbers<A> {
@@ -58,7 +59,7 @@ impl<A: Allocator + Copy> Numbers<A> {
         ensures { IsSummary result [] }
     {
         Numbers {
-            shown: BTreeSet::new(alloc),
+            shown: NumberSet::new(alloc),
             denied: IntervalSet::new(alloc),
             estimate: None,
             ends: None,
@@ -72,7 +73,7 @@ impl<A: Allocator + Copy> Numbers<A> {
         ensures { result ≡ numbers_between low high }
     {
         Numbers {
-            shown: BTreeSet::new(alloc),
+            shown: NumberSet::new(alloc),
             denied: IntervalSet::outside(alloc, low, high),
             estimate: None,
             ends: None,
@@ -85,7 +86,7 @@ impl<A: Allocator + Copy> Numbers<A> {
         ensures { IfOk result (λ numbers. numbers ≡ self.now) }
     {
         Ok(Numbers {
-            shown: self.shown.clone()?,
+            shown: self.shown.copy()?,
             denied: self.denied.copy()?,
             estimate: self.estimate,
             ends: self.ends,
@@ -98,7 +99,7 @@ impl<A: Allocator + Copy> Numbers<A> {
         ensures { OnOk result ((asks more : List Ask) → IsSummary self.old asks → Says (said part.now) more → IsSummary self.new (asks ++ more)) }
     {
         deny(&mut self.denied, part)?;
-        show(&mut self.shown, part.numbers)?;
+        self.shown.insert_all(part.numbers)?;
         self.estimate = least(self.estimate, part.estimate);
         self.ends = ends::join(self.ends, part.ends);
         self.demand = self.demand.join(part.demand);
@@ -193,7 +194,7 @@ impl<A: Allocator> Numbers<A> {
     fn unless_shown(&self, n: u64) -> Option<u64>
         ensures { result ≡ unless_shown self.now.shown n }
     {
-        if is_shown(&self.shown, n) {
+        if self.shown.contains(n) {
             None
         } else {
             Some(n)
@@ -213,10 +214,10 @@ impl<A: Allocator> Numbers<A> {
     }
 
     /// Returns the numbers that are shown, ascending.
-    pub fn shown(&self) -> &BTreeSet<u64, A>
-        ensures { result.now.keys ≡ self.now.shown }
+    pub fn shown(&self) -> AscendingNumbers<'_>
+        ensures { result ≡ self.now.shown }
     {
-        &self.shown
+        self.shown.iter()
     }
 }
 

@@ -5,10 +5,10 @@ ghost use Rattle.nntp_numbers.specs.Inner.Part.{is_one_of, is_end_of};
 ghost use Rattle.nntp_numbers.specs.Inner.Summary.{shown_after, IsTally};
 
 use crate::ends::Ends;
-use crate::shown::{HowMany, how_many_wanted, is_shown};
+use crate::number_set::NumberSet;
+use crate::shown::{HowMany, how_many_wanted};
 use nntp_theory::Demand;
 use std::alloc::Allocator;
-use std::collections::BTreeSet;
 
 /// The count of some numbers, and of those among them that a demand wants.
 #[derive(Clone, Copy)]
@@ -43,13 +43,13 @@ impl Tally {
     /// Counts the numbers that are shown and those of a list, with the two ends, where there are
     /// some.
     pub(crate) fn of<A: Allocator>(
-        shown: &BTreeSet<u64, A>,
+        shown: &NumberSet<A>,
         numbers: &[u64],
         ends: Option<Ends>,
         demand: Demand,
     ) -> Tally
         ensures tally { IsTrue (is_ascending numbers.now)
-            → IsTally (λ n. shown_after shown.now.keys numbers.now n || is_end_of ends n) demand result.found result.count }
+            → IsTally (λ n. shown_after shown.now numbers.now n || is_end_of ends n) demand result.found result.count }
         ensures small { result.count < 2 ^ 64 - 1 }
     {
         let tally = tally_shown(shown, numbers, demand);
@@ -65,8 +65,8 @@ impl Tally {
 }
 
 /// Counts the numbers that are shown and those of a list.
-fn tally_shown<A: Allocator>(shown: &BTreeSet<u64, A>, numbers: &[u64], demand: Demand) -> Tally
-    ensures tally { IsTrue (is_ascending numbers.now) → IsTally (shown_after shown.now.keys numbers.now) demand result.found result.count }
+fn tally_shown<A: Allocator>(shown: &NumberSet<A>, numbers: &[u64], demand: Demand) -> Tally
+    ensures tally { IsTrue (is_ascending numbers.now) → IsTally (shown_after shown.now numbers.now) demand result.found result.count }
     ensures small { result.count < 2 ^ 64 - 3 }
 {
     let mut tally = Tally {
@@ -74,14 +74,14 @@ fn tally_shown<A: Allocator>(shown: &BTreeSet<u64, A>, numbers: &[u64], demand: 
         count: shown.len() as u64,
     };
     for n in numbers {
-        tally = tally.with(demand, *n, is_shown(shown, *n));
+        tally = tally.with(demand, *n, shown.contains(*n));
     }
     tally
 }
 
 /// Tells whether the number is shown, or one of the list.
-fn is_shown_after<A: Allocator>(shown: &BTreeSet<u64, A>, numbers: &[u64], n: u64) -> bool
-    ensures { result ≡ shown_after shown.now.keys numbers.now n }
+fn is_shown_after<A: Allocator>(shown: &NumberSet<A>, numbers: &[u64], n: u64) -> bool
+    ensures { result ≡ shown_after shown.now numbers.now n }
 {
-    is_shown(shown, n) || numbers.contains(&n)
+    shown.contains(n) || numbers.contains(&n)
 }

@@ -2,7 +2,9 @@
 use Rattle.std.specs.{Prelude.{Bool, true, false, List, Option, None, Some, option_map, map, refl}, Coded.{Coded, code_by, coded×, coded_ℕ, coded_list}}
 use Rattle.std.specs.{Coded.{coded_option, coded_bool}, declared.rc.{Rc.{Rc}, RcStr.{RcStr}}, Rc.{rc_str_bytes}}
 use Rattle.nntp_article.specs.Article.Parts.{Id, Line}
-use Rattle.nntp_facts.specs.{Inner.Kept.{KeptArticle}, declared.articles.{known.KnownArticle.{KnownArticle}, added.Added.{Added, TheVariants.{Never, Named}}}}
+use Rattle.nntp_facts.specs.{Inner.{Kept.{KeptArticle}, Articles.{unsent}}, declared.articles.known.KnownArticle.{KnownArticle, TheVariants.{Unsent, Named}}}
+use Rattle.nntp_facts.specs.declared.articles.{known.KnownArticle.TheVariants.{Sent}, added.Added.{Added, TheVariants.{Never}}}
+use Rattle.nntp_facts.specs.declared.articles.added.Added.TheVariants as adds
 
 -- the lines of a block that is held, if there is one
 abbrev pub lines_held : {A : Type 0} → Option (Rc (List Line) A) → Option (List Line)
@@ -10,7 +12,9 @@ lines_held held = option_map (λ block. block.value) held
 
 -- what is kept of an article
 abbrev pub known_article : {A : Type 0} → KnownArticle A → KeptArticle
-known_article s = record { is_denied = false; is_sent = s.is_sent; head = lines_held s.head; body = lines_held s.body }
+known_article Unsent = unsent
+known_article Named = record { is_denied = false; is_sent = true; head = None; body = None }
+known_article (Sent lines) = record { is_denied = false; is_sent = true; head = lines_held lines.value.head; body = lines_held lines.value.body }
 
 -- what is kept of articles, one after the other
 abbrev pub entries_value : {A : Type 0} → List (RcStr A × KnownArticle A) → List (Id × KeptArticle)
@@ -23,7 +27,7 @@ is_added added = true
 
 -- the octets of the text that is handed back
 abbrev pub text_of : {A : Type 0} → Added A → Option Id
-text_of (Named text) = Some (rc_str_bytes text)
+text_of (adds.Named text) = Some (rc_str_bytes text)
 text_of added = None
 
 abbrev pub coded_kept : Coded KeptArticle

@@ -11,17 +11,27 @@ ghost use Rattle.nntp_facts.specs.Inner.ArticleView.{known_article, lines_held};
 use nntp_article::Parts;
 use nntp_wire::{Block, OwnedBlock, What};
 use std::alloc::{AllocError, Allocator};
+use std::boxed::Box;
 use std::rc::Rc;
 
 /// What is known of an article.
 #[derive(Drop)]
-pub(crate) struct KnownArticle<A: Allocator> {
-    /// Whether a success of ARTICLE, HEAD, BODY or STAT named the article.
-    pub(crate) is_sent: bool,
-    /// The lines of the article's head, if they were sent.
-    pub(crate) head: Option<Rc<OwnedBlock<A>, A>>,
-    /// The lines of the article's body, if they were sent.
-    pub(crate) body: Option<Rc<OwnedBlock<A>, A>>,
+pub(crate) enum KnownArticle<A: Allocator> {
+    /// No success of ARTICLE, HEAD, BODY or STAT named the article.
+    Unsent,
+    /// A success named the article, and none of its lines were sent.
+    Named,
+    /// A success sent lines of the article.
+    Sent(Box<SentLines<A>, A>),
+}
+
+/// The lines that were sent of an article.
+#[derive(Drop)]
+pub(crate) struct SentLines<A: Allocator> {
+    /// The lines of the head, if they were sent.
+    head: Option<Rc<OwnedBlock<A>, A>>,
+    /// The lines of the body, if they were sent.
+    body: Option<Rc<OwnedBlock<A>, A>>,
 }
 
 /// The parts of an article that a success sends.
@@ -75,8 +85,8 @@ impl<'a> Sent<'a> {
 }
 
 /// Tells whether lines that are sent are those that are held, where there are both.
-fn are_same<A: Allocator>(sent: &Option<Block<'_>>, held: &Option<Rc<OwnedBlock<A>, A>>) -> bool
-    ensures { IsTrue result ↔ AreSame sent.now (lines_held held.now) }
+fn are_same<A: Allocator>(sent: &Option<Block<'_>>, held: Option<&Rc<OwnedBlock<A>, A>>) -> bool
+    ensures { IsTrue result ↔ AreSame sent.now (option_map (λ block. block.now.value) held.entry) }
 {
     match (sent, held) {
         (Some(sent), Some(held)) => sent.is_same(&held.as_ref().as_block()),
@@ -98,15 +108,54 @@ fn hold<A: Allocator + Copy>(
     Ok(())
 }
 
-impl<A: Allocator> KnownArticle<A> {
-    /// Returns what is known of an article that no success named.
-    pub(crate) fn unsent() -> KnownArticle<A>
-        ensures { known_article result ≡ unsent }
+impl<A: Allocator + Copy> SentLines<A> {
+    /// Holds the lines that a success sends first of an article.
+    fn first(alloc: A, sent: &Sent<'_>) -> Result<SentLines<A>, AllocError>
+        ensures { IfOk result (λ lines. (lines_held lines.head ≡ sent.now.head) × (lines_held lines.body ≡ sent.now.body)) }
     {
-        KnownArticle {
-            is_sent: false,
+        let mut lines = SentLines {
             head: None,
             body: None,
+        };
+        lines.hold(alloc, sent)?;
+        Ok(lines)
+    }
+
+    /// Holds the lines that a success sends, where none of their part are held yet.
+    fn hold(&mut self, alloc: A, sent: &Sent<'_>) -> Result<(), AllocError>
+        ensures head { OnOk result (lines_held self.new.head ≡ option_or (lines_held self.old.head) sent.now.head) }
+        ensures body { OnOk result (lines_held self.new.body ≡ option_or (lines_held self.old.body) sent.now.body) }
+    {
+        hold(alloc, &mut self.head, &sent.head)?;
+        hold(alloc, &mut self.body, &sent.body)
+    }
+}
+
+impl<A: Allocator> KnownArticle<A> {
+    /// Tells whether a success of ARTICLE, HEAD, BODY or STAT named the article.
+    pub(crate) fn is_sent(&self) -> bool
+        ensures { result ≡ (known_article self.now).is_sent }
+    {
+        !matches!(self, KnownArticle::Unsent)
+    }
+
+    /// Returns the lines of the article's head, if they were sent.
+    pub(crate) fn head(&self) -> Option<&Rc<OwnedBlock<A>, A>>
+        ensures { option_map (λ head. head.now.value) result ≡ (known_article self.now).head }
+    {
+        match self {
+            KnownArticle::Sent(lines) => lines.as_ref().head.as_ref(),
+            _ => None,
+        }
+    }
+
+    /// Returns the lines of the article's body, if they were sent.
+    pub(crate) fn body(&self) -> Option<&Rc<OwnedBlock<A>, A>>
+        ensures { option_map (λ body. body.now.value) result ≡ (known_article self.now).body }
+    {
+        match self {
+            KnownArticle::Sent(lines) => lines.as_ref().body.as_ref(),
+            _ => None,
         }
     }
 
@@ -121,14 +170,14 @@ impl<A: Allocator> KnownArticle<A> {
     pub(crate) fn may_have_head(&self, sent: &Sent<'_>) -> bool
         ensures { IsTrue result ↔ AreSame sent.now.head (known_article self.now).head }
     {
-        are_same(&sent.head, &self.head)
+        are_same(&sent.head, self.head())
     }
 
     /// Tells whether no other body was sent.
     pub(crate) fn may_have_body(&self, sent: &Sent<'_>) -> bool
         ensures { IsTrue result ↔ AreSame sent.now.body (known_article self.now).body }
     {
-        are_same(&sent.body, &self.body)
+        are_same(&sent.body, self.body())
     }
 }
 
@@ -149,9 +198,20 @@ impl<A: Allocator + Copy> KnownArticle<A> {
     fn send(&mut self, alloc: A, sent: &Sent<'_>) -> Result<(), AllocError>
         ensures { OnOk result (known_article self.new ≡ with_sent (known_article self.old) sent.now.head sent.now.body) }
     {
-        hold(alloc, &mut self.head, &sent.head)?;
-        hold(alloc, &mut self.body, &sent.body)?;
-        self.is_sent = true;
+        match self {
+            KnownArticle::Sent(lines) => lines.as_mut().hold(alloc, sent)?,
+            _ => *self = KnownArticle::first(alloc, sent)?,
+        }
         Ok(())
+    }
+
+    /// Returns what is known of an article of which a success sends these parts, and none were sent before.
+    fn first(alloc: A, sent: &Sent<'_>) -> Result<KnownArticle<A>, AllocError>
+        ensures { IfOk result (λ article. known_article article ≡ with_sent unsent sent.now.head sent.now.body) }
+    {
+        if sent.head.is_none() && sent.body.is_none() {
+            return Ok(KnownArticle::Named);
+        }
+        Ok(KnownArticle::Sent(Box::new(alloc, SentLines::first(alloc, sent)?)?))
     }
 }

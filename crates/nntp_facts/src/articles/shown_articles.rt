@@ -45,21 +45,21 @@ impl<'a, A: Allocator> ShownArticle<'a, A> {
     pub fn is_sent(&self) -> bool
         ensures { result ≡ self.now.is_sent }
     {
-        self.article.is_sent
+        self.article.is_sent()
     }
 
     /// Returns the lines of the article's head, or `None` if no answer sent them.
     pub fn head(&self) -> Option<&'a Rc<OwnedBlock<A>, A>>
         ensures { option_map (λ head. head.now.value) result ≡ self.now.head }
     {
-        self.article.head.as_ref()
+        self.article.head()
     }
 
     /// Returns the lines of the article's body, or `None` if no answer sent them.
     pub fn body(&self) -> Option<&'a Rc<OwnedBlock<A>, A>>
         ensures { option_map (λ body. body.now.value) result ≡ self.now.body }
     {
-        self.article.body.as_ref()
+        self.article.body()
     }
 }
 

@@ -9,13 +9,13 @@ ghost use Rattle.nntp_numbers.specs.Inner.Summary.{IsSummary, AreBounded, has, P
 ghost use Rattle.nntp_theory.specs.Inner.Conflict.{AreApart};
 ghost use Rattle.nntp_theory.specs.Conflict.{AreTooMany};
 
+use crate::number_set::NumberSet;
 use crate::numbers::{Numbers, is_within};
 use crate::shown::HowMany;
 use crate::tally::Tally;
 use nntp_intervals::IntervalSet;
 use nntp_theory::Demand;
 use std::alloc::Allocator;
-use std::collections::BTreeSet;
 
 impl<A: Allocator> Numbers<A> {
     /// Returns a known number that is denied, if there is one: the least that is shown, or else a
@@ -98,13 +98,13 @@ fn is_met(demand: Demand, found: HowMany) -> bool
 }
 
 /// Returns the least shown number that is denied, if there is one.
-fn denied_among<A: Allocator>(shown: &BTreeSet<u64, A>, denied: &IntervalSet<A>) -> Option<u64>
-    ensures { DeniedAmong (has shown.now.keys) denied.now result }
+fn denied_among<A: Allocator>(shown: &NumberSet<A>, denied: &IntervalSet<A>) -> Option<u64>
+    ensures { DeniedAmong (has shown.now) denied.now result }
 {
     let mut numbers = shown.iter();
     while let Some(n) = numbers.next() {
-        if denied.contains(*n) {
-            return Some(*n);
+        if denied.contains(n) {
+            return Some(n);
         }
     }
     None

@@ -5,4 +5,4 @@ use Rattle.nntp_numbers.proofs.gaps.none_in_gaps.Given as goal
 
 abbrev pub invariant-loop-first : goal.invariant-loop-first
 invariant-loop-first g l =
-    ((n : ℕ) → has l.shown.keys n ≡ true → holds l.gaps n ≡ false) ↔ ((n : ℕ) → has l.shown.keys n ≡ true → holds l.initial.gaps n ≡ false)
+    ((n : ℕ) → has l.shown n ≡ true → holds l.gaps n ≡ false) ↔ ((n : ℕ) → has l.shown n ≡ true → holds l.initial.gaps n ≡ false)

@@ -5,5 +5,5 @@ use Rattle.nntp_numbers.proofs.tally.tally_shown.Given as goal
 
 abbrev pub invariant-loop-n : goal.invariant-loop-n
 invariant-loop-n g l =
-    (IsTrue (is_ascending l.numbers) → IsTally (λ n. has l.shown.keys n || is_one_of (take l.n-index l.numbers) n) l.demand l.tally.found l.tally.count)
-    × (l.tally.count < 2 ^ 63 + l.n-index)
+    (IsTrue (is_ascending l.numbers) → IsTally (λ n. has l.shown n || is_one_of (take l.n-index l.numbers) n) l.demand l.tally.found l.tally.count)
+    × (l.tally.count < 2 ^ 63 + 2 + l.n-index)

@@ -1,6 +1,7 @@
 use Rattle.std.{proofs.Common.{◌≡◌, ℕ, List, Some, rules, refl, ap, sym, subst, ◌∙◌}, specs.Prelude.{unwrap_or}}
 use Rattle.nntp_facts.specs.Inner.{Kept.{IsAddedIf}, Saying.{Sends}, Articles.{MayBeSent, with_sent}, ArticleView.{is_added, known_article}}
-use Rattle.nntp_facts.proofs.Keeping.{NotedArticles.{sent_noted, of_denied}, NamedArticles.{text_cmp, put_in, had, same_key}}
+use Rattle.nntp_facts.{specs.declared.articles.known.KnownArticle.TheVariants.{Unsent}, proofs.Keeping.NotedArticles.{sent_noted, of_denied}}
+use Rattle.nntp_facts.proofs.Keeping.NamedArticles.{text_cmp, put_in, had, same_key}
 use Rattle.nntp_facts.proofs.articles.Articles.send.Goals as goal
 
 pub returns-then-is_denied-clause-added : goal.returns-then-is_denied-clause-added
@@ -20,11 +21,11 @@ returns-clause-added g c facts what lines kept heads bodies =
     let new = c.note.new.self in
     let same = c.in_ok-from_str.ensures.ok in
     let free = sym c.is_denied.ensures ∙ c.if-is_denied.false in
-    let found = c.or_insert-article.ensures.value ∙ ap (λ o. unwrap_or o c.unsent.result) c.in_ok-entry.ensures.value in
+    let found = c.or_insert-article.ensures.value ∙ ap (λ o. unwrap_or o Unsent) c.in_ok-entry.ensures.value in
     let does = subst (IsAddedIf (MayBeSent (known_article old) head body) (λ k. k
     ≡ with_sent (known_article old) head body) (known_article old) (known_article new)) (sym c.named_if.ensures.added) c.in_ok-note.ensures in
     sent_noted facts M _ what id lines head body (known_article old) (known_article new) (is_added c.named_if.result) kept
-    (had es ks M c.self.view_is key id same free c.unsent.result old c.unsent.ensures found) (put_in es ks M c.self.view_is key id same _ new (search rules)) heads bodies does
+    (had es ks M c.self.view_is key id same free Unsent old refl found) (put_in es ks M c.self.view_is key id same _ new (search rules)) heads bodies does
 
 pub returns-clause-text : goal.returns-clause-text
 returns-clause-text g c = λ added. c.named_if.ensures.text (sym c.named_if.ensures.added ∙ added) ∙ ap (λ (bytes : List ℕ). Some bytes)

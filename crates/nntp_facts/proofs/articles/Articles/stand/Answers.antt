@@ -1,5 +1,6 @@
 use Rattle.std.{proofs.Common.{ℕ, List, Some, rules, refl, ap, sym, ◌∙◌}, specs.Prelude.{unwrap_or}}
-use Rattle.nntp_facts.{specs.Inner.Saying.{Exists}, proofs.Keeping.{NotedArticles.{there_noted, of_denied}, NamedArticles.{text_cmp, kept_new, same_key}}}
+use Rattle.nntp_facts.{specs.{Inner.Saying.{Exists}, declared.articles.known.KnownArticle.TheVariants.{Unsent}}, proofs.Keeping.NotedArticles.{there_noted}}
+use Rattle.nntp_facts.proofs.Keeping.{NotedArticles.{of_denied}, NamedArticles.{text_cmp, kept_new, same_key}}
 use Rattle.nntp_facts.proofs.articles.Articles.stand.Goals as goal
 
 pub returns-then-is_denied-clause-added : goal.returns-then-is_denied-clause-added
@@ -9,10 +10,10 @@ pub returns-clause-added : goal.returns-clause-added
 returns-clause-added g c facts kept =
     let M = c.args.self.now in
     let free = sym c.is_denied.ensures ∙ c.if-is_denied.false in
-    let found = c.or_insert.ensures.value ∙ ap (λ o. unwrap_or o c.unsent.result) c.in_ok-entry.ensures.value in
+    let found = c.or_insert.ensures.value ∙ ap (λ o. unwrap_or o Unsent) c.in_ok-entry.ensures.value in
     there_noted facts M _ c.args.id.now kept free
-    (kept_new c.self.inside.known.entries c.self.inside.denied.keys M c.self.view_is c.in_ok-from_str.field-0 c.args.id.now c.in_ok-from_str.ensures.ok free c.unsent.result c.or_insert.result.now
-    c.unsent.ensures
+    (kept_new c.self.inside.known.entries c.self.inside.denied.keys M c.self.view_is c.in_ok-from_str.field-0 c.args.id.now c.in_ok-from_str.ensures.ok free Unsent c.or_insert.result.now
+    refl
     found _ (search rules))
 
 pub returns-clause-text : goal.returns-clause-text

@@ -8,7 +8,7 @@ use Rattle.nntp_numbers.proofs.numbers.Numbers.joins.Goals as goal
 pub returns-then-leaves : goal.returns-then-leaves
 returns-then-leaves g c = λ asks more sum stand bounded says.
     let p = said c.args.part.now in
-    let v : Summary = record { shown = c.self.inside.shown.keys; denied = c.self.inside.denied; estimate = c.self.inside.estimate; ends = c.self.inside.ends; demand = c.self.inside.demand } in
+    let v : Summary = record { shown = c.self.inside.shown; denied = c.self.inside.denied; estimate = c.self.inside.estimate; ends = c.self.inside.ends; demand = c.self.inside.demand } in
     let ends : c.ends_after-ends.result ≡ ends_after v p = c.ends_after-ends.ensures
     (c.join-demand.ensures ∙ ap (λ s. join s.demand p.demand) c.self.view_is)
     ∙ ap (λ s. ends_after s p) (sym c.self.view_is) in
@@ -33,7 +33,7 @@ returns-then-leaves g c = λ asks more sum stand bounded says.
 pub returns-else-leaves : goal.returns-else-leaves
 returns-else-leaves g c = λ asks more sum stand bounded says.
     let p = said c.args.part.now in
-    let v : Summary = record { shown = c.self.inside.shown.keys; denied = c.self.inside.denied; estimate = c.self.inside.estimate; ends = c.self.inside.ends; demand = c.self.inside.demand } in
+    let v : Summary = record { shown = c.self.inside.shown; denied = c.self.inside.denied; estimate = c.self.inside.estimate; ends = c.self.inside.ends; demand = c.self.inside.demand } in
     let ends : c.ends_after-ends.result ≡ ends_after v p = c.ends_after-ends.ensures
     (c.join-demand.ensures ∙ ap (λ s. join s.demand p.demand) c.self.view_is)
     ∙ ap (λ s. ends_after s p) (sym c.self.view_is) in

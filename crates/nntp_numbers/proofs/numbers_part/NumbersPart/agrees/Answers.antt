@@ -6,7 +6,7 @@ use Rattle.nntp_numbers.proofs.numbers_part.NumbersPart.agrees.Goals as goal
 pub returns-then-denies_none : goal.returns-then-denies_none
 returns-then-denies_none g c =
     let p = said c.args.self.now in
-    let shown = c.args.shown.now.keys in
+    let shown = c.args.shown.now in
     let denied = c.args.denied.now in
     λ regular. elim c.if-self.branch [
       | then-self w ↦ (

@@ -5,13 +5,13 @@ use Rattle.nntp_numbers.proofs.tally.Tally.of.Goals as goal
 
 pub returns-in_default-clause-tally : goal.returns-in_default-clause-tally
 returns-in_default-clause-tally g c = λ up.
-    let p = shown_after c.args.shown.now.keys c.args.numbers.now in
+    let p = shown_after c.args.shown.now c.args.numbers.now in
     subst (λ o. IsTally (λ n. p n || is_end_of o n) c.args.demand c.tally_shown-tally.result.found c.tally_shown-tally.result.count) (sym c.in_default.is)
     (tally_no_ends p c.args.demand _ _ (c.tally_shown-tally.ensures.tally up))
 
 pub returns-clause-tally : goal.returns-clause-tally
 returns-clause-tally g c = λ up.
-    let p = shown_after c.args.shown.now.keys c.args.numbers.now in
+    let p = shown_after c.args.shown.now c.args.numbers.now in
     let e = c.in-Some.ends in
     let there : c.if-ends.high ≡ (p e.high || e.low == e.high) = elim c.if-ends.branch [
       | then-ends w ↦ w.high-is ∙ low_there p e.low e.high w.if-ends.true

@@ -1,0 +1,5 @@
+use Rattle.nntp_numbers.{specs.Inner.Summary.{has}, proofs.PassingNumbers.{all_wanted}}
+use Rattle.nntp_numbers.proofs.shown.how_many_wanted.Goals as goal
+
+pub returns-in-NotEmpty : goal.returns-in-NotEmpty
+returns-in-NotEmpty g c = all_wanted (has c.args.shown.now) c.args.demand c.how_many.result c.in-NotEmpty.is c.how_many.ensures
