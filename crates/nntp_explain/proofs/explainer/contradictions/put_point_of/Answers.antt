@@ -2,7 +2,7 @@ use Rattle.std.{proofs.Common.{◌++◌, ◌∙◌, ap, map, subst}, specs.Prelu
 use Rattle.nntp_theory.specs.Conflict.{IsFirstPoint, told_with, places_of}
 use Rattle.nntp_facts.specs.{Inner.PointView.{point_of}, Standing.{stands_of}}
 use Rattle.nntp_explain.{specs.Says.{conflict_lines}, proofs.{ConflictLemmas.{tells}, SaysLemmas.{on_ok}}}
-use Rattle.nntp_explain.proofs.explainer.put_point_of.Goals as goal
+use Rattle.nntp_explain.proofs.explainer.contradictions.put_point_of.Goals as goal
 
 pub returns-in-Some : goal.returns-in-Some
 returns-in-Some g c =
