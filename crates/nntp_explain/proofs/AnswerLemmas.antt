@@ -46,12 +46,9 @@ bad_push answers answer same = grind (arith, accepted_one_more, length-append, f
 -- ---- what is told of a bad answer
 
 -- with another reason that follows from the one that is told
-reason_follows : (b : Bool) (P Q N : Type 0) → (P → Q) → cond b P N → cond b Q N
-reason_follows b P Q N f h = grind arith
-
 pub told_as : (before : ℕ) (stands : Standing) (index : ℕ) (class : Class) (line : Option (List ℕ)) (initial : List ℕ) (P Q : List ℕ → Type 0) (text : List ℕ)
     → ((reason : List ℕ) → P reason → Q reason) → IsTold before stands index class line initial P text → IsTold before stands index class line initial Q text
-told_as before stands index class line initial P Q text f (reason, whole, is) = search reason_follows
+told_as before stands index class line initial P Q text f (reason, whole, is) = grind arith
 
 -- behind its lines a reason
 pub told_reason : (before : ℕ) (stands : Standing) (index : ℕ) (class : Class) (line : Option (List ℕ)) (initial : List ℕ) (Reason : List ℕ → Type 0) (old new reason : List ℕ) (is_told : Bool)
@@ -59,12 +56,9 @@ pub told_reason : (before : ℕ) (stands : Standing) (index : ℕ) (class : Clas
     → GoesOn (IsTold before stands index class line initial Reason) old new
 told_reason before stands index class line initial Reason old new reason is_told told-is whole is = grind (arith, append_assoc)
 
-some : (x : ℕ) (xs : List ℕ) → 1 ≤ length (x ∷ xs)
-some x xs = omega arith
-
 -- its lines are some
 pub bad_long : (index : ℕ) (class : Class) (line : Option (List ℕ)) (initial : List ℕ) → 1 ≤ length (bad_lines index class line initial)
-bad_long index class line initial = search some
+bad_long index class line initial = omega arith
 
 -- and so is what is told of it
 pub told_long : (before : ℕ) (stands : Standing) (index : ℕ) (class : Class) (line : Option (List ℕ)) (initial : List ℕ) (Reason : List ℕ → Type 0) (text : List ℕ)
@@ -73,14 +67,7 @@ told_long before stands index class line initial Reason text (reason, whole, is)
 
 -- ---- the line of further reasons
 
--- behind a text stand five more
-pub five : (text a b c d e one two three : List ℕ) → one ≡ text ++ a ++ b → two ≡ one ++ c ++ d → three ≡ two ++ e → three ≡ text ++ (a ++ b ++ c ++ d ++ e)
-five text a b c d e one two three e1 e2 e3 = rw (e3, e2, e1) (simp append_assoc)
-
 pub rest_told : (here : ℕ) (answers : List Cited) (rest : Option ℕ) (bound place : ℕ) (old mid new whole : List ℕ) → rest ≡ Some bound → place ≡ bound - 1
     → mid ≡ old ++ codes "because some of " ++ answer_at here answers 0 → new ≡ mid ++ codes " to " ++ answer_at here answers place → whole ≡ new ++ 10 ∷ []
     → whole ≡ old ++ rest_line here answers rest
-rest_told here answers rest bound place old mid new whole is place-is mid-is new-is whole-is =
-    five old (codes "because some of ") (answer_at here answers 0) (codes " to ") (answer_at here answers (bound - 1)) (codes "\n") mid new whole
-    mid-is (new-is ∙ ap (λ k. mid ++ codes " to " ++ answer_at here answers k) place-is) whole-is
-    ∙ ap (λ r. old ++ rest_line here answers r) (sym is)
+rest_told here answers rest bound place old mid new whole is place-is mid-is new-is whole-is = grind (arith, append_assoc)

@@ -26,7 +26,7 @@ nothing_said seen at command = grind arith
 
 module _ (profile : Profile) (v seen : Visible) (at : Position) where
   by_code : (asked : Asked) (code other : ℕ) → code ≡ other → IsHarmless profile v seen at asked (plain other) → IsHarmless profile v seen at asked (plain code)
-  by_code asked code other is h = subst (λ code. IsHarmless profile v seen at asked (plain code)) (sym is) h
+  by_code asked code other is h = grind arith
 
   harmless : (asked : Asked) (response : Response) → closes asked response ≡ true → IsHarmless profile v seen at asked response
   harmless greeting (plain code) e = grind (arith, either, by_code)

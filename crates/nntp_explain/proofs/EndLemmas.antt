@@ -209,11 +209,6 @@ told_alone profile kept new text after client server k bad-is text-is new-is aft
 
 -- ---- the reports
 
--- the counts that are printed
-counts_are : (answers bad unanswered : ℕ) (c : Counts) → answers ≡ c.answers → bad ≡ c.bad → unanswered ≡ c.unanswered
-    → counts_text (record { answers = answers; bad = bad; unanswered = unanswered }) ≡ counts_text c
-counts_are answers bad unanswered c a b u = λ i. counts_text (record { answers = a i; bad = b i; unanswered = u i })
-
 -- that of one session
 pub explained_alone : (limit : Limit) (marks : Marks) (client : ClientStream) (server : List ℕ) (kept : Kept) (text label whole : List ℕ) (answers bad unanswered printed : ℕ) (good : Bool)
     → IsRead (profile_of limit marks) alone client server kept text unanswered
@@ -245,4 +240,4 @@ pub explained_all : (limit : Limit) (marks : Marks) (sessions : List Named) (kep
     → one ≡ text ++ codes "end sessions=" ++ decimal count → two ≡ one ++ 32 ∷ []
     → whole ≡ two ++ counts_text (record { answers = answers + bad; bad = bad; unanswered = unanswered }) → good ≡ (bad == 0)
     → IsExplanationOfAll limit marks sessions whole good
-explained_all limit marks sessions kept text one two whole count answers bad unanswered good h count-is answers-is bad-is one-is two-is whole-is good-is = grind (arith, counts_are)
+explained_all limit marks sessions kept text one two whole count answers bad unanswered good h count-is answers-is bad-is one-is two-is whole-is good-is = grind arith

@@ -10,12 +10,9 @@ use Rattle.nntp_explain.specs.Explaining.{IsExplanationOfAll}
 abbrev all_text : List ℕ → Counts → List ℕ
 all_text text c = text ++ codes "end sessions=" ++ decimal 1 ++ codes " " ++ counts_text c
 
-none_before : (n : ℕ) → 0 + n ≡ n
-none_before n = omega arith
-
 -- what is counted of one session alone
 counted_alone : (c : Counts) → counted_with none_counted c ≡ c
-counted_alone c = λ i. record { answers = none_before c.answers i; bad = none_before c.bad i; unanswered = none_before c.unanswered i }
+counted_alone c = grind arith
 
 -- as the only one of several, it has the same lines by itself
 pub alone_of_all : (limit : Limit) (marks : Marks) (s : Named) (text : List ℕ) (good : Bool) → IsExplanationOfAll limit marks (s ∷ []) text good

@@ -1,28 +1,23 @@
 -- What lines say, one after the other.
-use Rattle.std.proofs.Common.{arith, ◌≡◌, ◌∙◌, sym, ap, refl, ℕ, List, [], ◌∷◌, ◌++◌, ◌||◌, if◌then◌else◌, Option, append_assoc, append-nil, Result, Ok, Err}
+use Rattle.std.proofs.Common.{arith, ◌≡◌, ap, refl, ℕ, List, [], ◌∷◌, ◌++◌, ◌||◌, Option, append_assoc, append-nil, Result}
 use Rattle.std.{proofs.lemmas.List.Concat.{flat_map-append}, specs.{Prelude.{OnOk, IsTrue, decimal}, List.{flat_map, list_any}}}
 use Rattle.nntp_article.specs.{Article.Parts.{Id, Line, is_empty, head_part, body_part}, Session.Spool.{Name}}
 use Rattle.nntp_wire.specs.Listing.{ActiveValue}
 use Rattle.nntp_said.specs.{Asks.{Bounds}, Facts.{Fact, Asks, GroupsAre}}
-use Rattle.nntp_theory.specs.{Conflict.{Point, Article}, Given.{asks_in}, Together.{shows_article, denies_article}}
-use Rattle.nntp_explain.specs.{Reasons.{octets_line}, Says.{ask_line, numbers_said, says, article_line}}
+use Rattle.nntp_theory.specs.{Conflict.{Point, Article}, Together.{shows_article, denies_article}}
+use Rattle.nntp_explain.specs.{Reasons.{octets_line}, Says.{numbers_said, says, article_line}}
 use Rattle.nntp_printing.specs.Printing.{escaped}
-
--- the marks of one line more
-bounds_more : (name : Name) (about : Option ℕ) (p : Option (List ℕ)) (line : ActiveValue) (lines : List ActiveValue)
-    → numbers_said name about (GroupsAre p (line ∷ lines)) ≡ numbers_said name about (Asks line.name (Bounds line.low line.high)) ++ numbers_said name about (GroupsAre p lines)
-bounds_more name about p line lines = flat_map-append (ask_line about name) (asks_in name (Asks line.name (Bounds line.low line.high))) (asks_in name (GroupsAre p lines))
 
 -- the text goes on with them
 pub bounds_told : (name : Name) (about : Option ℕ) (p : Option (List ℕ)) (line : ActiveValue) (left lines : List ActiveValue) (text more whole : List ℕ)
     → (of : Name) → of ≡ line.name → left ≡ line ∷ lines → more ≡ text ++ numbers_said name about (Asks of (Bounds line.low line.high)) → text ++ numbers_said name about (GroupsAre p left) ≡ whole
     → more ++ numbers_said name about (GroupsAre p lines) ≡ whole
-bounds_told name about p line left lines text more whole of same is told h = grind (arith, append_assoc, bounds_more)
+bounds_told name about p line left lines text more whole of same is told h = grind (arith, append_assoc, flat_map-append)
 
 -- where no line is left, the text is whole
 pub bounds_end : (name : Name) (about : Option ℕ) (p : Option (List ℕ)) (left : List ActiveValue) (text whole : List ℕ)
     → left ≡ [] → text ++ numbers_said name about (GroupsAre p left) ≡ whole → text ≡ whole
-bounds_end name about p left text whole none h = sym (append-nil text) ∙ ap (λ ls. text ++ numbers_said name about (GroupsAre p ls)) (sym none) ∙ h
+bounds_end name about p left text whole none h = grind (arith, append-nil)
 
 -- the text goes on with what is said of one of these
 pub one_told : {X : Type 0} (says : X → List ℕ) (x : X) (left xs : List X) (text more whole : List ℕ) → left ≡ x ∷ xs → more ≡ text ++ says x → text ++ flat_map says left ≡ whole
@@ -31,19 +26,19 @@ one_told says x left xs text more whole is told h = grind (arith, append_assoc)
 
 -- where none is left, the text is whole
 pub all_told : {X : Type 0} (says : X → List ℕ) (left : List X) (text whole : List ℕ) → left ≡ [] → text ++ flat_map says left ≡ whole → text ≡ whole
-all_told says left text whole none h = sym (append-nil text) ∙ ap (λ ls. text ++ flat_map says ls) (sym none) ∙ h
+all_told says left text whole none h = grind (arith, append-nil)
 
 -- one piece more
 pub one_more : (text s x one two : List ℕ) → one ≡ text ++ s → two ≡ one ++ x → two ≡ text ++ (s ++ x)
-one_more text s x one two first second = second ∙ ap (λ t. t ++ x) first ∙ append_assoc text s x
+one_more text s x one two first second = grind (arith, append_assoc)
 
 -- two pieces more
 pub two_more : (text s x y one two : List ℕ) → one ≡ text ++ s → two ≡ one ++ x ++ y → two ≡ text ++ (s ++ x ++ y)
-two_more text s x y one two first second = one_more text (s ++ x) y (one ++ x) two (one_more text s x one (one ++ x) first refl) second
+two_more text s x y one two first second = grind (arith, append_assoc)
 
 -- three pieces more
 pub three_more : (text s x y z one two : List ℕ) → one ≡ text ++ s → two ≡ one ++ x ++ y ++ z → two ≡ text ++ (s ++ x ++ y ++ z)
-three_more text s x y z one two first second = one_more text (s ++ x ++ y) z (one ++ x ++ y) two (two_more text s x y one (one ++ x ++ y) first refl) second
+three_more text s x y z one two first second = grind (arith, append_assoc)
 
 -- where no line is empty, all lines are the head, and none is the body
 pub all_head : (lines : List Line) → ¬ (IsTrue (list_any is_empty lines)) → lines ≡ head_part lines
@@ -63,23 +58,19 @@ on_ok r f p = grind arith
 -- the line of a fact about the id of an article
 pub told_article : (line : Option ℕ) (point : Point) (other : Id) (fact : Fact) → point ≡ Article other → IsTrue (shows_article other fact || denies_article other fact)
     → says line point fact ≡ article_line fact
-told_article line point other fact is there = ap (λ p. says line p fact) is ∙ ap (λ b. if b then article_line fact else []) there
+told_article line point other fact is there = grind arith
 
 -- a line of a label and octets is another text, that is the same
 pub line_told : (text label octets other new : List ℕ) → new ≡ text ++ label ++ escaped octets ++ 10 ∷ [] → octets_line label octets ≡ other → new ≡ text ++ other
-line_told text label octets other new is same = two_more text label (escaped octets) (10 ∷ []) (text ++ label) new refl is ∙ ap (λ t. text ++ t) same
+line_told text label octets other new is same = grind (arith, append_assoc)
 
 -- a label and a count, and then a line
 pub counted : (text label octets one two w word : List ℕ) (count n : ℕ) → one ≡ text ++ label ++ decimal count → count ≡ n → two ≡ one ++ w ++ escaped octets ++ 10 ∷ [] → w ≡ word
     → two ≡ text ++ (label ++ decimal n ++ octets_line word octets)
-counted text label octets one two w word count n first count-is second word-is = grind (arith, one_more, append_assoc, line_told)
-
--- a piece and a line are another text, that is the same
-pub two_told : (text piece line other one two : List ℕ) → one ≡ text ++ piece → two ≡ one ++ line → piece ++ line ≡ other → two ≡ text ++ other
-two_told text piece line other one two first second same = one_more text piece line one two first second ∙ ap (λ t. text ++ t) same
+counted text label octets one two w word count n first count-is second word-is = grind (arith, append_assoc)
 
 -- a line, and another between two texts that hang on a place
 pub conflict_told : (text about rest : List ℕ) (said reasons : Option ℕ → List ℕ) (place told : Option ℕ) (one two three four : List ℕ)
     → one ≡ text ++ about → two ≡ one ++ said place → three ≡ two ++ rest → four ≡ three ++ reasons place → place ≡ told
     → four ≡ text ++ (about ++ said told ++ rest ++ reasons told)
-conflict_told text about rest said reasons place told one two three four first second third fourth is = grind (arith, one_more)
+conflict_told text about rest said reasons place told one two three four first second third fourth is = grind (arith, append_assoc)

@@ -1,5 +1,5 @@
 -- One session behind others: its answers as they are judged and cited, its title, and what is counted of it.
-use Rattle.std.proofs.Common.{◌≡◌, ◌∙◌, sym, refl, ap, ℕ, suc, ◌+◌, List, [], ◌∷◌, ◌++◌, Option, None, length, map, add-one, arith, append_assoc, append-nil}
+use Rattle.std.proofs.Common.{◌≡◌, ◌∙◌, sym, refl, ap, ℕ, ◌+◌, List, [], ◌∷◌, ◌++◌, Option, None, length, map, add-one, arith, append_assoc, append-nil}
 use Rattle.std.{proofs.{Common.{length-append}, lemmas.List.{map-append}}, specs.{List.{flat_map}, Option.{option_map_or}}}
 use Rattle.nntp_article.specs.{declared.session.profile.Profile.{Profile}, Session.Machine.{Visible, start, visible_after}}
 use Rattle.nntp_pair.specs.Pairing.{Paired, Unpaired, IsNext, Ending, asked_at, asked_of, responses_of, streams}
@@ -89,26 +89,11 @@ untitled number title = grind arith
 pub told_once : (title : Option (List ℕ)) (bad : ℕ) → None ≡ untold title (bad + 1)
 told_once title bad = ap (untold title) (sym (add-one bad))
 
--- it stands before what is told of the first bad answer
-title_next : (number : ℕ) (title : Option (List ℕ)) (bad : ℕ) (told : List ℕ) → (bad ≡ 0 → told ≡ [])
-    → title_told number title bad ++ told ++ option_map_or (title_line number) (untold title bad) [] ≡ title_told number title (suc bad) ++ told
-title_next number title bad told silent = grind (arith, append-nil)
-
-title_joins : (number : ℕ) (title : Option (List ℕ)) (bad : ℕ) (told : List ℕ) → (bad ≡ 0 → told ≡ [])
-    → title_told number title bad ++ told ++ option_map_or (title_line number) (untold title bad) [] ≡ title_told number title (bad + 1) ++ told
-title_joins number title bad told silent = title_next number title bad told silent ∙ ap (λ n. title_told number title n ++ told) (sym (add-one bad))
-
-shape : (start front told line more : List ℕ) → ((start ++ front ++ told) ++ line) ++ more ≡ start ++ (front ++ told ++ line) ++ more
-shape start front told line more = simp append_assoc
-
-shape_after : (start front told more : List ℕ) → start ++ (front ++ told) ++ more ≡ start ++ front ++ (told ++ more)
-shape_after start front told more = simp append_assoc
-
--- so the text goes on
+-- it stands before what is told of the first bad answer, and so the text goes on
 pub text_grows : (number : ℕ) (title : Option (List ℕ)) (bad : ℕ) (start told line more text : List ℕ) → (bad ≡ 0 → told ≡ [])
     → text ≡ start ++ title_told number title bad ++ told → line ≡ option_map_or (title_line number) (untold title bad) []
     → (text ++ line) ++ more ≡ start ++ title_told number title (bad + 1) ++ (told ++ more)
-text_grows number title bad start told line more text silent text-is line-is = grind (arith, shape, title_joins, shape_after)
+text_grows number title bad start told line more text silent text-is line-is = grind (arith, append_assoc, append-nil)
 
 -- ---- what is counted of it
 

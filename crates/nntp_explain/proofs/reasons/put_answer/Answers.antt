@@ -1,4 +1,4 @@
-use Rattle.std.{proofs.Common.{◌≡◌, ◌≢◌, ◌∙◌, ◌++◌, ap, append_assoc, arith, false, ℕ, List}, specs.Prelude.{codes, decimal}}
+use Rattle.std.{proofs.Common.{◌≡◌, ◌≢◌, ◌∙◌, ◌++◌, ap, append_assoc, arith, ℕ, List}, specs.Prelude.{codes, decimal}}
 use Rattle.nntp_explain.{specs.Reasons.{session_text}, proofs.SaysLemmas.{on_ok}}
 use Rattle.nntp_explain.proofs.reasons.put_answer.Goals as goal
 

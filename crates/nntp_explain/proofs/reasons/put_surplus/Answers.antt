@@ -1,4 +1,4 @@
-use Rattle.std.proofs.Common.{arith, ◌-◌}
+use Rattle.std.proofs.Common.{arith}
 use Rattle.nntp_explain.proofs.{ReasonsGoOn.{extended}, SaysLemmas.{on_ok}}
 use Rattle.nntp_explain.proofs.reasons.put_surplus.Goals as goal
 
