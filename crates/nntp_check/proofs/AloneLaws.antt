@@ -6,28 +6,22 @@ use Rattle.nntp_verdict.specs.{Judging.{IsVerdict, IsVerdictOfAll}, Verdict.{Jud
 use Rattle.nntp_verdict.{specs.Inner.Verdict.{verdict_of_one}, proofs.VerdictLaws.{one_verdict_of_all, one_session_verdict}}
 use Rattle.nntp_check.specs.{Capture.{Captured, sessions_of}, Report.{names_of, report_of}, Run.{CheckReports}}
 
--- of one session no name is told
-unnamed-report : (names : List (List ℕ)) (verdict : Judgement) → report_of false names (verdict_of_one verdict) ≡ report_of false [] (verdict_of_one verdict)
-unnamed-report names verdict = refl
-
--- and the answer is the same
+-- the answer on one session is the same
 one-answer : (verdict : Judgement) → is_consistent_of_all (verdict_of_one verdict) ≡ is_consistent verdict
 one-answer (consistent L answers) = refl
 one-answer (bad answer class command reply) = refl
 
 module _ (limit : Limit) (marks : Marks) (c : Captured) (verdict : Judgement) (text : List ℕ) (answer : Bool) (one : c.is_several ≡ false) (alone : c.held.ended ≡ [])
     (exact : IsVerdict limit marks c.held.last.session.client c.held.last.session.server verdict) where
-  -- all sessions are the one
-  all-one : unnamed (sessions_of c.held) ≡ c.held.last.session ∷ []
-  all-one = ap (λ (ended : List Named). unnamed (ended ++ c.held.last ∷ [])) alone
-
   -- their verdict
   verdict-of-all : IsVerdictOfAll limit marks (unnamed (sessions_of c.held)) (verdict_of_one verdict)
-  verdict-of-all = subst (λ sessions. IsVerdictOfAll limit marks sessions (verdict_of_one verdict)) (sym all-one) ((one_session_verdict limit marks c.held.last.session verdict).1 exact)
+  verdict-of-all =
+      let all = ap (λ (ended : List Named). unnamed (ended ++ c.held.last ∷ [])) alone in
+      subst (λ sessions. IsVerdictOfAll limit marks sessions (verdict_of_one verdict)) (sym all) ((one_session_verdict limit marks c.held.last.session verdict).1 exact)
 
-  -- the report on them
+  -- the report on them: of one session no name is told
   text-of-all : report_of c.is_several (names_of (sessions_of c.held)) (verdict_of_one verdict) ≡ report_of false [] (verdict_of_one verdict)
-  text-of-all = ap (λ b. report_of b (names_of (sessions_of c.held)) (verdict_of_one verdict)) one ∙ unnamed-report (names_of (sessions_of c.held)) verdict
+  text-of-all = ap (λ b. report_of b (names_of (sessions_of c.held)) (verdict_of_one verdict)) one
 
   pub one-report : CheckReports limit marks c text answer ↔ ((text ≡ report_of false [] (verdict_of_one verdict)) × (answer ≡ is_consistent verdict))
   one-report = (

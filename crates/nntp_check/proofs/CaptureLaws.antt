@@ -2,31 +2,24 @@
 use Rattle.std.proofs.Common.{◌≡◌, ◌≢◌, ◌⊎◌, ℕ, zero, suc, ◌+◌, ◌≤◌, List, [], ◌∷◌, ◌++◌, length, flat_map, inl, inr, refl, sym, ap, subst, ◌∙◌, append_assoc}
 use Rattle.std.{proofs.Common.{arith, length-append}, specs.List.{AllByRecursion}}
 use Rattle.nntp_check.specs.Capture.{Part, spelled, IsPiece, BeginsNoPiece, Begins, Captured, captured_by, AreCapture, IsCapture, IsBadPiece, BeginsCapture}
-use Rattle.nntp_check.{specs.Capture.{IsBadPieceForGood}, proofs.{CaptureLemmas.{spelled-length}, FirstPiece.{one-piece, dec_piece}}}
+use Rattle.nntp_check.{specs.Capture.{IsBadPieceForGood}, proofs.{BegunLemmas.{Completes}, CaptureLemmas.{spelled-longer}, FirstPiece.{NeverBegins, one-piece}}}
+use Rattle.nntp_check.proofs.FirstPiece.{front-of}
 
 -- ---- one of both
 
--- pieces, and then the end, or octets that begin no piece
+-- pieces, and then the end, or octets that begin no piece: they are completed to one, or never begin one
 abbrev pub HasEnd : List ℕ → Type 0
-HasEnd bytes = (parts : List Part) × (rest : List ℕ) × Begins bytes parts rest × ((rest ≡ []) ⊎ ((rest ≢ []) × BeginsNoPiece rest))
-
--- a piece more in front
-begins-cons : (bytes more : List ℕ) (p : Part) (parts : List Part) (rest : List ℕ) → IsPiece p → bytes ≡ spelled p ++ more → Begins more parts rest → Begins bytes (p ∷ parts) rest
-begins-cons bytes more p parts rest is e b = grind (arith, append_assoc)
-
--- what follows a piece is shorter
-behind-shorter : (n : ℕ) (bytes more : List ℕ) (p : Part) → length bytes ≤ suc n → bytes ≡ spelled p ++ more → length more ≤ n
-behind-shorter n bytes more p few e = grind (arith, spelled-length, length-append)
+HasEnd bytes = (parts : List Part) × (rest : List ℕ) × Begins bytes parts rest × ((rest ≡ []) ⊎ ((rest ≢ []) × (BeginsNoPiece rest × (Completes rest ⊎ NeverBegins rest))))
 
 -- octets, at most so many, have an end
 pub has-end : (n : ℕ) (bytes : List ℕ) → length bytes ≤ n → HasEnd bytes
-has-end zero [] few = ([], [], record { whole = refl; each = tt }, inl refl)
+has-end n [] few = ([], [], record { whole = refl; each = tt }, inl refl)
 has-end zero (b ∷ bytes) few = absurd (omega arith)
-has-end (suc n) [] few = ([], [], record { whole = refl; each = tt }, inl refl)
-has-end (suc n) (b ∷ bytes) few = elim (dec_piece (b ∷ bytes)) [
+has-end (suc n) (b ∷ bytes) few = elim (front-of (b ∷ bytes)) [
   | inl (p, more, is, e) ↦
-      let after = has-end n more (behind-shorter n (b ∷ bytes) more p few e) in
-      (p ∷ after.0, after.1, begins-cons (b ∷ bytes) more p after.0 after.1 is e after.2, after.3)
+      let after = has-end n more (omega (arith, few, ap length e, length-append (spelled p) more, spelled-longer p)) in
+      let whole = e ∙ ap (λ t. spelled p ++ t) after.2.whole ∙ sym (append_assoc (spelled p) (flat_map spelled after.0) after.1) in
+      (p ∷ after.0, after.1, record { whole = whole; each = (is, after.2.each) }, after.3)
   | inr none ↦ ([], b ∷ bytes, record { whole = refl; each = tt }, inr ((λ e. cc), none))
 ]
 
@@ -36,13 +29,13 @@ capture-or-bad octets = by (has-end (length octets) octets (omega arith))
   where
     by : HasEnd octets → IsCapture octets ⊎ ((number : ℕ) × IsBadPiece octets number)
     by (parts, rest, pieces, inl end) = inl (captured_by parts, record { parts = parts; pieces = subst (Begins octets parts) end pieces; captured_is = refl })
-    by (parts, rest, pieces, inr (some, none)) = inr (length parts + 1, record { parts = parts; rest = rest; pieces = pieces; some = some; none = none; place = refl })
+    by (parts, rest, pieces, inr (some, (none, more))) = inr (length parts + 1, record { parts = parts; rest = rest; pieces = pieces; some = some; none = none; place = refl })
 
 -- ---- in one way
 
 -- where no octets are, no piece is
 nil-no-piece : BeginsNoPiece []
-nil-no-piece p more is e = grind (arith, spelled-length, length-append)
+nil-no-piece p more is e = grind (arith, spelled-longer, length-append)
 
 -- pieces up to what begins none are determined
 same-parts : (parts others : List Part) (rest left : List ℕ) → AllByRecursion IsPiece parts → AllByRecursion IsPiece others → BeginsNoPiece rest → BeginsNoPiece left

@@ -1,17 +1,12 @@
 -- What pieces hold, with more octets and more pieces.
 use Rattle.std.proofs.Common.{◌≡◌, ℕ, ◌+◌, ◌≤◌, false, List, [], ◌∷◌, ◌++◌, length, refl, sym, subst, append_assoc, arith, length-append, flat_map}
-use Rattle.std.{proofs.lemmas.{Bool.{cases_Bool}, List.{append-nil}}, specs.Prelude.{fold}}
+use Rattle.std.{proofs.lemmas.{Bool.{cases_Bool}, List.{append-nil, Sums.{fold-append}}}, specs.Prelude.{fold}}
 use Rattle.nntp_check.specs.Capture.{Part, Held, Captured, spelled, nothing, with_octets, at_piece, continued, with_piece, captured_by, AreCapture}
 use Rattle.nntp_check.specs.{Inner.Capture.{IsAlone}, declared.source.Source.{Source}}
 
--- one step more
-fold-snoc : {A B : Type 0} (f : B → A → B) (a : B) (xs : List A) (x : A) → fold f a (xs ++ x ∷ []) ≡ f (fold f a xs) x
-fold-snoc f a [] x = refl
-fold-snoc f a (y ∷ xs) x = fold-snoc f (f a y) xs x
-
 -- one piece more
 pub captured-snoc : (parts : List Part) (p : Part) → captured_by (parts ++ p ∷ []) ≡ with_piece (captured_by parts) p
-captured-snoc parts p = fold-snoc with_piece (record { held = nothing; is_several = false }) parts p
+captured-snoc parts p = fold-append with_piece (record { held = nothing; is_several = false }) parts (p ∷ [])
 
 -- ---- octets
 
@@ -44,9 +39,7 @@ piece-few c p = grind (arith, length-append, append-nil, cases_Bool)
 -- so pieces hold no more octets than theirs
 pieces-few : (c : Captured) (ps : List Part) → last_octets (fold with_piece c ps) ≤ last_octets c + length (flat_map spelled ps)
 pieces-few c [] = omega arith
-pieces-few c (p ∷ ps) =
-    let behind = pieces-few (with_piece c p) ps in
-    grind (arith, piece-few, length-append)
+pieces-few c (p ∷ ps) = grind (arith, piece-few, length-append, pieces-few (with_piece c p) ps)
 
 pub captured-few : (ps : List Part) → last_octets (captured_by ps) ≤ length (flat_map spelled ps)
 captured-few ps = let few = pieces-few (record { held = nothing; is_several = false }) ps in omega arith

@@ -1,6 +1,6 @@
 -- What a run has read, read by read.
-use Rattle.std.proofs.Common.{◌≡◌, ◌||◌, Bool, true, false, ◌≢◌, ◌∙◌, ℕ, ◌+◌, ◌<◌, ◌≤◌, List, [], ◌∷◌, ◌++◌, Option, ◌^◌, length, take, drop, inl, inr, refl}
-use Rattle.std.proofs.{Common.{sym, ap, subst, append_assoc, arith, length-append}, Math.{Bool.{or-false}, Seq.{take-append_seam}}, lemmas.Bool.{true≢false}}
+use Rattle.std.proofs.Common.{◌≡◌, ◌||◌, Bool, true, false, ◌≢◌, ◌∙◌, ℕ, ◌+◌, ◌<◌, ◌≤◌, List, [], ◌∷◌, ◌++◌, Option, ◌^◌, length, take, drop, inl, sym, ap}
+use Rattle.std.proofs.{Common.{subst, append_assoc, arith, length-append}, Math.{Bool.{or-false}, Seq.{take-append_seam}}, lemmas.Bool.{true≢false}}
 use Rattle.std.{proofs.{lemmas.List.{append-nil, take-append-drop, take-take}, KnownBytes.{Consumes-trans}}, specs.Io.KnownBytes.{Consumes, Keeps, IsAtEnd}}
 use Rattle.nntp_check.specs.{Capture.{Held, BeginsCapture, IsBadPiece}, Inner.{CaptureReading.{HasBadFront}, Sinks.{StopsWithin, BothStand, PassesOn}}}
 use Rattle.nntp_check.specs.{Run.{ReadsFront, ReadsMore, ReadsBadPiece, IsInputFault}, declared.capture_reader.CaptureReader.{CaptureReader}}
@@ -20,14 +20,7 @@ all-passed before after Stood Stands came octets p both = subst (λ (front : Lis
 pub ends-bad : (before old after : Option (List ℕ)) (most piece : ℕ) (octets got : List ℕ) → Consumes before old octets
     → Consumes old after got → length got ≡ 0 → IsAtEnd after → length octets ≤ most → IsBadPiece octets piece
     → ReadsBadPiece (record { before = before; after = after; most = most }) piece
-ends-bad before old after most piece octets [] read gave none end few bad = record {
-  front = octets;
-  rest = [];
-  consumed = Consumes-trans before old after octets [] read gave;
-  few = few;
-  near = omega arith;
-  bad = inr (bad, refl, end);
-}
+ends-bad before old after most piece octets [] read gave none end few bad = search (arith, Consumes-trans)
 ends-bad before old after most piece octets (b ∷ got) read gave none end few bad = absurd (omega arith)
 
 -- within what may be read a piece is bad
@@ -38,15 +31,12 @@ bad-within : (before old after : Option (List ℕ)) (most piece : ℕ) (octets g
 bad-within before old after most piece octets got fitting rest read gave cut few near h =
     let all : octets ++ got ≡ (octets ++ h.front) ++ (h.rest ++ rest) = grind (arith, append_assoc) in
     let many : length fitting ≡ length h.front + length h.rest = ap length h.cut ∙ length-append h.front h.rest in
-    let front : length (octets ++ h.front) ≡ length octets + length h.front = length-append octets h.front in
-    let behind : length (h.rest ++ rest) ≡ length h.rest + length rest = length-append h.rest rest in
-    let all-got : length got ≡ length fitting + length rest = ap length cut ∙ length-append fitting rest in
     record {
       front = octets ++ h.front;
       rest = h.rest ++ rest;
       consumed = subst (Consumes before after) all (Consumes-trans before old after octets got read gave);
-      few = omega arith;
-      near = omega (arith, behind, all-got, many, near);
+      few = omega (arith, many, few, length-append octets h.front);
+      near = omega (arith, many, near, length-append h.rest rest, ap length cut, length-append fitting rest);
       bad = inl h.bad;
     }
 
@@ -55,16 +45,7 @@ pub stops-bad : (before old after : Option (List ℕ)) (most : ℕ) (octets got 
     → Consumes before old octets → Consumes old after got → got ≡ fitting ++ rest → length octets + length fitting ≤ most
     → length got ≤ 2 ^ 16 → BeginsCapture octets
     → StopsWithin octets fitting fault → IsInputFault (record { before = before; after = after; most = most }) fault
-stops-bad before old after most octets got fitting rest (faults.Capture piece) read gave cut few near begun stops = search bad-within
-stops-bad before old after most octets got fitting rest faults.Memory read gave cut few near begun stops = record {
-  front = octets;
-  last = got;
-  consumed = Consumes-trans before old after octets got read gave;
-  few = omega (arith, few);
-  begun = begun;
-  near = near;
-}
-stops-bad before old after most octets got fitting rest fault read gave cut few near begun stops = search
+stops-bad before old after most octets got fitting rest fault read gave cut few near begun stops = grind (arith, bad-within, Consumes-trans)
 
 -- a read that fails leaves what was read
 Consumes-kept : (before old after : Option (List ℕ)) (octets : List ℕ) → Consumes before old octets → Keeps old after → Consumes before after octets

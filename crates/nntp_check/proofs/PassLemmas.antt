@@ -1,9 +1,9 @@
 -- How octets of a capture are passed on to a sink.
 use Rattle.std.proofs.Common.{◌≡◌, ◌∙◌, ℕ, ◌+◌, ◌<◌, ◌≤◌, ◌^◌, List, ◌++◌, length, sym, ap, subst, append_assoc, arith, length-append, flat_map}
-use Rattle.std.proofs.lemmas.List.{append-nil}
+use Rattle.std.proofs.lemmas.{List.{append-nil}, Grind.{flat_map-append}}
 use Rattle.nntp_check.specs.{Capture.{Held, Part, spelled}, Inner.{CaptureReading.{IsAt, HasRead, HasBadFront, Reads}, Sinks.{HasRoom, Takes, BothStand}}}
 use Rattle.nntp_check.specs.{Inner.Sinks.{PassesOn, StopsWithin}, declared.capture_reader.{CaptureReader.{CaptureReader}, Passage.{Passage}, Place.{Place}}}
-use Rattle.nntp_check.{specs.declared.run_fault.RunFault.{RunFault}, proofs.{HoldingLemmas.{last_octets, captured-few}, ReadingLemmas.{flat_map-append}}}
+use Rattle.nntp_check.{specs.declared.run_fault.RunFault.{RunFault}, proofs.HoldingLemmas.{last_octets, captured-few}}
 use Rattle.nntp_check.specs.declared.run_fault.RunFault.TheVariants as faults
 
 -- ---- streams are shorter than their capture
@@ -16,16 +16,12 @@ begun-few place octets begun at = grind (arith, append-nil)
 streams-few : (reader : CaptureReader) (came : List ℕ) (held : Held) → HasRead reader came held → length held.last.session.client.octets + length held.last.session.server ≤ length came
 streams-few reader came held r =
     let h = r.come in
-    let begun = begun-few reader.place h.octets h.begun h.at in
-    let few = captured-few (h.parts ++ h.begun) in
-    grind (arith, last_octets, length-append, flat_map-append)
+    grind (arith, last_octets, length-append, flat_map-append, begun-few reader.place h.octets h.begun h.at, captured-few (h.parts ++ h.begun))
 
 -- so a sink has room for a front of what fits
 pub has-room : (reader : CaptureReader) (Stands : Held → Type 0) (came octets front rest : List ℕ)
     → BothStand reader Stands came → length came + length octets < 2 ^ 64 → octets ≡ front ++ rest → HasRoom Stands front
-has-room reader Stands came octets front rest both few cut =
-    let streams = streams-few reader came both.0 both.1 in
-    grind (arith, length-append)
+has-room reader Stands came octets front rest both few cut = grind (arith, length-append, streams-few reader came both.0 both.1)
 
 -- ---- octets that are passed on
 
@@ -58,9 +54,7 @@ pub left-room : (before after : CaptureReader) (Stood Stands : Held → Type 0) 
     → PassesOn before after Stood Stands octets rest → BothStand before Stood came → length came + length octets < 2 ^ 64
     → (more : List ℕ) × BothStand after Stands more × (length more + length rest < 2 ^ 64)
 left-room before after Stood Stands octets rest came p both few =
-    let all : length octets ≡ length p.front + length rest = ap length p.cut ∙ length-append p.front rest in
-    let more : length (came ++ p.front) ≡ length came + length p.front = length-append came p.front in
-    (came ++ p.front, p.stands came both, omega arith)
+    (came ++ p.front, p.stands came both, omega (arith, ap length p.cut, length-append p.front rest, length-append came p.front))
 
 -- a front that is bad behind some is bad behind all
 pub bad-behind : (came octets front rest : List ℕ) (piece : ℕ) → octets ≡ front ++ rest → HasBadFront (came ++ front) rest piece → HasBadFront came octets piece

@@ -7,8 +7,8 @@ use Rattle.nntp_wire.{specs.Number.{number_value}, proofs.NumberLemmas.{one_digi
 use Rattle.nntp_check.specs.Capture.{Part, Captured, word_of, spelled, count_of, continued, captured_by, has_session, AreCapture, BeginsNoPiece, IsBadPiece}
 use Rattle.nntp_check.specs.Inner.CaptureReading.{IsAt, IsInWord, IsInDigits, IsInOctets, IsInLine, IsOpen, HasCome, HasRead, HasBadFront, CantGoOn, GoesOn}
 use Rattle.nntp_check.specs.{Inner.CaptureReading.{captured, reached}, declared.source.Source.{Source, TheVariants.{Client, Server}}}
-use Rattle.nntp_check.{specs.declared.capture_reader.{CaptureReader.{CaptureReader}, Place.{Place}}, proofs.CaptureLemmas.{one_word, spelled-append, counted}}
-use Rattle.nntp_check.proofs.{FirstPiece.{one_line}, HoldingLemmas.{captured-snoc, piece-begins, piece-grows}}
+use Rattle.nntp_check.{specs.declared.capture_reader.{CaptureReader.{CaptureReader}, Place.{Place}}, proofs.CaptureLemmas.{one_word, one_line, spelled-append}}
+use Rattle.nntp_check.proofs.{CaptureLemmas.{counted, spelled-longer}, HoldingLemmas.{captured-snoc, piece-begins, piece-grows}}
 use Rattle.nntp_check.specs.declared.capture_reader.Place.TheVariants as places
 
 -- ---- what came of a piece that has begun
@@ -16,11 +16,6 @@ use Rattle.nntp_check.specs.declared.capture_reader.Place.TheVariants as places
 -- within a first line no octet of a source has come
 pub none-begun : (place : Place) (octets : List ℕ) (begun : List Part) → IsInLine place → IsAt place octets begun → begun ≡ []
 none-begun place octets begun line at = grind arith
-
--- parts, and then others
-pub flat_map-append : {X : Type 0} (f : X → List ℕ) (xs ys : List X) → flat_map f (xs ++ ys) ≡ flat_map f xs ++ flat_map f ys
-flat_map-append f [] ys = refl
-flat_map-append f (x ∷ xs) ys = ap (λ t. f x ++ t) (flat_map-append f xs ys) ∙ sym (append_assoc (f x) (flat_map f xs) (flat_map f ys))
 
 -- a front of no octets is none
 pub front-nil : (a b : List ℕ) → a ++ b ≡ [] → (a ≡ []) × (b ≡ [])
@@ -43,9 +38,8 @@ pub first-octet : (octets front rest : List ℕ) → 0 < length octets → front
 first-octet octets front rest some f r = grind arith
 
 -- octets do not end before one of them
-not-nil : (xs : List ℕ) (x : ℕ) (ys : List ℕ) → xs ++ x ∷ ys ≢ []
-not-nil [] x ys e = cc
-not-nil (z ∷ xs) x ys e = cc
+pub not-nil : (xs : List ℕ) (x : ℕ) (ys : List ℕ) → xs ++ x ∷ ys ≢ []
+not-nil xs x ys e = let none : x ∷ ys ≡ [] = (front-nil xs (x ∷ ys) e).1 in cc
 
 -- or none
 pub cant-go-on : (number octet : ℕ) (place : Place) (came : List ℕ) (captured : Captured) (octets rest : List ℕ) → IsInLine place
@@ -81,11 +75,7 @@ octets-come number left source came captured front behind h many =
       captured_is = grind (arith, captured-snoc, piece-grows);
     }
 
--- a piece has more than one octet
-spelled-longer : (p : Part) → 1 < length (spelled p)
-spelled-longer p = grind (arith, length-append)
-
--- so pieces are at most half as many as octets
+-- pieces are at most half as many as octets
 pieces-few : (ps : List Part) → length ps + length ps ≤ length (flat_map spelled ps)
 pieces-few [] = omega arith
 pieces-few (p ∷ ps) = grind (arith, spelled-longer, length-append, pieces-few ps)
@@ -108,11 +98,15 @@ read-on after came c come open_there several session = grind arith
 pub ends-whole : (number : ℕ) (came : List ℕ) (captured : Captured) → HasCome number places.Start came captured → AreCapture came captured
 ends-whole number came captured h = grind (arith, append-nil)
 
+-- digits up to LF are no fewer than those of which they begin
+pub no-fewer : (ds es more after : List ℕ) → list_all is_ascii_digit ds ≡ true → ds ++ more ≡ es ++ 10 ∷ after → length ds ≤ length es
+no-fewer [] es more after each e = omega arith
+no-fewer (d ∷ ds) [] more after each e = let is : d ≡ 10 = cc in absurd (true≢false (sym each ∙ ap (λ x. list_all is_ascii_digit (x ∷ ds)) is))
+no-fewer (d ∷ ds) (c ∷ es) more after each e = grind (arith, and_parts, no-fewer ds es more after)
+
 -- digits have no line feed
-no-line-feed : (es ds more : List ℕ) → list_all is_ascii_digit ds ≡ true → es ++ 10 ∷ more ≢ ds
-no-line-feed [] ds more each e = cc
-no-line-feed (c ∷ es) [] more each e = cc
-no-line-feed (c ∷ es) (d ∷ ds) more each e = grind (arith, and_parts, no-line-feed es ds more)
+pub no-line-feed : (es ds more : List ℕ) → list_all is_ascii_digit ds ≡ true → es ++ 10 ∷ more ≢ ds
+no-line-feed es ds more each e = omega (arith, no-fewer ds es [] more each (append-nil ds ∙ sym e), ap length e, length-append es (10 ∷ more))
 
 -- two letters begin no piece
 cut-letters : (s : Source) (ds os more : List ℕ) → 115 ∷ 101 ∷ [] ≢ (word_of s ++ ds ++ 10 ∷ os) ++ more
@@ -123,19 +117,15 @@ cut-line : (place : Place) (octets : List ℕ) (begun : List Part) → IsAt plac
 cut-line place octets begun at cut p more is e =
     search (arith, spelled-longer, length-append, cut-letters, append_assoc, spelled-append, append-nil, one_word, not-nil, no-line-feed, one_line, counted)
 
--- the client is not the server
-two-sources : Client ≢ Server
-two-sources e = cc
-
 -- some octets came of a piece that has begun
 some-octets : (place : Place) (octets : List ℕ) (begun : List Part) → IsAt place octets begun → place ≢ places.Start → octets ≢ []
 some-octets places.Start octets begun at other e = other refl
 some-octets places.LetterS octets begun at other e = let is : ◌≡◌ {A = List ℕ} (115 ∷ []) [] = sym at.0 ∙ e in cc
 some-octets places.LettersSe octets begun at other e = let is : ◌≡◌ {A = List ℕ} (115 ∷ 101 ∷ []) [] = sym at.0 ∙ e in cc
 some-octets (places.Word source rest) octets begun at other e =
-    absurd (two-sources (at.0.one Client (word_of Client) []
-    (ap (λ t. t ++ word_of Client) e ∙ sym (append-nil (word_of Client)))
-    ∙ sym (at.0.one Server (word_of Server) [] (ap (λ t. t ++ word_of Server) e ∙ sym (append-nil (word_of Server))))))
+    let client : Client ≡ source = at.0.one Client (word_of Client) [] (ap (λ t. t ++ word_of Client) e ∙ sym (append-nil (word_of Client))) in
+    let server : Server ≡ source = at.0.one Server (word_of Server) [] (ap (λ t. t ++ word_of Server) e ∙ sym (append-nil (word_of Server))) in
+    cc
 some-octets place octets begun at other e = grind (arith, spelled-longer)
 
 -- where a piece has begun and isn't whole, it is bad

@@ -34,9 +34,7 @@ verdict-within limit marks sessions (bad_of_all j k class command reply) verdict
   where
     by : (o : Option Recorded) → slice_get (unnamed sessions) j ≡ o → MatchOption o ⊥ (λ s. StopsAt s.client s.server k class command reply) → j < length (names_of sessions)
     by None e p = absurd p
-    by (Some s) e p =
-        let within = slice_get_within (unnamed sessions) j s e in
-        grind (arith, length-map)
+    by (Some s) e p = grind (arith, length-map, slice_get_within (unnamed sessions) j s e)
 
 -- a report of which the writer took a front is cut short
 pub cut-short : (Reports : Captured → List ℕ → Bool → Type 0) (input : Input) (old new : Option (List ℕ)) (captured : Captured) (text lent left : List ℕ) (answer : Bool)

@@ -80,9 +80,8 @@ report-snoc number (x ∷ shown) s = grind (arith, append_assoc, report-snoc (nu
 -- sessions as they are shown, and one more
 shown-snoc : (sessions : List Named) (shown : List ShownSession) (named : Named) (s : ShownSession) → AreShown sessions shown → IsShownAs named s → AreShown (sessions ++ named ∷ []) (shown ++ s ∷ [])
 shown-snoc [] [] named s are is = (is, tt)
-shown-snoc [] (x ∷ shown) named s are is = absurd are
-shown-snoc (n ∷ sessions) [] named s are is = absurd are
 shown-snoc (n ∷ sessions) (x ∷ shown) named s are is = (are.0, shown-snoc sessions shown named s are.1 is)
+shown-snoc sessions shown named s are is = grind arith
 
 -- a session that is shown to its end stands behind those that have ended
 pub session-ended : (many : ℕ) (before : List ℕ) (were : Bool) (sessions : List Named) (named : Named) (text : List ℕ) (answered : Bool) → AreReported many before were sessions
@@ -107,8 +106,5 @@ one-reported c text answered alone one last =
       shown = s ∷ [];
       are_shown = subst (λ ended. AreShown (ended ++ c.held.last ∷ []) (s ∷ [])) (sym (alone one)) (last.is_shown, tt);
       text_is = last.text_is ∙ sym (append-nil (session_text s)) ∙ ap (λ b. shown_report b 1 (s ∷ [])) (sym one);
-      answer_is = last.answered_is ∙ and-nothing (is_end s.ending);
+      answer_is = grind (arith, last.answered_is);
     }
-  where
-    and-nothing : (b : Bool) → b ≡ (b && true)
-    and-nothing b = grind arith

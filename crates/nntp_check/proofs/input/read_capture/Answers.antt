@@ -1,7 +1,7 @@
-use Rattle.std.proofs.Common.{◌≡◌, ℕ, [], ◌++◌, take, drop, refl, sym, subst, arith, length-append, length-take, length-drop}
-use Rattle.std.{proofs.{lemmas.Result.{err_from_is_err_and}, KnownBytes.{Consumes-nil, Consumes-trans}}, specs.Io.KnownBytes.{Consumes}}
-use Rattle.nntp_check.{specs.{declared.run_fault.RunFault.TheVariants.{Read}, Capture.{nothing}}, proofs.BegunLemmas.{begins-capture}}
-use Rattle.nntp_check.proofs.InputLemmas.{all-passed, ends-bad, stops-bad, stops-unread, reads-more, read-fails, take-split, still-fresh, stays-same}
+use Rattle.std.proofs.{Common.{◌≡◌, ℕ, ◌++◌, take, drop, sym, subst, arith, length-append, length-take, length-drop}, lemmas.Result.{err_from_is_err_and}}
+use Rattle.std.{proofs.KnownBytes.{Consumes-nil, Consumes-trans}, specs.Io.KnownBytes.{Consumes}}
+use Rattle.nntp_check.{specs.declared.run_fault.RunFault.TheVariants.{Read}, proofs.{BegunLemmas.{begins-capture}, InputLemmas.{all-passed, ends-bad}}}
+use Rattle.nntp_check.proofs.InputLemmas.{stops-bad, stops-unread, reads-more, read-fails, take-split, still-fresh, stays-same}
 use Rattle.nntp_check.proofs.input.read_capture.Goals as goal
 
 pub returns-in_err-finish-clause-err : goal.returns-in_err-finish-clause-err
@@ -62,16 +62,7 @@ returns-then-fitting-count-clause-err g c =
     (begins-capture _ _ _ _ both.1.come)
 
 pub loop-count-init : goal.loop-count-init
-loop-count-init g c = (
-  [],
-  record {
-    read = Consumes-nil (g.R.Read.remaining c.args.input.now.inner);
-    many = refl;
-    few = omega arith;
-    stands = λ by stands. (nothing, c.new-reader.ensures, stands);
-    same = refl;
-  },
-)
+loop-count-init g c = search (arith, Consumes-nil)
 
 pub loop-count-preserved : goal.loop-count-preserved
 loop-count-preserved g c =
