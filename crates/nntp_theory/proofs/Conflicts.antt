@@ -1,30 +1,22 @@
 -- With which earlier answers a bad answer conflicts.
-use Rattle.std.proofs.Common.{map, length-append, ◌≡◌, ℕ, zero, suc, ◌+◌, ◌<◌, ◌≤◌, ◌^◌, ◌⊎◌, ◌↔◌, IsTrue, List, [], ◌∷◌, ◌++◌, length, Option, Some, inl, inr}
-use Rattle.std.proofs.{Common.{refl, sym, ap, subst, ◌∙◌, arith}, lemmas.{Bool.{cases_lt, cases_eq, true≢false, not-true}, List.{length-map}}}
-use Rattle.std.specs.{Prelude.{not, Contains}, List.{AllByRecursion, flat_map}, Cmp.{nat_cmp_total}, FinMap.{len-entries}}
+use Rattle.std.proofs.Common.{append-nil, map, length-append, ◌≡◌, ℕ, zero, suc, ◌+◌, ◌<◌, ◌≤◌, ◌^◌, ◌⊎◌, ◌↔◌, IsTrue, List, [], ◌∷◌, ◌++◌, length, Option}
+use Rattle.std.proofs.{Common.{Some, inl, inr, refl, sym, ap, subst, ◌∙◌, arith}, lemmas.{Grind.{flat_map-append}, Bool.{cases_lt, cases_eq, true≢false}}}
+use Rattle.std.{proofs.lemmas.{Bool.{not-true}, List.{length-map}}, specs.{Prelude.{not, Contains}, List.{AllByRecursion, flat_map}, Cmp.{nat_cmp_total}}}
+use Rattle.std.specs.FinMap.{len-entries}
 use Rattle.nntp_said.specs.{declared.position.Position.{Position, TheVariants.{Nowhere}}, Asks.{position_after}, Facts.{Fact, Holds, ThereIs, Asks, IdAt}}
-use Rattle.nntp_said.{specs.{Facts.{facts_of, facts_from, group_of}, Inner.Facts.{FitsAll}}, proofs.{CurrentArticle.{run_from}, FactsHold.{run_of_facts}}}
+use Rattle.nntp_said.specs.{Facts.{facts_of, facts_from, group_of}, Inner.Facts.{FitsAll}}
 use Rattle.nntp_theory.specs.{Classes.{visible_from, position_from, asked_next}, Inner.{Permits.{SomePermits}, Given.{size}, Together.{Together}}}
 use Rattle.nntp_theory.specs.{Inner.Conflict.{FitsThere, AreFound, IsPartOfCore}, Given.{asks_of}, Together.{is_possible}, Conflict.{Placed, placed_from}}
 use Rattle.nntp_theory.specs.Conflict.{said as said_there, a_group, the_group, with_group, told, SomeHas, told_at, told_with, below, IsCore, Point, Step, Group}
 use Rattle.nntp_theory.specs.Conflict.{Number, Count, First, IdOf, PlaceOf, Article, HeadOf, BodyOf, ConflictAt, AreAmong, IsEndOfCore}
-use Rattle.nntp_theory.proofs.{Maps.{keys_among}, Given.{GivenPermits.{said}, ConstructedSpool.{made}, GivenHasFacts.{given_of_facts, given_has}}}
-use Rattle.nntp_theory.proofs.Session.{OneMoreAnswer.{facts_grow}, NumbersOfShownGroups.{Placed as IsPlaced, Among, session_placed}}
-use Rattle.nntp_theory.proofs.{Session.{GroupOfAnAnswer.{same_selected}, FittingFacts.{IsFitting, answer_fitting}}, Members.{In, all_at, all_from, all_both}}
-use Rattle.nntp_theory.proofs.Members.{all_front, all_back, in_front, in_back, in_cases, in_map, found_in, to_flat, from_flat, contains_in, in_contains}
-use Rattle.nntp_theory.proofs.Together.FactsOfASpoolStand.{stand}
+use Rattle.nntp_theory.proofs.{PointsByRank.{each}, Maps.{keys_among}, Given.{GivenPermits.{said, permits}, ConstructedSpool.{made}}}
+use Rattle.nntp_theory.proofs.{Given.GivenHasFacts.{given_of_facts, given_has}, Session.{OneMoreAnswer.{facts_grow}, NumbersOfShownGroups.{Placed as IsPlaced}}}
+use Rattle.nntp_theory.proofs.Session.{NumbersOfShownGroups.{Among, session_placed}, GroupOfAnAnswer.{same_selected}, FittingFacts.{IsFitting, answer_fitting}}
+use Rattle.nntp_theory.proofs.Members.{In, all_at, all_from, all_both, all_front, all_back, in_front, in_back, in_cases, in_map, found_in, to_flat, from_flat}
+use Rattle.nntp_theory.proofs.{Members.{contains_in, in_contains, all_part, all_parts}, Together.FactsOfASpoolStand.{stand}}
 use Rattle.nntp_wire.specs.{Answer.{Asked, Response}, declared.marks.Marks.{Marks, TheVariants.{Lenient}}}
 use Rattle.nntp_article.specs.Session.{Spool.{Spool, IsSpool, IsGroup, IsNumber, numbers, Name}, Machine.{Visible, visible_after, start, fits}}
 use Rattle.nntp_article.specs.declared.session.profile.Profile.{Profile}
-
--- ---- what fits, is placed and stands together is had by some spool
-
-pub some_has : (profile : Profile) (facts : List Fact) → AllByRecursion (IsFitting profile) facts
-    → AllByRecursion (IsPlaced Lenient facts) facts → size facts < 2 ^ 210 → Together facts → SomeHas profile facts
-some_has profile facts fitting placed small together =
-    let G = made profile.limit (10 ^ 64) facts in
-    let has = given_has profile Lenient G facts fitting placed together small (given_of_facts profile Lenient facts fitting placed small) in
-    (G, has.0, has.1)
 
 -- ---- what answers say, where each fits
 
@@ -56,14 +48,28 @@ told_own profile S facts h = all_back (Holds S) (the_group profile (group_of fac
 pub record AreTold (profile : Profile) (facts : List Fact) : Type 0 where
   pub source : (fact : Fact) → In fact facts → (a : Placed) × FitsThere profile a × In fact (told profile a) × AllByRecursion (Among facts) (told profile a)
 
+-- what each such answer's facts have, they have
+pub each_told : (profile : Profile) (facts : List Fact) (P : Fact → Type 0) → AreTold profile facts
+    → ((a : Placed) → FitsThere profile a → AllByRecursion (Among facts) (told profile a) → AllByRecursion P (told profile a)) → AllByRecursion P facts
+each_told profile facts P t h = all_from P facts (λ fact i. let s = t.source fact i in all_at P fact (told profile s.0) (h s.0 s.1 s.3) s.2)
+
+-- they fit, and are placed
+pub told_fit : (profile : Profile) (facts : List Fact) → AreTold profile facts
+    → AllByRecursion (IsFitting profile) facts × AllByRecursion (IsPlaced Lenient facts) facts
+told_fit profile facts t = (
+  each_told profile facts (IsFitting profile) t (λ a f i. told_fitting profile a f),
+  each_told profile facts (IsPlaced Lenient facts) t (λ a f. told_placed profile facts a),
+)
+
 -- some spool has them exactly if they stand together
 pub told_together : (profile : Profile) (facts : List Fact) → AreTold profile facts → size facts < 2 ^ 210 → SomeHas profile facts ↔ Together facts
 told_together profile facts t small = (
   λ h. stand profile.limit h.0 facts h.1 h.2,
-  λ together. some_has profile facts
-      (all_from (IsFitting profile) facts (λ fact i. let s = t.source fact i in all_at (IsFitting profile) fact (told profile s.0) (told_fitting profile s.0 s.1) s.2))
-      (all_from (IsPlaced Lenient facts) facts (λ fact i. let s = t.source fact i in all_at (IsPlaced Lenient facts) fact (told profile s.0) (told_placed profile facts s.0 s.3) s.2))
-      small together,
+  λ together.
+      let G = made profile.limit (10 ^ 64) facts in
+      let fit = told_fit profile facts t in
+      let has = given_has profile Lenient G facts fit.0 fit.1 together small (given_of_facts profile Lenient facts fit.0 fit.1 small) in
+      (G, has.0, has.1),
 )
 
 -- what is told by answers
@@ -74,38 +80,28 @@ all_told profile answers fits = record {
       (f.0, all_at (FitsThere profile) f.0 answers fits f.1, f.2, all_from (Among (flat_map (told profile) answers)) (told profile f.0) (λ other j. to_flat (told profile) f.0 other answers f.1 j));
 }
 
--- what is told at a place is told by an answer
-told_there : (profile : Profile) (answers : List Placed) (k : ℕ) (fact : Fact) → AllByRecursion (FitsThere profile) answers → In fact (told_at profile answers k)
-    → (a : Placed) × FitsThere profile a × (told_at profile answers k ≡ told profile a)
-told_there profile (a ∷ answers) (suc k) fact fits i = told_there profile answers k fact fits.1 i
-told_there profile answers k fact fits i = grind arith
+-- what is told at a place is told by an answer, or nothing is
+told_there : (profile : Profile) (answers : List Placed) (k : ℕ) → AllByRecursion (FitsThere profile) answers
+    → (some : List Placed) × AllByRecursion (FitsThere profile) some × (told_at profile answers k ≡ flat_map (told profile) some)
+told_there profile [] k fits = ([], tt, refl)
+told_there profile (a ∷ answers) zero fits = (a ∷ [], (fits.0, tt), sym (append-nil (told profile a)))
+told_there profile (a ∷ answers) (suc k) fits = told_there profile answers k fits.1
+
+-- and so what is told at places
+told_places : (profile : Profile) (answers : List Placed) (places : List ℕ) → AllByRecursion (FitsThere profile) answers
+    → (some : List Placed) × AllByRecursion (FitsThere profile) some × (flat_map (told_at profile answers) places ≡ flat_map (told profile) some)
+told_places profile answers [] fits = ([], tt, refl)
+told_places profile answers (k ∷ places) fits =
+    let a = told_there profile answers k fits in
+    let r = told_places profile answers places fits in
+    (a.0 ++ r.0, all_both (FitsThere profile) a.0 r.0 a.1 r.1, (λ i. a.2 i ++ r.2 i) ∙ sym (flat_map-append (told profile) a.0 r.0))
 
 -- what is told by an answer with those at the places
 pub with_told : (profile : Profile) (bad : Placed) (answers : List Placed) (places : List ℕ) → FitsThere profile bad
     → AllByRecursion (FitsThere profile) answers → AreTold profile (told_with profile bad answers places)
-with_told profile bad answers places fit fits = record { source = λ fact i. by fact (in_cases fact (told profile bad) others i) }
-  where
-    others : List Fact
-    others = flat_map (told_at profile answers) places
-
-    all : List Fact
-    all = told profile bad ++ others
-
-    Source : Fact → Type 0
-    Source fact = (a : Placed) × FitsThere profile a × In fact (told profile a) × AllByRecursion (Among all) (told profile a)
-
-    by : (fact : Fact) → In fact (told profile bad) ⊎ In fact others → Source fact
-    by fact (inl j) = (bad, fit, j, all_from (Among all) (told profile bad) (λ other l. in_front other (told profile bad) others l))
-    by fact (inr j) =
-        let f = from_flat (told_at profile answers) fact places j in
-        let a = told_there profile answers f.0 fact fits f.2 in (
-          a.0,
-          a.1,
-          subst (λ facts. In fact facts) a.2 f.2,
-          all_from (Among all) (told profile a.0)
-              (λ other l. in_back other (told profile bad) others
-              (to_flat (told_at profile answers) f.0 other places f.1 (subst (λ facts. In other facts) (sym a.2) l))),
-        )
+with_told profile bad answers places fit fits =
+    let others = told_places profile answers places fits in
+    subst (AreTold profile) (ap (λ facts. told profile bad ++ facts) (sym others.2)) (all_told profile (bad ∷ others.0) (fit, others.1))
 
 -- the answers of a session that fits fit where they stand
 pub session_fits : (profile : Profile) (v : Visible) (at : Position) (ps : List Asked) (answers : List Response)
@@ -117,12 +113,7 @@ session_fits profile v at ps answers f = tt
 pub session_told : (profile : Profile) (S : Spool) (v : Visible) (at : Position) (ps : List Asked) (answers : List Response)
     → AllByRecursion (Holds S) (flat_map (told profile) (placed_from v at ps answers)) → AllByRecursion (Holds S) (facts_from profile.marks v at ps answers)
 session_told profile S v at (p ∷ ps) (a ∷ more) h =
-    let rest = flat_map (told profile) (placed_from (visible_after v p a) (position_after at p a) ps more) in
-    let here : Placed = record { selected = v.selected; position = at; asked = p; response = a } in
-    let own = said_there profile.marks here in
-    all_both (Holds S) (facts_of profile.marks v at p a) (facts_from profile.marks (visible_after v p a) (position_after at p a) ps more)
-    (subst (AllByRecursion (Holds S)) (sym (there_said profile.marks here v refl)) (told_own profile S own (all_front (Holds S) (with_group profile own) rest h)))
-    (session_told profile S (visible_after v p a) (position_after at p a) ps more (all_back (Holds S) (with_group profile own) rest h))
+    grind (arith, all_front, all_back, all_both, there_said, told_own, session_told profile S (visible_after v p a) (position_after at p a) ps more)
 session_told profile S v at ps answers h = tt
 
 -- ---- fewer facts
@@ -133,17 +124,16 @@ fewer profile facts more sub h = (h.0, h.1, all_from (Holds h.0) facts (λ fact 
 -- ---- finding a core
 
 module _ (profile : Profile) (bad : Placed) (answers : List Placed) where
-  -- more places tell more
-  pub told_more : (xs ys : List ℕ) → ((k : ℕ) → In k xs → In k ys) → (fact : Fact) → In fact (told_with profile bad answers xs) → In fact (told_with profile bad answers ys)
-  told_more xs ys sub fact i = elim (in_cases fact (told profile bad) (flat_map (told_at profile answers) xs) i) [
-    | inl j ↦ in_front fact (told profile bad) (flat_map (told_at profile answers) ys) j
-    | inr j ↦ (let f = from_flat (told_at profile answers) fact xs j in
-        in_back fact (told profile bad) (flat_map (told_at profile answers) ys) (to_flat (told_at profile answers) f.0 fact ys (sub f.0 f.1) f.2))
-  ]
-
   -- fewer places
   pub fewer_places : (xs ys : List ℕ) → ((k : ℕ) → In k xs → In k ys) → SomeHas profile (told_with profile bad answers ys) → SomeHas profile (told_with profile bad answers xs)
-  fewer_places xs ys sub h = fewer profile (told_with profile bad answers xs) (told_with profile bad answers ys) (told_more xs ys sub) h
+  fewer_places xs ys sub (S, spool, h) =
+      let at = told_at profile answers in
+      let others = all_back (Holds S) (told profile bad) (flat_map at ys) h in (
+        S,
+        spool,
+        all_both (Holds S) (told profile bad) (flat_map at xs) (all_front (Holds S) (told profile bad) (flat_map at ys) h)
+            (all_parts (Holds S) at xs (λ k i. all_part (Holds S) at k ys (sub k i) others)),
+      )
 
 -- what stands at places with the bad answer
 abbrev StandsWith : Profile → Placed → List Placed → List ℕ → Type 0
@@ -152,18 +142,20 @@ StandsWith profile bad answers places = SomeHas profile (told_with profile bad a
 -- a place below the bound is one of those
 in_below : (k bound : ℕ) → k < bound → In k (below bound)
 in_below k zero l = absurd (omega arith)
-in_below k (suc bound) l = elim (cases_lt k bound) [
-  | inl lt ↦ in_front k (below bound) (bound ∷ []) (in_below k bound lt)
-  | inr le ↦ in_back k (below bound) (bound ∷ []) (inl (let e : bound ≡ k = omega arith in e))
-]
+in_below k (suc bound) l = grind (arith, cases_lt, in_front, in_back, in_below k bound)
 
 -- and back
 pub from_below : (k bound : ℕ) → In k (below bound) → k < bound
 from_below k zero i = absurd i
-from_below k (suc bound) i = elim (in_cases k (below bound) (bound ∷ []) i) [
-  | inl j ↦ (let l = from_below k bound j in omega arith)
-  | inr j ↦ elim j [ inl e ↦ omega arith | inr none ↦ absurd none ]
-]
+from_below k (suc bound) i = elim (in_cases k (below bound) (bound ∷ []) i) [ inl j ↦ omega (arith, from_below k bound j) | inr j ↦ grind arith ]
+
+-- one of those below a bound and of others is below it or one of the others
+low_cases : (k bound : ℕ) (xs : List ℕ) → In k (below bound ++ xs) → (k < bound) ⊎ In k xs
+low_cases k bound xs i = elim (in_cases k (below bound) xs i) [ inl low ↦ inl (from_below k bound low) | inr there ↦ inr there ]
+
+-- and back
+low_from : (k bound : ℕ) (xs : List ℕ) → (k < bound) ⊎ In k xs → In k (below bound ++ xs)
+low_from k bound xs h = elim h [ inl l ↦ in_front k (below bound) xs (in_below k bound l) | inr there ↦ in_back k (below bound) xs there ]
 
 -- what is found from a bound on is found from a lower one on
 lower : (Stand : List ℕ → Type 0) (bound low : ℕ) (places : List ℕ) → low ≤ bound → AreFound Stand bound places → AreFound Stand low places
@@ -187,31 +179,21 @@ pub core_step : (profile : Profile) (bad : Placed) (answers : List Placed) (boun
     → (SomeHas profile (told_with profile bad answers (below (k + 1) ++ places)) → ⊥) → IsPartOfCore profile bad answers k (k ∷ places)
 core_step profile bad answers bound k places p l within stands none = record {
   there = (omega arith, p.there);
-  conflict = λ h. none (fewer_places profile bad answers (below (k + 1) ++ places) (below k ++ k ∷ places) sub h);
+  conflict = λ h. none (fewer_places profile bad answers (below (k + 1) ++ places) (below k ++ k ∷ places)
+      (λ j i. grind (arith, low_from j k (k ∷ places), low_cases j (k + 1) places i)) h);
   found = (omega arith, stands, lower (StandsWith profile bad answers) bound (k + 1) places (omega arith) p.found);
 }
-  where
-    sub : (j : ℕ) → In j (below (k + 1) ++ places) → In j (below k ++ k ∷ places)
-    sub j i = elim (in_cases j (below (k + 1)) places i) [
-      | inl low ↦ (let lt = from_below j (k + 1) low in elim (cases_lt j k) [
-        | inl less ↦ in_front j (below k) (k ∷ places) (in_below j k less)
-        | inr le ↦ in_back j (below k) (k ∷ places) (inl (let e : k ≡ j = omega arith in e))
-      ])
-      | inr high ↦ in_back j (below k) (k ∷ places) (inr high)
-    ]
 
 pub core_done : (profile : Profile) (bad : Placed) (answers : List Placed) (bound : ℕ) (places : List ℕ)
     → IsPartOfCore profile bad answers bound places → (SomeHas profile (told_with profile bad answers places) → ⊥) → IsCore profile bad answers places
-core_done profile bad answers bound places p none = record { there = p.there; conflict = none; needed = needed }
-  where
-    needed : (front back : List ℕ) (k : ℕ) → places ≡ front ++ k ∷ back → SomeHas profile (told_with profile bad answers (front ++ back))
-    needed front back k e =
-        let s = split (StandsWith profile bad answers) bound front back k (subst (AreFound (StandsWith profile bad answers) bound) e p.found) in
-        fewer_places profile bad answers (front ++ back) (below k ++ back)
-        (λ j i. elim (in_cases j front back i) [
-          | inl f ↦ in_front j (below k) back (in_below j k (all_at (λ j. j < k) j front s.0 f))
-          | inr b ↦ in_back j (below k) back b
-        ]) s.2
+core_done profile bad answers bound places p none = record {
+  there = p.there;
+  conflict = none;
+  needed = λ front back k e.
+      let s = split (StandsWith profile bad answers) bound front back k (subst (AreFound (StandsWith profile bad answers) bound) e p.found) in
+      fewer_places profile bad answers (front ++ back) (below k ++ back)
+      (λ j i. grind (arith, low_from j k back, in_cases j front back i, all_at (λ j. j < k) j front s.0)) s.2;
+}
 
 -- ---- sessions
 
@@ -249,16 +231,20 @@ told_holds : (profile : Profile) (S : Spool) (all : List Fact) → IsSpool profi
     → AllByRecursion (Holds S) (flat_map (told profile) (placed_from v at ps answers))
 told_holds profile S all spool holds v at (q ∷ ps) (a ∷ more) h p =
     let here : Placed = record { selected = v.selected; position = at; asked = q; response = a } in
-    let own = said_there profile.marks here in
-    let same = there_said profile.marks here v refl in
+    let own = facts_of profile.marks v at q a in
     let rest = facts_from profile.marks (visible_after v q a) (position_after at q a) ps more in
-    let own_hold = subst (AllByRecursion (Holds S)) same (all_front (Holds S) (facts_of profile.marks v at q a) rest h) in
-    let own_placed = subst (AllByRecursion (IsPlaced profile.marks all)) same (all_front (IsPlaced profile.marks all) (facts_of profile.marks v at q a) rest p) in
-    all_both (Holds S) (with_group profile own) (flat_map (told profile) (placed_from (visible_after v q a) (position_after at q a) ps more))
-    (all_both (Holds S) (the_group profile (group_of own)) own (with_holds profile S all spool holds own own_placed) own_hold)
-    (told_holds profile S all spool holds (visible_after v q a) (position_after at q a) ps more
-    (all_back (Holds S) (facts_of profile.marks v at q a) rest h)
-    (all_back (IsPlaced profile.marks all) (facts_of profile.marks v at q a) rest p))
+    let later = told_holds profile S all spool holds (visible_after v q a) (position_after at q a) ps more in
+    grind (
+      arith,
+      there_said profile.marks here v refl,
+      with_holds profile S all spool holds own,
+      all_both,
+      all_front (Holds S) own rest h,
+      all_back (Holds S) own rest h,
+      all_front (IsPlaced profile.marks all) own rest p,
+      all_back (IsPlaced profile.marks all) own rest p,
+      later,
+    )
 told_holds profile S all spool holds v at ps answers h p = tt
 
 -- a session that fits is permitted exactly if some spool has what is told of it
@@ -267,13 +253,7 @@ pub session_had : (profile : Profile) (ps : List Asked) (answers : List Response
 session_had profile ps answers fits = (
   λ h. (let says = said profile h.0 ps answers h.2 in
       (h.0, h.1, told_holds profile h.0 (facts_from profile.marks start.visible Nowhere ps answers) h.1 says.1 start.visible Nowhere ps answers says.1 (session_placed profile ps answers fits))),
-  λ h. (
-    h.0,
-    h.1,
-    run_from profile h.0 start.visible Nowhere ps answers
-        (run_of_facts profile h.0 start.visible Nowhere ps answers fits
-        (session_told profile h.0 start.visible Nowhere ps answers h.2)),
-  ),
+  λ h. (h.0, h.1, permits profile h.0 ps answers fits (session_told profile h.0 start.visible Nowhere ps answers h.2)),
 )
 
 -- each answer has its place
@@ -286,11 +266,9 @@ in_places profile (b ∷ answers) a (inr i) = let r = in_places profile answers 
 pub all_places : (profile : Profile) (S : Spool) (answers : List Placed)
     → AllByRecursion (Holds S) (flat_map (told_at profile answers) (below (length answers)))
     → AllByRecursion (Holds S) (flat_map (told profile) answers)
-all_places profile S answers h = all_from (Holds S) (flat_map (told profile) answers) (λ fact i.
-    let f = from_flat (told profile) fact answers i in
-    let p = in_places profile answers f.0 f.1 in
-    all_at (Holds S) fact (flat_map (told_at profile answers) (below (length answers))) h
-    (to_flat (told_at profile answers) p.0 fact (below (length answers)) (in_below p.0 (length answers) p.1) (subst (λ facts. In fact facts) (sym p.2) f.2)))
+all_places profile S answers h = all_parts (Holds S) (told profile) answers (λ a i.
+    let p = in_places profile answers a i in
+    subst (AllByRecursion (Holds S)) p.2 (all_part (Holds S) (told_at profile answers) p.0 (below (length answers)) (in_below p.0 (length answers) p.1) h))
 
 -- a contradiction conflicts with the answers before it
 pub contradicts : (profile : Profile) (ps : List Asked) (answers : List Response) (asked : Asked) (response : Response) → asked_next ps answers ≡ Some asked
@@ -309,20 +287,13 @@ contradicts profile ps answers asked response comes fits none (S, spool, holds) 
     let bad : Placed = record { selected = v.selected; position = at; asked = asked; response = response } in
     let placed = placed_from start.visible Nowhere ps answers in
     let others = flat_map (told_at profile placed) (below (length placed)) in
-    let own = subst (AllByRecursion (Holds S)) (sym (there_said profile.marks bad v refl)) (told_own profile S (said_there profile.marks bad) (all_front (Holds S) (told profile bad) others holds)) in
+    let own = told_own profile S (said_there profile.marks bad) (all_front (Holds S) (told profile bad) others holds) in
     let before = session_told profile S start.visible Nowhere ps answers (all_places profile S placed (all_back (Holds S) (told profile bad) others holds)) in
-    let all = subst (AllByRecursion (Holds S))
-    (sym (facts_grow profile.marks start.visible Nowhere ps answers asked response comes))
-    (all_both (Holds S) (facts_from profile.marks start.visible Nowhere ps answers)
-    (facts_of profile.marks v at asked response) before own) in
-    none (S, spool, run_from profile S start.visible Nowhere ps (answers ++ response ∷ []) (run_of_facts profile S start.visible Nowhere ps (answers ++ response ∷ []) fits all))
+    let all : AllByRecursion (Holds S) (facts_from profile.marks start.visible Nowhere ps (answers ++ response ∷ [])) =
+    grind (arith, facts_grow profile.marks start.visible Nowhere ps answers asked response comes, all_both, there_said profile.marks bad v refl, before, own) in
+    none (S, spool, permits profile S ps (answers ++ response ∷ []) fits all)
 
 -- ---- what is found is in each conflict
-
--- a place is one of some, or isn't
-in_or_not : (k : ℕ) (xs : List ℕ) → In k xs ⊎ (In k xs → ⊥)
-in_or_not k [] = inr (λ i. i)
-in_or_not k (x ∷ xs) = grind (arith, cases_eq, in_or_not k xs)
 
 -- an element splits the list
 pub split_at : (k : ℕ) (xs : List ℕ) → In k xs → (front : List ℕ) × (back : List ℕ) × (xs ≡ front ++ k ∷ back)
@@ -334,25 +305,21 @@ split_at k (x ∷ xs) (inr i) = let r = split_at k xs i in (x ∷ r.0, r.1, ap (
 pub found_in_each : (profile : Profile) (bad : Placed) (answers : List Placed) (bound : ℕ) (places some : List ℕ) (k : ℕ)
     → IsPartOfCore profile bad answers bound places → ((j : ℕ) → In j some → In j (below bound ++ places))
     → (SomeHas profile (told_with profile bad answers some) → ⊥) → In k places → In k some
-found_in_each profile bad answers bound places some k p among none i = elim (in_or_not k some) [ inl there ↦ there | inr out ↦ absurd (none (stands out)) ]
-  where
-    at : (front : List ℕ) × (back : List ℕ) × (places ≡ front ++ k ∷ back)
-    at = split_at k places i
-
-    cut : AllByRecursion (λ j. j < k) at.0 × (bound ≤ k) × StandsWith profile bad answers (below k ++ at.1)
-    cut = split (StandsWith profile bad answers) bound at.0 at.1 k (subst (AreFound (StandsWith profile bad answers) bound) at.2 p.found)
-
-    within : (In k some → ⊥) → (j : ℕ) → In j some → In j (below k ++ at.1)
-    within out j t = elim (in_cases j (below bound) places (among j t)) [
-      | inl low ↦ (let l = from_below j bound low in let b = cut.1 in in_front j (below k) at.1 (in_below j k (omega arith)))
-      | inr high ↦ elim (in_cases j at.0 (k ∷ at.1) (subst (In j) at.2 high)) [
-        | inl front ↦ in_front j (below k) at.1 (in_below j k (all_at (λ j. j < k) j at.0 cut.0 front))
-        | inr rest ↦ elim rest [ inl e ↦ absurd (out (subst (λ j. In j some) (sym e) t)) | inr back ↦ in_back j (below k) at.1 back ]
-      ]
+found_in_each profile bad answers bound places some k p among none i =
+    let at = split_at k places i in
+    let cut = split (StandsWith profile bad answers) bound at.0 at.1 k (subst (AreFound (StandsWith profile bad answers) bound) at.2 p.found) in
+    elim (each (In k some) (λ j. j ≡ k → ⊥) some (λ j t. elim (cases_eq j k) [ inl e ↦ inl (subst (λ j. In j some) e t) | inr ne ↦ inr ne ])) [
+      | inl there ↦ there
+      | inr out ↦ absurd (none (fewer_places profile bad answers some (below k ++ at.1) (λ j t. grind (
+        arith,
+        low_cases j bound places (among j t),
+        all_at (λ j. j ≡ k → ⊥) j some out t,
+        low_from j k at.1,
+        subst (In j) at.2,
+        in_cases j at.0 (k ∷ at.1),
+        all_at (λ j. j < k) j at.0 cut.0,
+      )) cut.2))
     ]
-
-    stands : (In k some → ⊥) → SomeHas profile (told_with profile bad answers some)
-    stands out = fewer_places profile bad answers some (below k ++ at.1) (within out) cut.2
 
 -- ---- where facts conflict
 
@@ -371,25 +338,16 @@ at_point facts (Article id) h t = true≢false (sym h.1 ∙ t.articles id h.0)
 at_point facts (HeadOf id) h t = h (t.heads id)
 at_point facts (BodyOf id) h t = h (t.bodies id)
 
--- one of the places is below the bound, or none is
-low_or_not : (bound : ℕ) (places : List ℕ) → ((k : ℕ) × (k < bound) × In k places) ⊎ ((k : ℕ) → In k places → bound ≤ k)
-low_or_not bound [] = inr (λ k i. absurd i)
-low_or_not bound (j ∷ places) =
-    elim (cases_lt j bound) [
-      | inl l ↦ inl (j, l, inl refl)
-      | inr le ↦ grind (arith, low_or_not bound places)
-    ]
-
 -- each conflict among those below the bound and those at the places has one below the bound
 pub one_below : (profile : Profile) (bad : Placed) (answers : List Placed) (bound : ℕ) (places some : List ℕ) → IsEndOfCore profile bad answers bound places
     → AreAmong some (below bound ++ places) → (SomeHas profile (told_with profile bad answers some) → ⊥) → (k : ℕ) × (k < bound) × Contains some k
-one_below profile bad answers bound places some e among none = elim (low_or_not bound some) [
-  | inl there ↦ (there.0, there.1, contains_in there.0 some there.2)
-  | inr high ↦ absurd (none (fewer_places profile bad answers some places (sub high) e.stand))
-]
-  where
-    sub : ((k : ℕ) → In k some → bound ≤ k) → (k : ℕ) → In k some → In k places
-    sub high k i = elim (in_cases k (below bound) places (in_contains k (below bound ++ places) (among k (contains_in k some i)))) [
-      | inl low ↦ (let l = from_below k bound low in let le = high k i in absurd (omega (arith, l, le)))
-      | inr there ↦ there
+one_below profile bad answers bound places some e among none =
+    elim (each ((k : ℕ) × (k < bound) × Contains some k) (λ k. bound ≤ k) some (λ k i.
+    elim (cases_lt k bound) [ inl l ↦ inl (k, l, contains_in k some i) | inr le ↦ inr le ])) [
+      | inl there ↦ there
+      | inr high ↦ absurd (none (fewer_places profile bad answers some places (λ k i. grind (
+        arith,
+        all_at (λ k. bound ≤ k) k some high i,
+        low_cases k bound places (in_contains k (below bound ++ places) (among k (contains_in k some i))),
+      )) e.stand))
     ]

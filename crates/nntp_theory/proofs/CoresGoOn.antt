@@ -1,6 +1,6 @@
 -- What was found of a core stays so behind further answers.
-use Rattle.std.proofs.Common.{◌≡◌, ℕ, suc, ◌+◌, ◌<◌, ◌≤◌, List, [], ◌∷◌, ◌++◌, Option, None, Some, length, length-append, slice_get, arith, refl, sym, ap}
-use Rattle.std.{proofs.Common.{subst}, specs.{Prelude.{⊤, MatchOption}, List.{AllByRecursion, flat_map}, Option.{option_map_or}}}
+use Rattle.std.proofs.Common.{◌≡◌, ℕ, suc, ◌<◌, ◌≤◌, List, [], ◌∷◌, ◌++◌, Option, None, Some, length, length-append, slice_get, arith, refl, sym, ap, subst}
+use Rattle.std.specs.{Prelude.{⊤, MatchOption}, List.{AllByRecursion, flat_map}, Option.{option_map_or}}
 use Rattle.nntp_article.specs.declared.session.profile.Profile.{Profile}
 use Rattle.nntp_theory.specs.Conflict.{Placed, SomeHas, IsCore, IsEndOfCore, IsFound, Core, places_of, below, told, told_at, told_with}
 use Rattle.nntp_theory.{specs.Inner.Conflict.{HasLast}, proofs.{Conflicts.{from_below}, Members.{all_at, all_both, all_from, all_front, all_back, contains_in}}}
@@ -15,10 +15,6 @@ in_front_of xs more k l = grind arith
 abbrev pub AreThere : {A : Type 0} → List A → List ℕ → Type 0
 AreThere answers places = AllByRecursion (λ k. k < length answers) places
 
--- those below the last of them are such too
-below_there : {A : Type 0} (answers : List A) (bound k : ℕ) → bound < k + 1 → k < length answers → AreThere answers (below bound)
-below_there answers bound k le l = all_from (λ j. j < length answers) (below bound) (λ j i. let low = from_below j bound i in omega (arith, low, le, l))
-
 module _ (profile : Profile) (bad : Placed) (answers more : List Placed) where
   told_there : (places : List ℕ) → AreThere answers places → flat_map (told_at profile (answers ++ more)) places ≡ flat_map (told_at profile answers) places
   told_there [] there = refl
@@ -28,12 +24,9 @@ module _ (profile : Profile) (bad : Placed) (answers more : List Placed) where
   pub told_still : (places : List ℕ) → AreThere answers places → told_with profile bad (answers ++ more) places ≡ told_with profile bad answers places
   told_still places there = ap (λ facts. told profile bad ++ facts) (told_there places there)
 
-  -- so they stand or conflict as before
+  -- so they stand as before
   still : (places : List ℕ) → AreThere answers places → SomeHas profile (told_with profile bad answers places) → SomeHas profile (told_with profile bad (answers ++ more) places)
   still places there h = subst (SomeHas profile) (sym (told_still places there)) h
-
-  before : (places : List ℕ) → AreThere answers places → SomeHas profile (told_with profile bad (answers ++ more) places) → SomeHas profile (told_with profile bad answers places)
-  before places there h = subst (SomeHas profile) (told_still places there) h
 
   -- and stand at places of all answers
   longer : (k : ℕ) → k < length answers → k < length (answers ++ more)
@@ -42,23 +35,15 @@ module _ (profile : Profile) (bad : Placed) (answers more : List Placed) where
   core_still : (places : List ℕ) → IsCore profile bad answers places → IsCore profile bad (answers ++ more) places
   core_still places core = record {
     there = all_from (λ k. k < length (answers ++ more)) places (λ k i. longer k (all_at (λ k. k < length answers) k places core.there i));
-    conflict = λ h. core.conflict (before places core.there h);
+    conflict = λ h. core.conflict (subst (SomeHas profile) (told_still places core.there) h);
     needed = λ front back k e.
         let all = subst (AreThere answers) e core.there in
-        still (front ++ back) (all_both (λ k. k < length answers) front back (all_front (λ k. k < length answers) front (k ∷ back) all) (all_back (λ k. k < length answers) front (k ∷ back) all).1)
-        (core.needed front back k e);
+        still (front ++ back) (grind (arith, all, all_both, all_front, all_back)) (core.needed front back k e);
   }
 
   module _ (bound : ℕ) (places : List ℕ) (some : 0 < length places) (end : IsEndOfCore profile bad answers bound places) where
     those : AreThere answers places
     those = all_from (λ k. k < length answers) places (λ k i. (all_at (λ k. (bound ≤ k) × (k < length answers)) k places end.there i).1)
-
-    pub all_there : AreThere answers (below bound ++ places)
-    all_there = all_both (λ k. k < length answers) (below bound) places (low places some end.there) those
-      where
-        low : (places : List ℕ) → 0 < length places → AllByRecursion (λ k. (bound ≤ k) × (k < length answers)) places → AreThere answers (below bound)
-        low [] some there = absurd (omega (arith, some))
-        low (k ∷ places) some there = let le = there.0.0 in below_there answers bound k (omega (arith, le)) there.0.1
 
     -- the bound is at a place of these
     pub bound_there : bound < length answers
@@ -68,11 +53,15 @@ module _ (profile : Profile) (bad : Placed) (answers more : List Placed) where
         by [] some there = absurd (omega (arith, some))
         by (k ∷ places) some there = let le = there.0.0 in let l = there.0.1 in omega (arith, le, l)
 
+    pub all_there : AreThere answers (below bound ++ places)
+    all_there = all_both (λ k. k < length answers) (below bound) places
+        (all_from (λ k. k < length answers) (below bound) (λ k i. omega (arith, from_below k bound i, bound_there))) those
+
     end_still : IsEndOfCore profile bad (answers ++ more) bound places
     end_still = record {
       there = all_from (λ k. (bound ≤ k) × (k < length (answers ++ more))) places
           (λ k i. let here = all_at (λ k. (bound ≤ k) × (k < length answers)) k places end.there i in (here.0, longer k here.1));
-      conflict = λ h. end.conflict (before (below bound ++ places) all_there h);
+      conflict = λ h. end.conflict (subst (SomeHas profile) (told_still (below bound ++ places) all_there) h);
       stand = still places those end.stand;
       in_each = λ these among none.
           let there = all_from (λ k. k < length answers) these (λ k i. all_at (λ k. k < length answers) k (below bound ++ places) all_there

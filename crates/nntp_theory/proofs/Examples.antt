@@ -2,7 +2,7 @@
 use Rattle.nntp_wire.specs.declared.{marks.Marks.TheVariants.{Lenient}, water_marks.WaterMarks.{WaterMarks}, command.What.TheVariants.{Head, Stat}}
 use Rattle.nntp_wire.specs.{Answer.{Response, greeting, to, group_is, numbers_are, sends, plain}, Command.{Request, by_id, by_number, current, group}}
 use Rattle.nntp_wire.specs.Command.{list_group, from_one, next, last, retrieve}
-use Rattle.std.proofs.Common.{◌≡◌, ℕ, ◌<◌, ◌≤◌, true, false, IsTrue, List, [], ◌∷◌, ◌++◌, None, Some, map, inl, inr, refl, ap, subst, sym, arith}
+use Rattle.std.proofs.Common.{◌≡◌, ℕ, zero, suc, ◌+◌, ◌<◌, ◌≤◌, true, false, IsTrue, List, [], ◌∷◌, ◌++◌, None, Some, map, refl, ap, sym, arith}
 use Rattle.std.{proofs.lemmas.{Bool.{le-ltb, or_cases}, Fmt.{decimal_digit}}, specs.Prelude.{codes}}
 use Rattle.nntp_said.specs.{Asks.{Ask, Estimates, StepsUp, StepsDown, StandsAt, IsTop, IsBottom, Has, Lacks}, declared.position.Position.TheVariants.{First}}
 use Rattle.nntp_said.specs.{declared.position.Position.TheVariants.{Known}, Facts.{Fact, ThereIs, Asks, IdAt}}
@@ -114,13 +114,9 @@ computed = assumption
 
 -- ---- NEXT leads from the first number, which isn't seen, to 4
 
--- no number below 4 is shown
-four_is_shown_least : (n : ℕ) → IsTrue (is_shown (asks_of (codes "g") stepped) n) → 4 ≤ n
-four_is_shown_least n t = grind arith
-
--- and none is known, as the marks are lenient
+-- no number below 4 is shown, and none is known, as the marks are lenient
 four_is_least : (n : ℕ) → IsTrue (is_known (asks_of (codes "g") stepped) n) → 4 ≤ n
-four_is_least n t = elim (or_cases (is_shown (asks_of (codes "g") stepped) n) _ t) [ inl s ↦ four_is_shown_least n s | inr f ↦ cc ]
+four_is_least n t = grind (arith, or_cases)
 
 -- what is needed more is 1
 one_is_given : IsOneMore (asks_of (codes "g") stepped) 1
@@ -128,17 +124,8 @@ one_is_given = record { needed = λ n t. le-ltb n 4 (four_is_least n t); wanted 
 
 -- ---- then 1 and 2 are denied
 
-still_shown_least : (n : ℕ) → IsTrue (is_shown denied n) → 4 ≤ n
-still_shown_least n t = grind arith
-
-still_least : (n : ℕ) → IsTrue (is_known denied n) → 4 ≤ n
-still_least n t = elim (or_cases (is_shown denied n) _ t) [ inl s ↦ still_shown_least n s | inr f ↦ cc ]
-
-below_three : (m : ℕ) → 1 ≤ m → m < 3 → IsTrue (is_denied denied m)
-below_three m some low = grind arith
-
 three_is_given : IsOneMore denied 3
-three_is_given = record { needed = λ n t. le-ltb n 4 (still_least n t); wanted = refl; first = (omega arith, refl, below_three) }
+three_is_given = record { needed = λ n t. le-ltb n 4 (grind (arith, or_cases)); wanted = refl; first = (omega arith, refl, λ m some low. grind arith) }
 
 -- ---- a first number that is seen, and none below it
 
@@ -157,17 +144,16 @@ unasked_needs_none n x = let w = x.wanted in cc
 
 -- ---- ids
 
-invented_zero : invented 0 ≡ codes "<w0@invented.invalid>"
-invented_zero = ap (λ digits. codes "<w" ++ digits ++ codes "@invented.invalid>") (decimal_digit 0 (omega arith))
-
-invented_one : invented 1 ≡ codes "<w1@invented.invalid>"
-invented_one = ap (λ digits. codes "<w" ++ digits ++ codes "@invented.invalid>") (decimal_digit 1 (omega arith))
+-- with one digit
+digit_invented : (n : ℕ) → n < 10 → invented n ≡ codes "<w" ++ ((48 + n) ∷ []) ++ codes "@invented.invalid>"
+digit_invented n small = ap (λ digits. codes "<w" ++ digits ++ codes "@invented.invalid>") (decimal_digit n small)
 
 one_is_invented : AreInvented absent 0 (codes "<w1@invented.invalid>" ∷ [])
-one_is_invented = (1, (omega arith, ap (is_mentioned absent) invented_one, passed), sym invented_one, tt)
+one_is_invented = (1, (omega arith, ap (is_mentioned absent) (digit_invented 1 (omega arith)), passed), sym (digit_invented 1 (omega arith)), tt)
   where
     passed : (i : ℕ) → 0 ≤ i → i < 1 → IsTrue (is_mentioned absent (invented i))
-    passed i some low = subst (λ i. is_mentioned absent (invented i) ≡ true) (let e : 0 ≡ i = omega arith in e) (ap (is_mentioned absent) invented_zero)
+    passed zero some low = ap (is_mentioned absent) (digit_invented 0 (omega arith))
+    passed (suc i) some low = absurd (omega arith)
 
 repeated_falls : Together repeated → ⊥
 repeated_falls h = grind (arith, (h.ids_once (codes "g") (codes "<a@b>")).1.1.1.1.1.0)

@@ -1,6 +1,6 @@
 -- Membership by recursion, and what holds of each element of a list.
-use Rattle.std.proofs.Common.{◌≡◌, ◌+◌, ◌≤◌, suc, length, length-append, map, ap, arith, Bool, ◌⊎◌, IsTrue, List, [], ◌∷◌, ◌++◌, Option, None, Some, inl, inr}
-use Rattle.std.proofs.{Common.{refl, sym, subst, ◌∙◌}, lemmas.{Bool.{or_left, or_right, or_cases, and_from, and_parts}, List.Folds.{list_any-append}}}
+use Rattle.std.proofs.Common.{◌≡◌, ◌+◌, ◌≤◌, suc, length, length-append, map, arith, Bool, ◌⊎◌, IsTrue, List, [], ◌∷◌, ◌++◌, Option, None, Some, inl, inr, refl}
+use Rattle.std.proofs.{Common.{◌∙◌}, lemmas.{Bool.{or_left, or_right, or_cases, and_from, and_parts}, List.Folds.{list_any-append}}}
 use Rattle.std.specs.{List.{AllByRecursion, list_any, list_all, flat_map}, Prelude.{Contains}, Option.{option_or}}
 use Rattle.nntp_said.{proofs.FiniteMapsDecided.{Dec}, specs.Facts.{Fact}}
 use Rattle.nntp_theory.specs.Given.{first_given}
@@ -13,8 +13,7 @@ In x (y ∷ ys) = (y ≡ x) ⊎ In x ys
 -- what holds of each element holds of one
 pub all_at : {A : Type 0} (P : A → Type 0) (x : A) (xs : List A) → AllByRecursion P xs → In x xs → P x
 all_at P x [] h i = absurd i
-all_at P x (y ∷ ys) h (inl e) = subst P e h.0
-all_at P x (y ∷ ys) h (inr i) = all_at P x ys h.1 i
+all_at P x (y ∷ ys) h i = grind (arith, all_at P x ys h.1)
 
 -- what holds of one after the other holds of each
 pub all_from : {A : Type 0} (P : A → Type 0) (xs : List A) → ((x : A) → In x xs → P x) → AllByRecursion P xs
@@ -39,8 +38,7 @@ all_back P (x ∷ xs) ys h = all_back P xs ys h.1
 -- an element of the front
 pub in_front : {A : Type 0} (x : A) (xs ys : List A) → In x xs → In x (xs ++ ys)
 in_front x [] ys i = absurd i
-in_front x (z ∷ xs) ys (inl e) = inl e
-in_front x (z ∷ xs) ys (inr i) = inr (in_front x xs ys i)
+in_front x (z ∷ xs) ys i = grind (arith, in_front x xs ys)
 
 -- an element of the back
 pub in_back : {A : Type 0} (x : A) (xs ys : List A) → In x ys → In x (xs ++ ys)
@@ -50,26 +48,22 @@ in_back x (z ∷ xs) ys i = inr (in_back x xs ys i)
 -- an element of the front or of the back
 pub in_cases : {A : Type 0} (x : A) (xs ys : List A) → In x (xs ++ ys) → In x xs ⊎ In x ys
 in_cases x [] ys i = inr i
-in_cases x (z ∷ xs) ys (inl e) = inl (inl e)
-in_cases x (z ∷ xs) ys (inr i) = elim (in_cases x xs ys i) [ inl j ↦ inl (inr j) | inr j ↦ inr j ]
+in_cases x (z ∷ xs) ys i = grind (arith, in_cases x xs ys)
 
 -- a change of an element
 pub in_map : {A B : Type 0} (f : A → B) (x : A) (xs : List A) → In x xs → In (f x) (map f xs)
 in_map f x [] i = absurd i
-in_map f x (y ∷ xs) (inl e) = inl (ap f e)
-in_map f x (y ∷ xs) (inr i) = inr (in_map f x xs i)
+in_map f x (y ∷ xs) i = grind (arith, in_map f x xs)
 
 -- an element of the changed list comes from one
 pub from_map : {A B : Type 0} (f : A → B) (y : B) (xs : List A) → In y (map f xs) → (x : A) × In x xs × (f x ≡ y)
 from_map f y [] i = absurd i
-from_map f y (x ∷ xs) (inl e) = (x, inl refl, e)
-from_map f y (x ∷ xs) (inr i) = let r = from_map f y xs i in (r.0, inr r.1, r.2)
+from_map f y (x ∷ xs) i = grind (arith, from_map f y xs)
 
 -- an element of a part is one of the joined parts
 pub to_flat : {A B : Type 0} (f : A → List B) (x : A) (y : B) (xs : List A) → In x xs → In y (f x) → In y (flat_map f xs)
 to_flat f x y [] i j = absurd i
-to_flat f x y (z ∷ xs) (inl e) j = in_front y (f z) (flat_map f xs) (subst (λ x. In y (f x)) (sym e) j)
-to_flat f x y (z ∷ xs) (inr i) j = in_back y (f z) (flat_map f xs) (to_flat f x y xs i j)
+to_flat f x y (z ∷ xs) i j = grind (arith, in_front, in_back, to_flat f x y xs)
 
 -- an element of the joined parts is one of a part
 pub from_flat : {A B : Type 0} (f : A → List B) (y : B) (xs : List A) → In y (flat_map f xs) → (x : A) × In x xs × In y (f x)
@@ -91,20 +85,17 @@ in_contains x xs h = grind arith
 -- an element that passes is found
 pub any_in : {A : Type 0} (p : A → Bool) (x : A) (xs : List A) → In x xs → IsTrue (p x) → IsTrue (list_any p xs)
 any_in p x [] i t = absurd i
-any_in p x (y ∷ ys) (inl e) t = or_left (p y) _ (subst (λ y. IsTrue (p y)) (sym e) t)
-any_in p x (y ∷ ys) (inr i) t = or_right (p y) _ (any_in p x ys i t)
+any_in p x (y ∷ ys) i t = grind (arith, or_left, or_right, any_in p x ys)
 
 -- what is found is an element that passes
 pub found_in : {A : Type 0} (p : A → Bool) (xs : List A) → IsTrue (list_any p xs) → (x : A) × In x xs × IsTrue (p x)
 found_in p [] h = cc
-found_in p (x ∷ xs) h =
-    elim (or_cases (p x) (list_any p xs) h) [ inl t ↦ (x, inl refl, t) | inr r ↦ (let f = found_in p xs r in (f.0, inr f.1, f.2)) ]
+found_in p (x ∷ xs) h = grind (arith, or_cases, found_in p xs)
 
 -- what holds of each element of the parts holds of each part
 pub all_part : {A B : Type 0} (P : B → Type 0) (f : A → List B) (x : A) (xs : List A) → In x xs → AllByRecursion P (flat_map f xs) → AllByRecursion P (f x)
 all_part P f x [] i h = absurd i
-all_part P f x (y ∷ ys) (inl e) h = subst (λ y. AllByRecursion P (f y)) e (all_front P (f y) (flat_map f ys) h)
-all_part P f x (y ∷ ys) (inr i) h = all_part P f x ys i (all_back P (f y) (flat_map f ys) h)
+all_part P f x (y ∷ ys) i h = grind (arith, all_front, all_back, all_part P f x ys)
 
 -- and back
 pub all_parts : {A B : Type 0} (P : B → Type 0) (f : A → List B) (xs : List A) → ((x : A) → In x xs → AllByRecursion P (f x)) → AllByRecursion P (flat_map f xs)
@@ -119,23 +110,21 @@ first_found {A} f (x ∷ xs) y e = grind (arith, first_found f xs y)
 -- where one of the facts gives something, the first gives something
 pub first_there : {A : Type 0} (f : Fact → Option A) (xs : List Fact) (x : Fact) (y : A) → In x xs → f x ≡ Some y → (z : A) × (first_given f xs ≡ Some z)
 first_there f [] x y i e = absurd i
-first_there {A} f (w ∷ xs) x y i e = by (f w) refl (λ i. first_there f xs x y i e) i
+first_there {A} f (w ∷ xs) x y i e = by (f w) refl (first_there f xs x y)
   where
-    by : (o : Option A) → f w ≡ o → (In x xs → (z : A) × (first_given f xs ≡ Some z)) → In x (w ∷ xs) → (z : A) × (option_or o (first_given f xs) ≡ Some z)
-    by (Some z) is rest i = (z, refl)
-    by None is rest (inl same) = absurd (let n : None ≡ Some y = sym is ∙ subst (λ v. f v ≡ Some y) (sym same) e in cc)
-    by None is rest (inr i) = rest i
+    by : (o : Option A) → f w ≡ o → (In x xs → f x ≡ Some y → (z : A) × (first_given f xs ≡ Some z)) → (z : A) × (option_or o (first_given f xs) ≡ Some z)
+    by (Some z) is rest = (z, refl)
+    by None is rest = grind arith
 
 -- a list where each passes
 pub every : {A : Type 0} (p : A → Bool) (xs : List A) → ((x : A) → In x xs → IsTrue (p x)) → IsTrue (list_all p xs)
 every p [] h = refl
-every p (x ∷ xs) h = and_from (p x) (list_all p xs) (h x (inl refl)) (every p xs (λ y i. h y (inr i)))
+every p (x ∷ xs) h = grind (arith, and_from, every p xs)
 
 -- each of them passes
 pub each_of : {A : Type 0} (p : A → Bool) (xs : List A) (x : A) → IsTrue (list_all p xs) → In x xs → IsTrue (p x)
 each_of p [] x h i = absurd i
-each_of p (y ∷ ys) x h (inl e) = subst (λ y. IsTrue (p y)) e (and_parts (p y) _ h).0
-each_of p (y ∷ ys) x h (inr i) = each_of p ys x (and_parts (p y) _ h).1 i
+each_of p (y ∷ ys) x h i = grind (arith, and_parts, each_of p ys x)
 
 -- parts that are each at most one longer than others
 pub parts_few : {A B C : Type 0} (f : A → List B) (h : A → List C) (xs : List A) → ((x : A) → In x xs → length (f x) ≤ 1 + length (h x)) → length (flat_map f xs) ≤ length xs + length (flat_map h xs)
@@ -145,14 +134,7 @@ parts_few f h (x ∷ xs) le = grind (arith, length-append, parts_few f h xs (λ 
 -- whether each element has it
 pub dec_each_in : {A : Type 0} (P : A → Type 0) → ((x : A) → Dec (P x)) → (xs : List A) → Dec ((x : A) → In x xs → P x)
 dec_each_in P d [] = inl (λ x i. absurd i)
-dec_each_in {A} P d (x ∷ xs) = by (d x) (dec_each_in P d xs)
-  where
-    by : Dec (P x) → Dec ((y : A) → In y xs → P y) → Dec ((y : A) → In y (x ∷ xs) → P y)
-    by h r = grind arith
-
--- what is found in the front is found
-pub any_front : {A : Type 0} (p : A → Bool) (xs ys : List A) → IsTrue (list_any p xs) → IsTrue (list_any p (xs ++ ys))
-any_front p xs ys h = list_any-append p xs ys ∙ or_left (list_any p xs) (list_any p ys) h
+dec_each_in P d (x ∷ xs) = grind (arith, d x, dec_each_in P d xs)
 
 -- what is found in the back is found
 pub any_back : {A : Type 0} (p : A → Bool) (xs ys : List A) → IsTrue (list_any p ys) → IsTrue (list_any p (xs ++ ys))

@@ -4,7 +4,7 @@ use Rattle.std.proofs.Common.{◌≡◌, ℕ, zero, suc, ◌+◌, ◌<◌, ◌�
 use Rattle.std.{proofs.{Common.{subst, ◌∙◌, arith}, Math.Seq.{take-length}, lemmas.Bool.{cases_order, true≢false}}, specs.Prelude.{unwrap_or}}
 use Rattle.std.specs.{Ordering.{nat_cmp}, Cmp.Lexicographic.{slice_cmp}, FinMap.{get, empty, get-empty}}
 use Rattle.nntp_article.specs.Session.{Spool.{Spool, Numbers, IsSpool, numbers, Name}, Machine.{State, Visible, Run, start, visible_after}}
-use Rattle.nntp_article.specs.{declared.session.profile.Profile.{Profile}, Article.Parts.{Id}}
+use Rattle.nntp_article.specs.declared.session.profile.Profile.{Profile}
 use Rattle.nntp_said.specs.{Asks.{position_after}, declared.position.Position.{Position, TheVariants.{Nowhere}}, Facts.{Fact, facts_from}}
 use Rattle.nntp_theory.specs.{Given.{facts_of_session}, Inner.{Given.{size}, Permits.{SomePermits, IsFirstUnpermitted}}}
 use Rattle.nntp_theory.proofs.Given.GivenSpoolExists.{some_or_none}
@@ -26,46 +26,35 @@ fewer_permitted profile ps answers n m le h = (h.0, h.1, run_fewer profile h.0 s
 -- the size of two lists
 pub size-append : (xs ys : List Fact) → size (xs ++ ys) ≡ size xs + size ys
 size-append [] ys = omega arith
-size-append (x ∷ xs) ys = let rest = size-append xs ys in omega arith
+size-append (x ∷ xs) ys = omega (arith, size-append xs ys)
 
 -- fewer answers say less
 size_fewer : (how : Marks) (v : Visible) (at : Position) (ps : List Asked) (answers : List Response) (n : ℕ) → size (facts_from how v at ps (take n answers)) ≤ size (facts_from how v at ps answers)
 size_fewer how v at [] answers n = omega arith
-size_fewer how v at (p ∷ ps) [] zero = omega arith
+size_fewer how v at (p ∷ ps) answers zero = omega arith
 size_fewer how v at (p ∷ ps) [] (suc n) = omega arith
-size_fewer how v at (p ∷ ps) (a ∷ more) zero = omega arith
 size_fewer how v at (p ∷ ps) (a ∷ more) (suc n) = grind (arith, size-append, size_fewer how (visible_after v p a) (position_after at p a) ps more n)
 
 -- ---- no answers
 
 -- no groups and no articles
-no_spool : Spool
+abbrev no_spool : Spool
 no_spool = record { groups = empty; articles = empty }
 
--- it has no group
-no_group : (name : Name) → get no_spool.groups name ≡ None
-unfolding no_spool
-no_group name = get-empty (slice_cmp nat_cmp) name
-
--- and no article
-no_article : (id : Id) → get no_spool.articles id ≡ None
-unfolding no_spool
-no_article id = get-empty (slice_cmp nat_cmp) id
-
--- and no number
+-- it has no number
 no_number : (name : Name) (n : ℕ) → get (numbers no_spool name) n ≡ None
-no_number name n = ap (λ (o : Option Numbers). get (unwrap_or o empty) n) (no_group name) ∙ get-empty nat_cmp n
+no_number name n = ap (λ (o : Option Numbers). get (unwrap_or o empty) n) (get-empty (slice_cmp nat_cmp) name) ∙ get-empty nat_cmp n
 
 -- nothing at all is a spool
 empty_is_spool : (profile : Profile) → IsSpool profile.limit no_spool
 empty_is_spool profile = record {
-  names = λ name i. absurd (true≢false (sym i ∙ ap is_some (no_group name)));
+  names = λ name i. absurd (true≢false (sym i ∙ ap is_some (get-empty (slice_cmp nat_cmp) name)));
   numbers_in_limit = λ name n i. absurd (true≢false (sym i ∙ ap is_some (no_number name n)));
   one_to_one = λ name n m id e f. (let bad : None ≡ Some id = sym (no_number name n) ∙ e in cc);
   ids_have_articles = λ name n id e. (let bad : None ≡ Some id = sym (no_number name n) ∙ e in cc);
-  ids = λ id i. absurd (true≢false (sym i ∙ ap is_some (no_article id)));
-  heads = λ id t e. absurd (true≢false (sym (ap is_some e) ∙ ap is_some (no_article id)));
-  own_ids = λ id said t e says. (let bad : None ≡ Some t = sym (no_article id) ∙ e in cc);
+  ids = λ id i. absurd (true≢false (sym i ∙ ap is_some (get-empty (slice_cmp nat_cmp) id)));
+  heads = λ id t e. absurd (true≢false (sym (ap is_some e) ∙ ap is_some (get-empty (slice_cmp nat_cmp) id)));
+  own_ids = λ id said t e says. (let bad : None ≡ Some t = sym (get-empty (slice_cmp nat_cmp) id) ∙ e in cc);
 }
 
 -- some spool permits no answers
@@ -110,8 +99,4 @@ never_both profile ps answers k h bad =
 -- one answer is bad at most
 pub one_bad : (profile : Profile) (ps : List Asked) (answers : List Response) (k j : ℕ) → IsFirstUnpermitted profile ps answers k → IsFirstUnpermitted profile ps answers j → k ≡ j
 one_bad profile ps answers k j bad other =
-    elim (cases_order k j) [
-      | inl same ↦ same
-      | inr (inl l) ↦ absurd (bad.2 (fewer_permitted profile ps answers (k + 1) j (omega arith) other.1))
-      | inr (inr g) ↦ absurd (other.2 (fewer_permitted profile ps answers (j + 1) k (omega arith) bad.1))
-    ]
+    grind (arith, cases_order k j, fewer_permitted profile ps answers (k + 1) j, fewer_permitted profile ps answers (j + 1) k)

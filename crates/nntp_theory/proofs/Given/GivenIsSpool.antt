@@ -1,18 +1,17 @@
 -- The spool that is given is a spool.
-use Rattle.std.specs.{Ordering.{nat_cmp}, Prelude.{unwrap_or}, List.{AllByRecursion, list_any}, Option.{option_map_or}, FinMap.{get, len, empty_of_len}}
-use Rattle.std.{specs.{FinMap.{get-empty}, Cmp.Lexicographic.{same_text}}, proofs.Common.{◌≡◌, ℕ, ◌≤◌, true, IsTrue, List, ◌∷◌, ◌++◌, Option, Some, is_some}}
-use Rattle.std.proofs.{Common.{IsSome, inl, inr, refl, sym, ap, subst, ◌∙◌, arith}, lemmas.Bool.{true≢false, and_parts, or_cases, cases_eq}}
-use Rattle.std.proofs.lemmas.List.Elements.{All-from_recursion}
-use Rattle.nntp_theory.proofs.{GivenNumbers.LeastNumber.{not_number}, Together.FewEnough.{within_one}, Given.{ShownNames.{shown_named}, GivenHolds.{Setting}}}
-use Rattle.nntp_theory.proofs.{Given.GivenHolds.{one_given, group_of_number, id_cases, shown_at, unshown_once}, Members.{In, all_at, all_both, any_in}}
+use Rattle.std.{specs.{List.{AllByRecursion, list_any}, Option.{option_map_or}, FinMap.{get, len}, Cmp.Lexicographic.{same_text}}, proofs.Common.{◌≡◌, ℕ, ◌≤◌}}
+use Rattle.std.proofs.{Common.{true, IsTrue, List, ◌∷◌, ◌++◌, Some, is_some, IsSome, inl, inr, sym, ap, subst, arith}, lemmas.Bool.{true≢false, and_parts}}
+use Rattle.std.proofs.lemmas.{Bool.{or_cases}, List.Elements.{All-from_recursion}}
+use Rattle.nntp_theory.proofs.{GivenNumbers.MetNumbersStand.{some_counted}, Together.FewEnough.{within_one}, Given.ShownNames.{shown_named}}
+use Rattle.nntp_theory.proofs.{Given.GivenHolds.{Setting, one_given, group_of_number, id_cases, shown_at, unshown_once}, Members.{In, all_at, all_both, any_in}}
 use Rattle.nntp_theory.proofs.{Members.{found_in, first_found}, Ids.PlainHead.{plain_says, plain_is_head, plain_is_clean}, Session.FittingFacts.{IsFitting}}
 use Rattle.nntp_theory.{proofs.Session.NumbersWithinLimit.{free_in_limit, shown_in_limit, end_in_limit}, specs.Given.{mentions, is_mentioned, gives_article}}
-use Rattle.nntp_theory.specs.{Given.{id_shown, first_given, head_in, plain_head, asks_of, is_shown, is_given_end, says_some}, Inner.Together.{IsWellFormed}}
-use Rattle.nntp_theory.specs.Together.{number_in, IsFewFor}
+use Rattle.nntp_theory.specs.{Given.{id_shown, head_in, asks_of, is_shown, is_given_end, says_some}, Inner.Together.{IsWellFormed}, Together.{number_in}}
+use Rattle.nntp_theory.specs.Together.{IsFewFor}
 use Rattle.nntp_article.specs.{Article.Parts.{is_head, said_id, head_part, body_part, Id, Line}, Session.Spool.{Spool, Text, IsNumber, IsGroup, numbers}}
-use Rattle.nntp_article.specs.{Session.{Spool.{IsSpool, Name, is_line, Numbers}, Machine.{is_same, says_own_id}}, declared.session.profile.Profile.{Profile}}
+use Rattle.nntp_article.specs.{Session.{Spool.{IsSpool, Name, is_line}, Machine.{is_same, says_own_id}}, declared.session.profile.Profile.{Profile}}
 use Rattle.nntp_said.specs.Facts.{Fact, TextIs}
-use Rattle.nntp_wire.specs.Name.{IsGroupName, IsMessageId}
+use Rattle.nntp_wire.specs.Name.{IsMessageId}
 
 -- a head for an id, without lines that hold NUL, CR or LF, and it says no other id
 record IsHeadOf (id : Id) (head : List Line) : Type 0 where
@@ -34,21 +33,10 @@ body_lines P lines h = grind arith
 own_id : (id : Id) (head : List Line) → says_own_id id head ≡ true → (said : Id) → said_id head ≡ Some said → said ≡ id
 own_id id head t said e = same_text said id (sym (subst (λ o. option_map_or (λ said. is_same said id) o true ≡ true) e t))
 
--- where there is a number, one is counted
-some_counted : (N : Numbers) (n : ℕ) → IsNumber N n → 1 ≤ len N
-some_counted N n i = elim (cases_eq (len N) 0) [ inl e ↦ absurd (not_number N n (ap (λ m. get m n) (empty_of_len N e) ∙ get-empty nat_cmp n) i) | inr ne ↦ omega arith ]
-
 module _ (profile : Profile) (B : ℕ) (G : Spool) (facts : List Fact) (s : Setting profile B G facts) where
-  -- a fact fits and is well formed
-  fitting : (fact : Fact) → In fact facts → IsFitting profile fact
-  fitting fact i = all_at (IsFitting profile) fact facts s.fitting i
-
+  -- a fact is well formed
   formed : (fact : Fact) → In fact facts → IsWellFormed fact
   formed fact i = all_at IsWellFormed fact facts s.together.well_formed i
-
-  -- names of groups are such
-  name_is : (name : Name) → IsGroup G name → IsGroupName name
-  name_is name i = shown_named facts name s.together.well_formed ((s.given.groups name).0 i)
 
   -- the numbers are within the limit
   in_limit : (name : Name) (n : ℕ) → IsNumber (numbers G name) n → (1 ≤ n) × (n ≤ profile.limit)
@@ -74,20 +62,12 @@ module _ (profile : Profile) (B : ℕ) (G : Spool) (facts : List Fact) (s : Sett
   -- within a group an id has one number
   one_number : (name : Name) (n m : ℕ) (id : Id) → get (numbers G name) n ≡ Some id → get (numbers G name) m ≡ Some id → n ≡ m
   one_number name n m id e f =
+      let one = one_given (number_in name id) facts (s.together.ids_once name id) in
+      let other = id_cases profile B G facts s name m id f in
       elim (id_cases profile B G facts s name n id e) [
-        | inl a ↦ elim (id_cases profile B G facts s name m id f) [
-          | inl b ↦
-              let at = shown_at profile B G facts s name n id a in
-              let too = shown_at profile B G facts s name m id b in
-              let one = one_given (number_in name id) facts (s.together.ids_once name id) in
-              let same : Some n ≡ Some m = sym (one at.fact at.there n at.number) ∙ one too.fact too.there m too.number in
-              cc
-          | inr b ↦ absurd (true≢false (sym (shown_mentioned name n id a) ∙ b.1.3))
-        ]
-        | inr a ↦ elim (id_cases profile B G facts s name m id f) [
-          | inl b ↦ absurd (true≢false (sym (shown_mentioned name m id b) ∙ a.1.3))
-          | inr b ↦ unshown_once profile B G facts s name n m id e f a.0 b.0
-        ]
+        | inl a ↦ (let at = shown_at profile B G facts s name n id a in
+            grind (arith, other, shown_at profile B G facts s name m id, one, at, shown_mentioned name n id a, true≢false))
+        | inr a ↦ grind (arith, other, shown_mentioned name m id, unshown_once profile B G facts s name n m id e f, true≢false)
       ]
 
   -- ids of articles are message ids
@@ -111,10 +91,8 @@ module _ (profile : Profile) (B : ℕ) (G : Spool) (facts : List Fact) (s : Sett
 
   -- the head of an id is one
   head_is : (id : Id) (t : Text) → get G.articles id ≡ Some t → IsHeadOf id t.head
-  head_is id t e = subst (IsHeadOf id) (sym (s.given.heads id t e)) (by (first_given (head_in id) facts) refl)
-    where
-      by : (o : Option (List Line)) → first_given (head_in id) facts ≡ o → IsHeadOf id (unwrap_or o (plain_head id))
-      by o is = grind (arith, is_id, plain_is_head, plain_is_clean, plain_says, first_found, sent_head, fitting, formed)
+  head_is id t e = subst (IsHeadOf id) (sym (s.given.heads id t e))
+      (grind (arith, is_id, plain_is_head, plain_is_clean, plain_says, first_found, sent_head, all_at (IsFitting profile), formed))
 
   -- a body that was sent, or none
   body_is : (id : Id) (t : Text) → get G.articles id ≡ Some t → AllByRecursion (λ line. IsTrue (is_line line)) t.body
@@ -123,15 +101,11 @@ module _ (profile : Profile) (B : ℕ) (G : Spool) (facts : List Fact) (s : Sett
   -- the given spool is a spool
   pub given_is_spool : IsSpool profile.limit G
   given_is_spool = record {
-    names = name_is;
+    names = λ name i. shown_named facts name s.together.well_formed ((s.given.groups name).0 i);
     numbers_in_limit = in_limit;
     one_to_one = one_number;
     ids_have_articles = λ name n id e. (s.given.articles id).1 (inl (name, n, e));
     ids = is_id;
-    heads = λ id t e. (
-      (head_is id t e).is_a_head,
-      All-from_recursion (λ line. IsTrue (is_line line)) (t.head ++ t.body)
-          (all_both (λ line. IsTrue (is_line line)) t.head t.body (head_is id t e).is_clean (body_is id t e)),
-    );
+    heads = λ id t e. (let h = head_is id t e in (h.is_a_head, All-from_recursion _ (t.head ++ t.body) (all_both _ t.head t.body h.is_clean (body_is id t e))));
     own_ids = λ id said t e says. (head_is id t e).own said says;
   }

@@ -13,6 +13,12 @@ pub said : (profile : Profile) (S : Spool) (ps : List Asked) (answers : List Res
     → FitsAll profile start.visible ps answers × AllByRecursion (Holds S) (facts_of_session profile.marks ps answers)
 said profile S ps answers run = facts_of_run profile S start.visible Nowhere ps answers (read_off profile S start.visible Nowhere ps answers run)
 
+-- and back
+pub permits : (profile : Profile) (S : Spool) (ps : List Asked) (answers : List Response) → FitsAll profile start.visible ps answers
+    → AllByRecursion (Holds S) (facts_of_session profile.marks ps answers) → Run profile S start ps answers
+permits profile S ps answers fits holds =
+    run_from profile S start.visible Nowhere ps answers (run_of_facts profile S start.visible Nowhere ps answers fits holds)
+
 -- what some spool permits fits and stands together
 pub stands : (profile : Profile) (S : Spool) (ps : List Asked) (answers : List Response) → IsSpool profile.limit S
     → Run profile S start ps answers → FitsAll profile start.visible ps answers
@@ -27,7 +33,7 @@ pub given_permits : (profile : Profile) (G : Spool) (ps : List Asked) (answers :
 given_permits profile G ps answers fits together small given =
     let facts = facts_of_session profile.marks ps answers in
     let has = given_has profile profile.marks G facts (session_fitting profile ps answers fits) (session_placed profile ps answers fits) together small given in
-    (has.0, run_from profile G start.visible Nowhere ps answers (run_of_facts profile G start.visible Nowhere ps answers fits has.1))
+    (has.0, permits profile G ps answers fits has.1)
 
 -- a spool that permits a session has what the session shows, and as many numbers as are given
 pub given_is_least : (profile : Profile) (S G : Spool) (ps : List Asked) (answers : List Response) → IsSpool profile.limit S

@@ -1,7 +1,7 @@
 -- There is one given spool at most.
-use Rattle.std.proofs.Common.{◌≡◌, ℕ, cond, List, [], ◌∷◌, ◌++◌, map, Option, None, Some, is_some, IsSome, inl, inr, refl, sym, ap, subst, ◌∙◌, arith}
+use Rattle.std.proofs.Common.{◌↔◌, ◌≡◌, ℕ, cond, List, [], ◌∷◌, ◌++◌, map, Option, None, Some, is_some, inl, inr, refl, sym, ap, subst, ◌∙◌, arith}
 use Rattle.std.{proofs.lemmas.Bool.{true≢false}, specs.{Prelude.{unwrap_or}, List.{flat_map}, Cmp.{nat_cmp_total, Lexicographic.{nat_list_cmp_total}}}}
-use Rattle.std.specs.FinMap.{get, keys, entries, empty, same_entries_map, same_map, nat_cmp-IsAntisymmetric}
+use Rattle.std.specs.FinMap.{keys, entries, empty, same_entries_map, same_map, nat_cmp-IsAntisymmetric}
 use Rattle.nntp_article.specs.{Session.Spool.{Spool, Numbers, IsNumber, IsGroup, numbers, Name}, Article.Parts.{Id}}
 use Rattle.nntp_said.specs.Facts.{Fact}
 use Rattle.nntp_theory.{specs.Given.{id_shown, is_mentioned, invented, AreInvented, unshown_in, IsGiven}, proofs.GivenNumbers.FirstFreeNumber.{first_free_once}}
@@ -15,8 +15,6 @@ Agree facts name es = (n : ℕ) (id shown : Id) → In (n, id) es → id_shown f
 same_group : (facts : List Fact) (name : Name) (k : ℕ) (es fs : List (ℕ × Id)) (xs ys : List Id) → map (λ e. e.0) es ≡ map (λ e. e.0) fs → Agree facts name es → Agree facts name fs
     → AreInvented facts k (unshown_in facts name es ++ xs) → AreInvented facts k (unshown_in facts name fs ++ ys) → (es ≡ fs) × ((j : ℕ) × AreInvented facts j xs × AreInvented facts j ys)
 same_group facts name k [] [] xs ys keys ag ag' h g = (refl, (k, h, g))
-same_group facts name k [] (f ∷ fs) xs ys keys ag ag' h g = cc
-same_group facts name k (e ∷ es) [] xs ys keys ag ag' h g = cc
 same_group facts name k (e ∷ es) (f ∷ fs) xs ys keys ag ag' h g =
     by (id_shown facts name e.0) refl (λ k. same_group facts name k es fs xs ys rest_keys (λ n id shown i. ag n id shown (inr i)) (λ n id shown i. ag' n id shown (inr i))) h
     (subst (λ n. AreInvented facts k ((cond (is_some (id_shown facts name n)) [] (f.1 ∷ []) ++ unshown_in facts name fs) ++ ys)) (sym first_key) g)
@@ -27,8 +25,8 @@ same_group facts name k (e ∷ es) (f ∷ fs) xs ys keys ag ag' h g =
     rest_keys : map (λ (e : ℕ × Id). e.0) es ≡ map (λ (e : ℕ × Id). e.0) fs
     rest_keys = cc
 
-    joined : (id : Id) → e.1 ≡ f.1 → (es ≡ fs) → (e ∷ es) ≡ (f ∷ fs)
-    joined id same rest = λ i. (first_key i, same i) ∷ rest i
+    joined : e.1 ≡ f.1 → es ≡ fs → (e ∷ es) ≡ (f ∷ fs)
+    joined same rest = λ i. (first_key i, same i) ∷ rest i
 
     by : (o : Option Id) → id_shown facts name e.0 ≡ o
         → ((k : ℕ) → AreInvented facts k (unshown_in facts name es ++ xs) → AreInvented facts k (unshown_in facts name fs ++ ys)
@@ -37,6 +35,7 @@ same_group facts name k (e ∷ es) (f ∷ fs) xs ys keys ag ag' h g =
         → ((e ∷ es) ≡ (f ∷ fs)) × ((j : ℕ) × AreInvented facts j xs × AreInvented facts j ys)
     by (Some id) is rec h g = grind (arith, ag e.0 e.1 id (inl refl) is, ag' f.0 f.1 id (inl refl) (ap (id_shown facts name) (sym first_key) ∙ is))
     by None is rec (i, a, is_i, h) (j, b, is_j, g) = grind (arith, first_free_once (λ i. is_mentioned facts (invented i)) k i j a b, joined, true≢false)
+same_group facts name k es fs xs ys keys ag ag' h g = cc
 
 -- ---- groups
 
@@ -50,8 +49,6 @@ same_groups : (facts : List Fact) (k : ℕ) (gs hs : List (Name × Numbers)) →
     → ((name : Name) (N M : Numbers) → In (name, N) gs → In (name, M) hs → keys N ≡ keys M)
     → AreInvented facts k (flat_map (ids_of facts) gs) → AreInvented facts k (flat_map (ids_of facts) hs) → gs ≡ hs
 same_groups facts k [] [] names ag ah ks p q = refl
-same_groups facts k [] (h ∷ hs) names ag ah ks p q = cc
-same_groups facts k (g ∷ gs) [] names ag ah ks p q = cc
 same_groups facts k (g ∷ gs) (h ∷ hs) names ag ah ks p q =
     let name : g.0 ≡ h.0 = cc in
     let rest : map (λ (g : Name × Numbers). g.0) gs ≡ map (λ (h : Name × Numbers). h.0) hs = cc in
@@ -61,6 +58,7 @@ same_groups facts k (g ∷ gs) (h ∷ hs) names ag ah ks p q =
     let numbers : g.1 ≡ h.1 = same_entries_map g.1 h.1 one.0 in
     let more = same_groups facts one.1.0 gs hs rest (λ n N i. ag n N (inr i)) (λ n N i. ah n N (inr i)) (λ n N M i j. ks n N M (inr i) (inr j)) one.1.1 one.1.2 in
     λ i. (name i, numbers i) ∷ more i
+same_groups facts k gs hs names ag ah ks p q = cc
 
 module _ (facts : List Fact) (G H : Spool) (given : IsGiven facts G) (other : IsGiven facts H) where
   -- an entry is a group with its numbers
@@ -70,21 +68,15 @@ module _ (facts : List Fact) (G H : Spool) (given : IsGiven facts G) (other : Is
   -- ids that are shown stand in the entries
   agrees : (S : Spool) → IsGiven facts S → (name : Name) (N : Numbers) → In (name, N) (entries S.groups) → Agree facts name (entries N)
   agrees S s name N i n id shown j e =
-      let at = numbers_at S name N i in
-      let there : get (numbers S name) n ≡ Some id = subst (λ N. get N n ≡ Some id) (sym at.1) (in_get nat_cmp_total nat_cmp-IsAntisymmetric N n id j) in
-      let same : Some id ≡ Some shown = sym there ∙ s.ids_shown name n shown (ap is_some there) e in
-      cc
+      grind (arith, numbers_at S name N i, in_get nat_cmp_total nat_cmp-IsAntisymmetric N n id j, s.ids_shown name n shown)
 
   -- a group has the same numbers in both
   same_numbers : (name : Name) (N M : Numbers) → In (name, N) (entries G.groups) → In (name, M) (entries H.groups) → keys N ≡ keys M
   same_numbers name N M i j =
       let a = numbers_at G name N i in
       let b = numbers_at H name M j in
-      let p = given.numbers_given name a.0 in
-      let q = other.numbers_given name b.0 in
-      same_keys nat_cmp_total nat_cmp-IsAntisymmetric N M
-      (λ n h. subst (λ N. IsNumber N n) b.1 ((q n).1 ((p n).0 (subst (λ N. IsNumber N n) (sym a.1) h))))
-      (λ n h. subst (λ N. IsNumber N n) a.1 ((p n).1 ((q n).0 (subst (λ N. IsNumber N n) (sym b.1) h))))
+      let same : (n : ℕ) → IsNumber N n ↔ IsNumber M n = λ n. grind (arith, a, b, given.numbers_given name a.0 n, other.numbers_given name b.0 n) in
+      same_keys nat_cmp_total nat_cmp-IsAntisymmetric N M (λ n. (same n).0) (λ n. (same n).1)
 
   -- the groups are the same
   groups_alike : G.groups ≡ H.groups
@@ -94,18 +86,8 @@ module _ (facts : List Fact) (G H : Spool) (given : IsGiven facts G) (other : Is
       (same_keys nat_list_cmp_total names_apart G.groups H.groups (λ name i. (other.groups name).1 ((given.groups name).0 i)) (λ name i. (given.groups name).1 ((other.groups name).0 i)))
       (agrees G given) (agrees H other) same_numbers given.ids_invented other.ids_invented)
 
-  -- an id with an article in one has one in the other
-  there : (id : Id) → IsSome (get G.articles id) → IsSome (get H.articles id)
-  there id i = grind (arith, groups_alike)
-
-  -- and back
-  back : (id : Id) → IsSome (get H.articles id) → IsSome (get G.articles id)
-  back id i = grind (arith, groups_alike)
-
-  -- the articles are the same
-  articles_alike : (id : Id) → get G.articles id ≡ get H.articles id
-  articles_alike id = grind (arith, true≢false, back, there)
-
   -- two given spools are one
   pub given_once : G ≡ H
-  given_once = let articles = same_map nat_list_cmp_total names_apart G.articles H.articles articles_alike in λ i. record { groups = groups_alike i; articles = articles i }
+  given_once =
+      let articles = same_map nat_list_cmp_total names_apart G.articles H.articles (λ id. grind (arith, groups_alike, given.articles id, other.articles id)) in
+      λ i. record { groups = groups_alike i; articles = articles i }

@@ -1,13 +1,12 @@
 -- Several sessions by what they say: a spool permits each of them exactly if they fit and it has all their facts; so some spool permits them exactly if they fit and all of it stands together.
 use Rattle.std.{proofs.Common.{◌<◌, ◌^◌, ◌⊎◌, ◌↔◌, List, [], ◌∷◌, inl, inr, arith}, specs.List.{AllByRecursion}}
 use Rattle.nntp_article.specs.{Session.{Spool.{Spool, IsSpool}, Machine.{start}}, declared.session.profile.Profile.{Profile}}
-use Rattle.nntp_said.proofs.{FiniteMapsDecided.{Dec, dec_both}, PermittingDecided.{dec_run}, CurrentArticle.{run_from}, FactsHold.{run_of_facts}}
-use Rattle.nntp_said.specs.{declared.position.Position.TheVariants.{Nowhere}, Facts.{Fact, Holds}}
+use Rattle.nntp_said.{proofs.{FiniteMapsDecided.{Dec, dec_both}, PermittingDecided.{dec_run}}, specs.Facts.{Fact, Holds}}
 use Rattle.nntp_theory.specs.{Given.{IsGiven, HasAtLeast}, Inner.{Given.{size}, Permits.{SomePermits}, Together.{Together}, Answered.{FitEach}}}
 use Rattle.nntp_theory.{specs.Answered.{Answered, PermitsEach, SomePermitsEach, facts_in, facts_of_all}, proofs.Members.{all_from, all_both, all_front}}
 use Rattle.nntp_theory.proofs.{Members.{all_back}, Session.{FittingFacts.{IsFitting, session_fitting}, NumbersOfShownGroups.{Among, Placed, placed_among}}}
 use Rattle.nntp_theory.proofs.{Together.FactsOfASpoolStand.{stand}, Given.{GivenHasFacts.{given_of_facts, given_has, least_of_facts}, GivenPermits.{said}}}
-use Rattle.nntp_theory.proofs.Given.{ConstructedSpool.{made}, SpoolsDecided.{dec_spool}}
+use Rattle.nntp_theory.proofs.Given.{GivenPermits.{permits}, ConstructedSpool.{made}, SpoolsDecided.{dec_spool}}
 
 -- ---- a spool permits sessions exactly if they fit and it has their facts
 
@@ -21,13 +20,7 @@ said_each profile S (s ∷ more) h = grind (arith, said, all_both, said_each pro
 pub permits_each : (profile : Profile) (S : Spool) (sessions : List Answered) → FitEach profile sessions
     → AllByRecursion (Holds S) (facts_of_all profile.marks sessions) → PermitsEach profile S sessions
 permits_each profile S [] f h = tt
-permits_each profile S (s ∷ more) f h =
-    let own = facts_in profile.marks s in
-    let rest = facts_of_all profile.marks more in (
-      run_from profile S start.visible Nowhere s.prompts s.answers
-          (run_of_facts profile S start.visible Nowhere s.prompts s.answers f.0 (all_front (Holds S) own rest h)),
-      permits_each profile S more f.1 (all_back (Holds S) own rest h),
-    )
+permits_each profile S (s ∷ more) f h = grind (arith, permits, all_front, all_back, permits_each profile S more f.1)
 
 -- ---- what sessions that fit say
 
@@ -95,12 +88,11 @@ dec_each profile S (s ∷ more) = dec_both (dec_run profile S start s.prompts s.
 -- some spool permits them, or none does
 pub some_or_none_of_all : (profile : Profile) (sessions : List Answered) → size (facts_of_all profile.marks sessions) < 2 ^ 210
     → SomePermitsEach profile sessions ⊎ (SomePermitsEach profile sessions → ⊥)
-some_or_none_of_all profile sessions small = by (dec_both (dec_spool profile.limit (made_for_all profile sessions)) (dec_each profile (made_for_all profile sessions) sessions))
-  where
-    by : Dec (IsSpool profile.limit (made_for_all profile sessions) × PermitsEach profile (made_for_all profile sessions) sessions)
-        → SomePermitsEach profile sessions ⊎ (SomePermitsEach profile sessions → ⊥)
-    by (inl h) = inl (made_for_all profile sessions, h.0, h.1)
-    by (inr h) = grind (arith, stand_each, given_permits_all, made_for_all, given_exists_of_all)
+some_or_none_of_all profile sessions small =
+    elim (dec_both (dec_spool profile.limit (made_for_all profile sessions)) (dec_each profile (made_for_all profile sessions) sessions)) [
+      | inl h ↦ inl (made_for_all profile sessions, h.0, h.1)
+      | inr h ↦ grind (arith, stand_each, given_permits_all, made_for_all, given_exists_of_all)
+    ]
 
 -- some spool permits one session alone
 pub permits_alone : (profile : Profile) (s : Answered) → SomePermitsEach profile (s ∷ []) ↔ SomePermits profile s.prompts s.answers

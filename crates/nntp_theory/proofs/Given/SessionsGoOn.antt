@@ -6,11 +6,10 @@ use Rattle.nntp_article.specs.{declared.session.profile.Profile.{Profile}, Sessi
 use Rattle.nntp_pair.specs.Pairing.{Paired}
 use Rattle.nntp_said.specs.{declared.position.Position.TheVariants.{Nowhere}, Facts.{Fact, facts_of}, Inner.Facts.{FitsAll}}
 use Rattle.nntp_theory.specs.{Classes.{visible_from, position_from, asked_next}, Given.{facts_of_session}, Inner.{Given.{size}, Permits.{SomePermits}}}
-use Rattle.nntp_theory.specs.{Inner.{Together.{Together, Join}, Answered.{FitEach}, Exchanged.{said_by, AreFew}}, Permitted.{exchanged}, Answered.{Answered}}
-use Rattle.nntp_theory.{specs.Answered.{SomePermitsEach, facts_in, facts_of_all}, proofs.Members.{all_both, all_front, all_back}}
-use Rattle.nntp_theory.proofs.Given.{FirstBadAnswer.{size-append}, SessionsByFacts.{stand_each, permitted_together_of_all, permits_alone}}
-use Rattle.nntp_theory.proofs.{Ids.SizeOfASession.{session_size, pairs_weight}, Session.OneMoreAnswer.{facts_grow, fitting_grows}}
-use Rattle.nntp_theory.proofs.Together.FactsJoin.{together_more, answer_agrees}
+use Rattle.nntp_theory.specs.{Inner.{Together.{Together, Join}, Exchanged.{said_by, AreFew}}, Permitted.{exchanged}, Answered.{Answered, SomePermitsEach}}
+use Rattle.nntp_theory.{specs.Answered.{facts_in, facts_of_all}, proofs.{Members.{all_both, all_front, all_back}, Given.FirstBadAnswer.{size-append}}}
+use Rattle.nntp_theory.proofs.{Given.SessionsByFacts.{stand_each, permitted_together_of_all, permits_alone}, Ids.SizeOfASession.{session_size, pairs_weight}}
+use Rattle.nntp_theory.proofs.{Session.OneMoreAnswer.{facts_grow, fitting_grows}, Together.FactsJoin.{together_more, answer_agrees}}
 
 -- what sessions say, and one more
 pub facts_behind : (how : Marks) (earlier : List Answered) (s : Answered) → facts_of_all how (earlier ++ s ∷ []) ≡ facts_of_all how earlier ++ facts_in how s
@@ -42,31 +41,23 @@ module _ (profile : Profile) (earlier : List Answered) (ps : List Asked) (answer
   pub permitted_more_behind : size (facts_of_all profile.marks (earlier ++ next ∷ [])) < 2 ^ 210 → SomePermitsEach profile (earlier ++ past ∷ [])
       → SomePermitsEach profile (earlier ++ next ∷ [])
       ↔ (((visible_from start.visible ps answers).closed ≡ false) × IsTrue (fits profile (visible_from start.visible ps answers) asked response) × Join all new)
-  permitted_more_behind small h = (
-    λ g.
-        let s = stand_each profile g.0 (earlier ++ next ∷ []) g.1 g.2 in
-        let own = all_back Fits earlier (next ∷ []) s.0 in
-        let f = grown.0 own.0 in
-        (f.1, f.2, joins.0 (subst Together said_next s.1)),
-    λ j. (permitted_together_of_all profile (earlier ++ next ∷ []) small).1 (
-      all_both Fits earlier (next ∷ []) (all_front Fits earlier (past ∷ []) before.0) (grown.1 ((all_back Fits earlier (past ∷ []) before.0).0, j.0, j.1), tt),
-      subst Together (sym said_next) (joins.1 j.2),
-    ),
-  )
+  permitted_more_behind small h =
+      let before = stand_each profile h.0 (earlier ++ past ∷ []) h.1 h.2 in
+      let grown = fitting_grows profile start.visible ps answers asked response comes in
+      let joins : Together (all ++ new) ↔ Join all new = grind (arith, together_more, facts_behind, before, answer_agrees) in (
+        λ g.
+            let s = stand_each profile g.0 (earlier ++ next ∷ []) g.1 g.2 in
+            let own = all_back Fits earlier (next ∷ []) s.0 in
+            let f = grown.0 own.0 in
+            (f.1, f.2, joins.0 (subst Together said_next s.1)),
+        λ j. (permitted_together_of_all profile (earlier ++ next ∷ []) small).1 (
+          all_both Fits earlier (next ∷ []) (all_front Fits earlier (past ∷ []) before.0) (grown.1 ((all_back Fits earlier (past ∷ []) before.0).0, j.0, j.1), tt),
+          subst Together (sym said_next) (joins.1 j.2),
+        ),
+      )
     where
       Fits : Answered → Type 0
       Fits s = FitsAll profile start.visible s.prompts s.answers
-
-      before : FitEach profile (earlier ++ past ∷ []) × Together (facts_of_all profile.marks (earlier ++ past ∷ []))
-      before = stand_each profile h.0 (earlier ++ past ∷ []) h.1 h.2
-
-      joins : Together (all ++ new) ↔ Join all new
-      joins = grind (arith, together_more, facts_behind, before, answer_agrees)
-
-      grown : FitsAll profile start.visible ps (answers ++ response ∷ [])
-          ↔ (FitsAll profile start.visible ps answers × ((visible_from start.visible ps answers).closed ≡ false)
-          × IsTrue (fits profile (visible_from start.visible ps answers) asked response))
-      grown = fitting_grows profile start.visible ps answers asked response comes
 
 -- behind answers of one session that some spool permits, some spool permits one more exactly if it fits and what it says joins
 pub permitted_more : (profile : Profile) (ps : List Asked) (answers : List Response) (asked : Asked) (response : Response) → asked_next ps answers ≡ Some asked

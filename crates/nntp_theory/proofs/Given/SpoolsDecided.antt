@@ -3,10 +3,9 @@ use Rattle.std.proofs.{Common.{◌≡◌, ℕ, ◌≤◌, IsTrue, ◌++◌, Opti
 use Rattle.std.{proofs.lemmas.List.Elements.{recursion_from_All, All-from_recursion}, specs.{Prelude.{unwrap_or}, declared.cmp.Ordering.{Ordering}}}
 use Rattle.std.specs.{List.{AllByRecursion}, Cmp.{IsTotalOrder, nat_cmp_total, Lexicographic.{nat_list_cmp_total}}, FinMap.{FinMap, get, entries, empty}}
 use Rattle.std.specs.FinMap.{IsAntisymmetric, nat_cmp-IsAntisymmetric}
-use Rattle.nntp_said.proofs.FiniteMapsDecided.{Dec, dec_true, dec_le, dec_both, dec_three, dec_by, dec_to, dec_texts}
+use Rattle.nntp_said.proofs.FiniteMapsDecided.{Dec, dec_true, dec_le, dec_both, dec_three, dec_by, dec_to, dec_texts, dec_all}
 use Rattle.nntp_article.specs.{Article.Parts.{is_head, said_id, Id}, Session.Spool.{Spool, Text, Numbers, numbers, IsSpool, Name, is_line}}
-use Rattle.nntp_theory.proofs.{Members.{all_at, all_from, dec_each_in}, Given.{GivenHolds.{group_of_number}, ConstructedSpool.{names_apart}}, Maps.{get_in}}
-use Rattle.nntp_theory.proofs.Maps.{in_get}
+use Rattle.nntp_theory.proofs.{Members.{dec_each_in}, Given.{GivenHolds.{group_of_number}, ConstructedSpool.{names_apart}}, Maps.{get_in, in_get}}
 use Rattle.nntp_wire.{specs.{Decided.{is_group_name, is_message_id}, Name.{IsMessageId, IsGroupName}}, proofs.DecidedLemmas.{message_id-iff, group_name-iff}}
 use Rattle.nntp_wire.proofs.OptionLemmas.{some_is}
 
@@ -21,21 +20,11 @@ dec_entries o same P d m =
 dec_numbers : (P : ℕ → Id → Type 0) → ((n : ℕ) (id : Id) → Dec (P n id)) → (N : Numbers) → Dec ((n : ℕ) (id : Id) → get N n ≡ Some id → P n id)
 dec_numbers P d N = dec_entries nat_cmp_total nat_cmp-IsAntisymmetric P d N
 
--- the numbers are within the limit
-abbrev InLimit : ℕ → Numbers → Type 0
-InLimit limit N = (n : ℕ) (id : Id) → get N n ≡ Some id → (1 ≤ n) × (n ≤ limit)
-
--- an id has one number
-abbrev OneToOne : Numbers → Type 0
-OneToOne N = (n : ℕ) (id : Id) → get N n ≡ Some id → (m : ℕ) (other : Id) → get N m ≡ Some other → id ≡ other → n ≡ m
-
--- each id has an article
-abbrev HaveArticles : Spool → Numbers → Type 0
-HaveArticles S N = (n : ℕ) (id : Id) → get N n ≡ Some id → IsSome (get S.articles id)
-
--- a group of a spool
+-- a group of a spool: its name is one and its numbers are within the limit, an id has one number, and each id has an article
 abbrev GoodGroup : ℕ → Spool → Name → Numbers → Type 0
-GoodGroup limit S name N = (IsGroupName name × InLimit limit N) × (OneToOne N × HaveArticles S N)
+GoodGroup limit S name N = (IsGroupName name × ((n : ℕ) (id : Id) → get N n ≡ Some id → (1 ≤ n) × (n ≤ limit)))
+    × ((n : ℕ) (id : Id) → get N n ≡ Some id → (m : ℕ) (other : Id) → get N m ≡ Some other → id ≡ other → n ≡ m)
+    × ((n : ℕ) (id : Id) → get N n ≡ Some id → IsSome (get S.articles id))
 
 -- an article of a spool
 abbrev GoodText : Id → Text → Type 0
@@ -49,20 +38,17 @@ dec_own id (Some x) = dec_by (λ h said e. let s : x ≡ said = cc in sym s ∙ 
 -- whether a group is good
 dec_group : (limit : ℕ) (S : Spool) (name : Name) (N : Numbers) → Dec (GoodGroup limit S name N)
 dec_group limit S name N =
-    dec_both
+    dec_three
     (dec_both (dec_by (group_name-iff name).0 (group_name-iff name).1 (dec_true (is_group_name name))) (dec_numbers (λ n id. (1 ≤ n) × (n ≤ limit)) (λ n id. dec_both (dec_le 1 n) (dec_le n limit)) N))
-    (dec_both
     (dec_numbers (λ n id. (m : ℕ) (other : Id) → get N m ≡ Some other → id ≡ other → n ≡ m)
     (λ n id. dec_numbers (λ m other. id ≡ other → n ≡ m) (λ m other. dec_to (dec_texts id other) (cases_eq n m)) N) N)
-    (dec_numbers (λ n id. IsSome (get S.articles id)) (λ n id. dec_true (is_some (get S.articles id))) N))
+    (dec_numbers (λ n id. IsSome (get S.articles id)) (λ n id. dec_true (is_some (get S.articles id))) N)
 
 -- whether an article is good
 dec_text : (id : Id) (t : Text) → Dec (GoodText id t)
 dec_text id t =
     dec_three (dec_by (message_id-iff id).0 (message_id-iff id).1 (dec_true (is_message_id id)))
-    (dec_both (dec_true (is_head t.head)) (dec_by (all_from (λ line. IsTrue (is_line line)) (t.head ++ t.body))
-    (λ h line i. all_at (λ line. IsTrue (is_line line)) line (t.head ++ t.body) h i)
-    (dec_each_in (λ line. IsTrue (is_line line)) (λ line. dec_true (is_line line)) (t.head ++ t.body))))
+    (dec_both (dec_true (is_head t.head)) (dec_all (λ line. IsTrue (is_line line)) (λ line. dec_true (is_line line)) (t.head ++ t.body)))
     (dec_own id (said_id t.head))
 
 module _ (limit : ℕ) (S : Spool) where
@@ -71,9 +57,9 @@ module _ (limit : ℕ) (S : Spool) where
   good g a = record {
     names = λ name i. (let N = some_is (get S.groups name) i in (g name N.0 N.1).0.0);
     numbers_in_limit = λ name n i. (let N = group_of_number S name n i in let at = some_is (get (numbers S name) n) i in (g name N.0 N.1).0.1 n at.0 (subst (λ N. get N n ≡ Some at.0) N.2 at.1));
-    one_to_one = λ name n m id e f. (let N = group_of_number S name n (ap is_some e) in (g name N.0 N.1).1.0 n id
+    one_to_one = λ name n m id e f. (let N = group_of_number S name n (ap is_some e) in (g name N.0 N.1).1 n id
         (subst (λ N. get N n ≡ Some id) N.2 e) m id (subst (λ N. get N m ≡ Some id) N.2 f) refl);
-    ids_have_articles = λ name n id e. (let N = group_of_number S name n (ap is_some e) in (g name N.0 N.1).1.1 n id (subst (λ N. get N n ≡ Some id) N.2 e));
+    ids_have_articles = λ name n id e. (let N = group_of_number S name n (ap is_some e) in (g name N.0 N.1).2 n id (subst (λ N. get N n ≡ Some id) N.2 e));
     ids = λ id i. (let t = some_is (get S.articles id) i in (a id t.0 t.1).0);
     heads = λ id t e. ((a id t e).1.0, All-from_recursion (λ line. IsTrue (is_line line)) (t.head ++ t.body) (a id t e).1.1);
     own_ids = λ id said t e. (a id t e).2 said;
@@ -88,10 +74,8 @@ module _ (limit : ℕ) (S : Spool) where
   bad s = (
     λ name N e. (
       (s.names name (ap is_some e), λ n id at. s.numbers_in_limit name n (ap is_some (in_spool name N e n id at))),
-      (
-        λ n id at m other at' same. s.one_to_one name n m id (in_spool name N e n id at) (in_spool name N e m id (at' ∙ ap Some (sym same))),
-        λ n id at. s.ids_have_articles name n id (in_spool name N e n id at),
-      ),
+      λ n id at m other at' same. s.one_to_one name n m id (in_spool name N e n id at) (in_spool name N e m id (at' ∙ ap Some (sym same))),
+      λ n id at. s.ids_have_articles name n id (in_spool name N e n id at),
     ),
     λ id t e. (s.ids id (ap is_some e), ((s.heads id t e).0, recursion_from_All (λ line. IsTrue (is_line line)) (t.head ++ t.body) (s.heads id t e).1), λ said. s.own_ids id said t e),
   )

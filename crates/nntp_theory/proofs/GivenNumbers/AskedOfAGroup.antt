@@ -1,5 +1,5 @@
 -- What a spool that meets all that a session says is asked of one group.
-use Rattle.std.proofs.{Common.{◌≡◌, Bool, true, false, cond, List, [], ◌∷◌, ap, sym, subst, refl, is_some}, lemmas.List.Elements.{recursion_from_All}}
+use Rattle.std.proofs.{Common.{◌≡◌, Bool, cond, List, [], ◌∷◌, ap, refl, is_some, arith}, lemmas.List.Elements.{recursion_from_All}}
 use Rattle.std.specs.{List.{AllByRecursion}, Cmp.Lexicographic.{same_text}}
 use Rattle.nntp_article.specs.Session.{Spool.{Spool, numbers, Name}, Machine.{is_same}}
 use Rattle.nntp_said.specs.{Asks.{Ask, Meets, Has, Bounds}, Facts.{Fact, Holds, Asks, IdAt, GroupsAre}}
@@ -7,8 +7,7 @@ use Rattle.nntp_theory.{specs.Given.{asks_in, asks_of}, proofs.Members.{all_at, 
 
 -- what is asked under the test of the name
 if_same : (S : Spool) (name g : Name) (ask : Ask) → Meets (numbers S g) ask → (b : Bool) → is_same g name ≡ b → AllByRecursion (Meets (numbers S name)) (cond b (ask ∷ []) [])
-if_same S name g ask h true e = (subst (λ n. Meets (numbers S n) ask) (same_text g name (sym e)) h, tt)
-if_same S name g ask h false e = tt
+if_same S name g ask h b e = grind (arith, same_text)
 
 -- what one fact asks of a group
 met_by_one : (S : Spool) (name : Name) (fact : Fact) → Holds S fact → AllByRecursion (Meets (numbers S name)) (asks_in name fact)

@@ -1,7 +1,7 @@
 -- Whether each part of what is asked of a group stands can be decided, where there are the given numbers.
-use Rattle.std.proofs.{Common.{◌≡◌, ℕ, Bool, ◌||◌, ◌==◌, ◌⊎◌, IsTrue, List, is_some, inl, inr, refl, sym, ◌∙◌, arith}, lemmas.Bool.{true≢false, not-false}}
-use Rattle.std.{proofs.lemmas.Bool.{eqb-true, eq-eqb, leb-true, le-leb, or_cases, or_left, or_right, cases_lt}, specs.Prelude.{not, nat_le, IsFalse}}
-use Rattle.std.specs.{List.{AllByRecursion, list_all}, Cmp.{nat_cmp_total}, FinMap.{get, len, keys, contains_key-keys, nat_cmp-IsAntisymmetric}}
+use Rattle.std.proofs.{Common.{ℕ, ◌||◌, ◌==◌, ◌⊎◌, IsTrue, List, is_some, inl, inr, sym, ◌∙◌, arith}, lemmas.Bool.{true≢false, not-false, cases_Bool, eqb-true}}
+use Rattle.std.{proofs.lemmas.Bool.{eq-eqb, leb-true, le-leb, or_cases, or_left, or_right, cases_lt}, specs.Prelude.{not, nat_le, IsFalse}}
+use Rattle.std.specs.{List.{AllByRecursion, list_all}, Cmp.{nat_cmp_total}, FinMap.{get, keys, contains_key-keys, nat_cmp-IsAntisymmetric}}
 use Rattle.nntp_article.specs.Session.Spool.{Numbers, IsNumber}
 use Rattle.nntp_said.{proofs.FiniteMapsDecided.{Dec, dec_true, dec_by, dec_all, each_key, passes, fails}, specs.Asks.{Ask}}
 use Rattle.nntp_theory.specs.{declared.demand.Demand.{Demand, TheVariants.{NoDemand, NotEmpty, OnlyOne, SecondIs, Impossible}}, Given.{demand, is_known}}
@@ -25,38 +25,35 @@ dec_demand N (SecondIs k) = elim (firsts N) [
       | inr le ↦ inr (λ h. let l = h.2 in let least = all h.1 h.3 in absurd (omega (arith, le, l, least)))
       | inl l ↦ dec_by
           (λ h. (there, c, l, here, λ m low i. elim (or_cases (nat_le k m) (m == c) (h m i)) [ inl a ↦ (let b = leb-true k m a in absurd (omega (arith, b, low))) | inr a ↦ eqb-true m c a ]))
-          (λ h m i. elim (cases_lt m k) [
-            | inl low ↦ or_right (nat_le k m) (m == c) (eq-eqb m c (h.4 m low i ∙ sym (h.4 c l here)))
-            | inr high ↦ or_left (nat_le k m) (m == c) (le-leb k m high)
-          ]) (each_key nat_cmp_total nat_cmp-IsAntisymmetric (λ m. nat_le k m || m == c) N)
+          (λ h m i. grind (arith, cases_lt m k, h.4 m, h.4 c l here, or_left, or_right, eq-eqb, le-leb))
+          (each_key nat_cmp_total nat_cmp-IsAntisymmetric (λ m. nat_le k m || m == c) N)
     ]
   ]
 ]
 dec_demand N Impossible = inr (λ h. h)
-
--- whether they are few enough
-dec_few : (N : Numbers) (ask : Ask) → Dec (IsFewFor N ask)
-dec_few N ask = grind arith
-
--- as many are
-same_few : (N M : Numbers) → len M ≡ len N → (ask : Ask) → IsFewFor N ask → IsFewFor M ask
-same_few N M ask h i = grind arith
 
 -- ---- each part of what is asked
 
 module _ (asks : List Ask) (N : Numbers) (given : HasGivenNumbers asks N) where
   -- a known number is denied, or none is
   pub denied_or_not : ((n : ℕ) × IsTrue (is_known asks n) × IsTrue (is_denied asks n)) ⊎ ((n : ℕ) → IsTrue (is_known asks n) → IsFalse (is_denied asks n))
-  denied_or_not = by (list_all (λ n. not (is_denied asks n)) (keys N)) refl
-    where
-      by : (b : Bool) → list_all (λ n. not (is_denied asks n)) (keys N) ≡ b
-          → ((n : ℕ) × IsTrue (is_known asks n) × IsTrue (is_denied asks n)) ⊎ ((n : ℕ) → IsTrue (is_known asks n) → IsFalse (is_denied asks n))
-      by b e = grind (arith, passes, nat_cmp_total, nat_cmp-IsAntisymmetric, contains_key-keys, fails, not-false, true≢false)
+  denied_or_not =
+      grind (
+        arith,
+        cases_Bool (list_all (λ n. not (is_denied asks n)) (keys N)),
+        passes,
+        nat_cmp_total,
+        nat_cmp-IsAntisymmetric,
+        contains_key-keys,
+        fails,
+        not-false,
+        true≢false,
+      )
 
   -- the given numbers are more than is estimated, or they aren't
   pub too_many_or_not : AreTooMany asks ⊎ ((M : Numbers) → HasGivenNumbers asks M → AllByRecursion (IsFewFor M) asks)
-  too_many_or_not = elim (dec_all (IsFewFor N) (dec_few N) asks) [
-    | inl few ↦ inr (λ M g. all_from (IsFewFor M) asks (λ ask i. same_few N M (as_many_given asks M N g given) ask (all_at (IsFewFor N) ask asks few i)))
+  too_many_or_not = elim (dec_all (IsFewFor N) (λ ask. grind arith) asks) [
+    | inl few ↦ inr (λ M g. all_from (IsFewFor M) asks (λ ask i. grind (arith, as_many_given asks M N g given, all_at (IsFewFor N) ask asks few i)))
     | inr many ↦ inl (N, given, many)
   ]
 

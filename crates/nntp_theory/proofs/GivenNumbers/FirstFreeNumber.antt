@@ -1,6 +1,6 @@
 -- The first number from one on that isn't taken: the search for it, and that there is one at most.
-use Rattle.std.proofs.{Common.{◌≡◌, ℕ, zero, suc, ◌+◌, ◌<◌, ◌≤◌, Bool, true, cond, Option, None, Some, refl, sym, ◌∙◌, arith}, lemmas.Bool.{cases_lt}}
-use Rattle.std.{proofs.lemmas.Bool.{true≢false}, specs.Prelude.{IsFalse}}
+use Rattle.std.proofs.{Common.{◌≡◌, ℕ, zero, suc, ◌+◌, ◌<◌, ◌≤◌, Bool, true, Option, None, Some, refl, sym, ◌∙◌, arith}, lemmas.Bool.{cases_lt, true≢false}}
+use Rattle.std.specs.Prelude.{IsFalse}
 use Rattle.nntp_theory.specs.{Given.{IsFirstFree}, Inner.OneMore.{free}}
 
 -- there is one at most
@@ -17,10 +17,7 @@ free_is taken (suc k) n j e = grind (arith, free_is taken k (n + 1) j)
 pub free_none : (taken : ℕ → Bool) (k n : ℕ) → free taken k n ≡ None → (m : ℕ) → n ≤ m → m < n + k → taken m ≡ true
 unfolding free
 free_none taken zero n e m a b = absurd (omega arith)
-free_none taken (suc k) n e m a b = by (taken n) refl (λ e. free_none taken k (n + 1) e m) e
-  where
-    by : (c : Bool) → taken n ≡ c → (free taken k (n + 1) ≡ None → n + 1 ≤ m → m < n + 1 + k → taken m ≡ true) → cond c (free taken k (n + 1)) (Some n) ≡ None → taken m ≡ true
-    by c t rest e = grind arith
+free_none taken (suc k) n e m a b = grind (arith, cases_lt, free_none taken k (n + 1))
 
 -- where one isn't taken, there is a first, and it is no greater
 pub first_free : (taken : ℕ → Bool) (k c : ℕ) → k ≤ c → IsFalse (taken c) → (n : ℕ) × IsFirstFree taken k n × (n ≤ c)

@@ -1,27 +1,19 @@
 -- The given numbers meet what is asked of them, if that stands together.
-use Rattle.nntp_wire.{specs.declared.marks.Marks.{Marks, TheVariants.{Lenient, Strict}}, proofs.OptionLemmas.{none_of}}
-use Rattle.std.proofs.Common.{◌≡◌, ℕ, ◌≤◌, ◌⊎◌, true, false, IsTrue, List, [], ◌∷◌, Some, inl, inr, refl, sym, ap, subst, ◌∙◌, arith}
-use Rattle.std.proofs.lemmas.Bool.{true≢false, and_cases, false_from_ne_true, eqb-true, ltb-true, ltb-false, cases_lt, eq-eqb, not-false, or_cases, or_left}
-use Rattle.std.{proofs.lemmas.Bool.{or_right, and_parts, and_from, cases_Bool, or_parts, Decides.{nat_tests}}, specs.{Prelude.{IsFalse}, List.{AllByRecursion}}}
-use Rattle.std.specs.{List.{list_any}, FinMap.{get}}
-use Rattle.nntp_article.specs.Session.{Spool.{Numbers, IsNumber, IsNextAbove, NoneAbove}, Machine.{is_in_range, AreEnds}}
-use Rattle.nntp_said.specs.Asks.{Ask, Meets, Estimates, Bounds, ListsIn, Has, Lacks, StandsAt, StandsNowhere, StepsUp, StepsDown, IsTop, IsBottom}
-use Rattle.nntp_said.specs.declared.position.Position.TheVariants.{Nowhere, First, Known}
-use Rattle.nntp_theory.specs.Given.{shows, denies, demand_in, join, demand, IsGivenNumber, HasGivenNumbers, says_some, is_end}
-use Rattle.nntp_theory.specs.{declared.demand.Demand.{Demand, TheVariants.{NoDemand}}, Together.{is_possible, MeetsDemand, IsFewFor}}
-use Rattle.nntp_theory.{specs.Inner.Together.{AsksStand}, proofs.Members.{In, all_at, all_from, any_in, in_contains, each_of, found_in}}
-use Rattle.nntp_theory.proofs.GivenNumbers.{LeastNumber.{firsts, least_is, least_none}, MetNumbersStand.{of_first, listed_in, finds, in_range, in_range_back}}
-use Rattle.nntp_theory.proofs.GivenNumbers.MetNumbersStand.{shown_known}
+use Rattle.nntp_wire.specs.declared.marks.Marks.TheVariants.{Lenient, Strict}
+use Rattle.std.proofs.{Common.{◌≡◌, ℕ, true, false, IsTrue, List, [], ◌∷◌, inl, refl, arith}, lemmas.Bool.{true≢false, false_from_ne_true, eqb-true, ltb-false}}
+use Rattle.std.proofs.lemmas.Bool.{eq-eqb, or_cases, or_left, or_right, and_parts, and_from, cases_Bool, or_parts, Decides.{nat_tests}}
+use Rattle.std.specs.{Prelude.{IsFalse}, List.{AllByRecursion, list_any}}
+use Rattle.nntp_article.specs.Session.{Spool.{Numbers, IsNumber}, Machine.{is_in_range}}
+use Rattle.nntp_said.specs.{Asks.{Ask, Meets, Estimates, ListsIn, StandsAt}, declared.position.Position.TheVariants.{First}}
+use Rattle.nntp_theory.specs.{Given.{shows, denies, demand_in, demand, IsGivenNumber, HasGivenNumbers, says_some, is_end}, declared.demand.Demand.{Demand}}
+use Rattle.nntp_theory.specs.{declared.demand.Demand.TheVariants.{NoDemand}, Together.{is_possible, MeetsDemand, IsFewFor}, Inner.Together.{AsksStand}}
+use Rattle.nntp_theory.proofs.{Members.{In, all_at, all_from, any_in, in_contains, each_of, found_in}, GivenNumbers.LeastNumber.{firsts, least_is}}
+use Rattle.nntp_theory.proofs.GivenNumbers.MetNumbersStand.{listed_in, finds, in_range, in_range_back, shown_known}
 
--- numbers that meet two demands as one meet each
-parted : (P : ℕ → Type 0) (d e : Demand) → MeetsDemand (join d e) P → MeetsDemand d P × MeetsDemand e P
-parted P d e h = grind arith
-
--- and the demand of each ask
+-- numbers that meet the demand of all asks meet that of each
 demand_of_one : (P : ℕ → Type 0) (ask : Ask) (asks : List Ask) → In ask asks → MeetsDemand (demand asks) P → MeetsDemand (demand_in ask) P
 demand_of_one P ask [] i h = absurd i
-demand_of_one P ask (x ∷ asks) (inl e) h = subst (λ x. MeetsDemand (demand_in x) P) e (parted P (demand_in x) (demand asks) h).0
-demand_of_one P ask (x ∷ asks) (inr i) h = demand_of_one P ask asks i (parted P (demand_in x) (demand asks) h).1
+demand_of_one P ask (x ∷ asks) i h = grind (arith, demand_of_one P ask asks)
 
 -- the same numbers, said otherwise
 pub same_demand : (P Q : ℕ → Type 0) → ((n : ℕ) → P n → Q n) → ((n : ℕ) → Q n → P n) → (d : Demand) → MeetsDemand d P → MeetsDemand d Q
@@ -60,45 +52,22 @@ module _ (asks : List Ask) (G : Numbers) (stand : AsksStand asks) (given : HasGi
   demand_in_G ask i = demand_of_one (IsNumber G) ask asks i (same_demand (IsGivenNumber asks) (IsNumber G) (λ n. (given n).1) (λ n. (given n).0) (demand asks) stand.demand_met)
 
   meets_in_G : (ask : Ask) → In ask asks → IsTrue (is_possible ask) → IsFewFor G ask → Meets G ask
-  meets_in_G (Estimates how m) i p few = (few, λ n j. let f = not_denied_in_G (Estimates how m) i n j in (grind (arith, nat_tests), grind (arith, nat_tests)), ends how i)
-    where
-      ends : (how : Marks) → In (Estimates how m) asks → AreEnds how G m
-      ends Lenient i = tt
-      ends Strict i = search (arith, end_in_G, or_left, eq-eqb, or_right)
-  meets_in_G (Bounds low high) i p few = λ n j. let f = not_denied_in_G (Bounds low high) i n j in (grind (arith, nat_tests), grind (arith, nat_tests))
-  meets_in_G (ListsIn r ns) i p few = λ n. (
-    λ listed. (shown_in_G (ListsIn r ns) i n (finds ns n listed), in_range r n (each_of (is_in_range r) ns n p (in_contains n ns listed))),
-    λ h. elim (and_cases (is_in_range r n) _ (not_denied_in_G (ListsIn r ns) i n h.0)) [ inl g ↦ absurd (true≢false (sym (in_range_back r n h.1) ∙ g)) | inr g ↦ listed_in ns n (not-false _ g) ],
+  meets_in_G (Estimates Lenient m) i p few = (few, λ n j. let f = not_denied_in_G (Estimates Lenient m) i n j in grind (arith, nat_tests), tt)
+  meets_in_G (Estimates Strict m) i p few =
+      (few, λ n j. let f = not_denied_in_G (Estimates Strict m) i n j in grind (arith, nat_tests), search (arith, end_in_G, or_left, eq-eqb, or_right))
+  meets_in_G (ListsIn r ns) i p few = λ n. grind (
+    arith,
+    shown_in_G (ListsIn r ns) i n,
+    not_denied_in_G (ListsIn r ns) i n,
+    finds ns n,
+    listed_in ns n,
+    in_range r n,
+    in_range_back r n,
+    each_of (is_in_range r) ns n p,
+    in_contains n ns,
   )
-  meets_in_G (Has m) i p few = shown_in_G (Has m) i m (eq-eqb m m refl)
-  meets_in_G (Lacks m) i p few = none_of (get G m) (λ j. true≢false (sym (eq-eqb m m refl) ∙ not_denied_in_G (Lacks m) i m j))
   meets_in_G (StandsAt First m) i p few = least_is G m (shown_in_G (StandsAt First m) i m (eq-eqb m m refl)) (λ n j. ltb-false n m (not_denied_in_G (StandsAt First m) i n j))
-  meets_in_G (StandsAt (Known c) m) i p few = ap Some (eqb-true c m p)
-  meets_in_G (StandsAt Nowhere m) i p few = cc
-  meets_in_G (StandsNowhere First) i p few = least_none G (λ n j. let f = not_denied_in_G (StandsNowhere First) i n j in cc)
-  meets_in_G (StandsNowhere (Known c)) i p few = cc
-  meets_in_G (StandsNowhere Nowhere) i p few = refl
-  meets_in_G (StepsUp First m) i p few =
-      let d = demand_in_G (StepsUp First m) i in
-      let first : (n : ℕ) → IsNumber G n → (n ≡ d.1) ⊎ (m ≤ n) = λ n j. elim (cases_lt n m) [ inl l ↦ inl (d.4 n l j) | inr g ↦ inr g ] in
-      let low = d.2 in
-      of_first G d.1 (λ c. IsNextAbove G c m) (least_is G d.1 d.3 (λ n j. elim (first n j) [ inl e ↦ omega arith | inr g ↦ omega arith ]))
-      (low, d.0, λ n above j. elim (first n j) [ inl e ↦ absurd (omega arith) | inr g ↦ g ])
-  meets_in_G (StepsUp (Known c) m) i p few =
-      (ltb-true c m p, shown_in_G (StepsUp (Known c) m) i m (eq-eqb m m refl), λ n above j. let f = not_denied_in_G (StepsUp (Known c) m) i n j in grind (arith, nat_tests))
-  meets_in_G (StepsUp Nowhere m) i p few = cc
-  meets_in_G (StepsDown First m) i p few = cc
-  meets_in_G (StepsDown (Known c) m) i p few =
-      (ltb-true m c p, shown_in_G (StepsDown (Known c) m) i m (eq-eqb m m refl), λ n below j. let f = not_denied_in_G (StepsDown (Known c) m) i n j in grind (arith, nat_tests))
-  meets_in_G (StepsDown Nowhere m) i p few = cc
-  meets_in_G (IsTop First) i p few =
-      let d = demand_in_G (IsTop First) i in
-      of_first G d.0 (NoneAbove G) (least_is G d.0 d.1 (λ n j. let e = d.2 n j in omega arith)) (λ n above. none_of (get G n) (λ j. let e = d.2 n j in omega arith))
-  meets_in_G (IsTop (Known c)) i p few = λ n above. none_of (get G n) (λ j. let g = ltb-false c n (not_denied_in_G (IsTop (Known c)) i n j) in omega arith)
-  meets_in_G (IsTop Nowhere) i p few = cc
-  meets_in_G (IsBottom First) i p few = grind (arith, demand_in_G (IsBottom First) i, firsts G)
-  meets_in_G (IsBottom (Known c)) i p few = λ n below. none_of (get G n) (λ j. let g = ltb-false n c (not_denied_in_G (IsBottom (Known c)) i n j) in omega arith)
-  meets_in_G (IsBottom Nowhere) i p few = cc
+  meets_in_G ask i p few = grind (arith, nat_tests, eqb-true, eq-eqb, not_denied_in_G ask i, shown_in_G ask i, demand_in_G ask i, firsts G)
 
   -- the given numbers meet what is asked of them
   pub given_meet : AllByRecursion (Meets G) asks

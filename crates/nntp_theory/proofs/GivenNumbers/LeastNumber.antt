@@ -19,6 +19,3 @@ firsts N = firsts_of N (least N) refl (first_of_map N)
 
 pub least_is : (N : Numbers) (c : ℕ) → IsNumber N c → ((m : ℕ) → IsNumber N m → c ≤ m) → least N ≡ Some c
 least_is N c here all = grind (arith, firsts)
-
-pub least_none : (N : Numbers) → ((m : ℕ) → IsNumber N m → ⊥) → least N ≡ None
-least_none N none = elim (firsts N) [ Empty e n ↦ e | Begins d e there all ↦ absurd (none d there) ]

@@ -1,22 +1,18 @@
 -- What numbers meet stands together.
 use Rattle.nntp_wire.specs.declared.range.Range.{Range}
-use Rattle.std.proofs.Common.{◌≡◌, ℕ, ◌+◌, ◌<◌, ◌≤◌, ◌⊎◌, Bool, true, false, ◌==◌, not, IsTrue, List, [], ◌∷◌, None, Some, is_some, MatchOption, inl, inr, refl}
-use Rattle.std.proofs.{Common.{sym, ap, subst, ◌∙◌, arith, ◌&&◌}, lemmas.Bool.{true≢false, or_left, or_right, or_cases, and_parts, false_from_ne_true}}
-use Rattle.std.proofs.lemmas.Bool.{eqb-true, ltb-true, cases_Bool, not-true, cases_eq, cases_order, eq-eqb, and_from, le-leb, lt-ltb, ne_eqb}
-use Rattle.std.proofs.lemmas.{Bool.Decides.{nat_tests}, Map.{Views.{Contains-from_any, list_any-from_Contains, tells_apart}, Lookups.{exact_unsigned}}}
-use Rattle.std.specs.{Prelude.{IsFalse, Contains, cond, ◌-◌}, List.{AllByRecursion, list_any}, Ordering.{nat_cmp, eq_by_cmp}, Cmp.{nat_cmp_total}}
-use Rattle.std.specs.{Cmp.{unsigned_tied, nat_eq_equiv, eq_by_cmp_equiv}, FinMap.{get, len, keys, insert, remove, get-insert, get-remove, len-insert}}
+use Rattle.std.proofs.Common.{◌≡◌, ℕ, ◌≤◌, Bool, true, false, ◌==◌, not, IsTrue, List, [], ◌∷◌, is_some, MatchOption, inl, inr, refl, sym, subst, ◌∙◌, arith}
+use Rattle.std.proofs.{Common.{◌&&◌}, lemmas.Bool.{true≢false, or_left, or_right, or_cases, and_parts, eqb-true, ltb-true, cases_Bool, not-true, cases_eq}}
+use Rattle.std.proofs.lemmas.{Bool.{cases_order, eq-eqb, and_from, le-leb, lt-ltb, Decides.{nat_tests}}, Map.Views.{Contains-from_any, list_any-from_Contains}}
+use Rattle.std.{proofs.lemmas.Map.{Views.{tells_apart}, Lookups.{exact_unsigned}}, specs.{Prelude.{IsFalse, Contains}, List.{AllByRecursion, list_any}}}
+use Rattle.std.specs.{Cmp.{nat_cmp_total, nat_eq_equiv, eq_by_cmp_equiv}, FinMap.{get, len, keys, insert, remove, get-insert, get-remove, len-insert}}
 use Rattle.std.specs.FinMap.{len-remove, empty_of_len, get-empty, contains_key-keys}
 use Rattle.nntp_article.specs.Session.{Spool.{Numbers, IsNumber, least, IsInRange}, Machine.{is_in_range}}
-use Rattle.nntp_said.specs.{Asks.{Ask, Meets, ListsIn, Has, StandsAt, StepsUp, StepsDown, IsTop, IsBottom}, declared.position.Position.TheVariants.{First}}
-use Rattle.nntp_theory.specs.Given.{shows, denies, is_shown, is_denied, demand_in, join, demand, wants, IsOneMore, IsGivenNumber, HasGivenNumbers, says_some}
-use Rattle.nntp_theory.specs.{Given.{is_end, is_known}, declared.demand.Demand.{Demand, TheVariants.{SecondIs}}, Together.{is_possible, MeetsDemand, IsFewFor}}
+use Rattle.nntp_said.specs.Asks.{Ask, Meets, ListsIn}
+use Rattle.nntp_theory.specs.Given.{shows, denies, is_shown, is_denied, demand_in, demand, wants, IsOneMore, IsGivenNumber, HasGivenNumbers, says_some}
+use Rattle.nntp_theory.specs.{Given.{is_known}, declared.demand.Demand.{Demand, TheVariants.{SecondIs}}, Together.{is_possible, MeetsDemand}}
 use Rattle.nntp_theory.{specs.Inner.Together.{AsksStand}, proofs.GivenNumbers.{FirstFreeNumber.{first_free_once, first_free}, LeastNumber.{firsts, not_number}}}
-use Rattle.nntp_theory.proofs.{Members.{In, all_at, all_from, any_in, found_in, contains_in, in_contains, every}, Maps.{len_le}}
-
--- where the first number is c, what is asked of the first is asked of c
-pub of_first : (N : Numbers) (c : ℕ) (Q : ℕ → Type 0) → least N ≡ Some c → Q c → MatchOption (least N) ⊥ Q
-of_first N c Q e h = subst (λ o. MatchOption o ⊥ Q) (sym e) h
+use Rattle.nntp_theory.proofs.{GivenNumbers.LeastNumber.{Empty, Begins}, Members.{In, all_at, all_from, any_in, found_in, contains_in, in_contains, every}}
+use Rattle.nntp_theory.proofs.Maps.{len_le}
 
 pub first_there : (N : Numbers) (Q : ℕ → Type 0) → MatchOption (least N) ⊥ Q → (c : ℕ) × IsNumber N c × ((m : ℕ) → IsNumber N m → c ≤ m) × Q c
 first_there N Q h = grind (arith, firsts)
@@ -44,14 +40,7 @@ number_not_denied N ask n h i j = grind (arith, nat_tests, and_parts, true≢fal
 -- ---- of all that is asked
 
 pub shown_are_numbers : (N : Numbers) (asks : List Ask) (n : ℕ) → AllByRecursion (Meets N) asks → IsTrue (is_shown asks n) → IsNumber N n
-shown_are_numbers N [] n met s = cc
-shown_are_numbers N (ask ∷ asks) n met s =
-    elim (or_cases (shows ask n) (is_shown asks n) s) [ inl p ↦ shown_is_number N ask n met.0 p | inr p ↦ shown_are_numbers N asks n met.1 p ]
-
-pub numbers_not_denied : (N : Numbers) (asks : List Ask) (n : ℕ) → AllByRecursion (Meets N) asks → IsNumber N n → IsTrue (is_denied asks n) → ⊥
-numbers_not_denied N [] n met i d = cc
-numbers_not_denied N (ask ∷ asks) n met i d =
-    elim (or_cases (denies ask n) (is_denied asks n) d) [ inl p ↦ number_not_denied N ask n met.0 i p | inr p ↦ numbers_not_denied N asks n met.1 i p ]
+shown_are_numbers N asks n met s = grind (arith, found_in, all_at, shown_is_number)
 
 -- ---- the demand
 
@@ -59,27 +48,15 @@ numbers_not_denied N (ask ∷ asks) n met i d =
 meets_demand_in : (N : Numbers) (ask : Ask) → Meets N ask → MeetsDemand (demand_in ask) (IsNumber N)
 meets_demand_in N ask h = grind (arith, first_there, cases_order, not_number)
 
--- numbers that meet two demands meet both as one
-joined : (P : ℕ → Type 0) (d e : Demand) → MeetsDemand d P → MeetsDemand e P → MeetsDemand (join d e) P
-joined P d e h g = grind arith
-
 -- numbers that meet what is asked meet the demand
 demand_of : (N : Numbers) (asks : List Ask) → AllByRecursion (Meets N) asks → MeetsDemand (demand asks) (IsNumber N)
 demand_of N [] met = tt
-demand_of N (ask ∷ asks) met = joined (IsNumber N) (demand_in ask) (demand asks) (meets_demand_in N ask met.0) (demand_of N asks met.1)
-
--- a second number is of one of two demands
-join_second : (d e : Demand) (k : ℕ) → join d e ≡ SecondIs k → (d ≡ SecondIs k) ⊎ (e ≡ SecondIs k)
-join_second d e k h = grind arith
+demand_of N (ask ∷ asks) met = grind (arith, meets_demand_in N ask met.0, demand_of N asks met.1)
 
 -- a second number is shown
 pub second_shown : (asks : List Ask) (k : ℕ) → demand asks ≡ SecondIs k → IsTrue (is_shown asks k)
 second_shown [] k e = cc
-second_shown (ask ∷ asks) k e =
-    elim (join_second (demand_in ask) (demand asks) k e) [ inl h ↦ or_left (shows ask k) _ (one ask k h) | inr h ↦ or_right (shows ask k) _ (second_shown asks k h) ]
-  where
-    one : (ask : Ask) (k : ℕ) → demand_in ask ≡ SecondIs k → shows ask k ≡ true
-    one ask k e = grind arith
+second_shown (ask ∷ asks) k e = grind (arith, or_left, or_right, second_shown asks k)
 
 -- what is wanted of a number is wanted of each one below it
 pub wants_less : (d : Demand) (n m : ℕ) → m ≤ n → wants d n ≡ true → wants d m ≡ true
@@ -107,19 +84,18 @@ key_in N n i = in_contains n (keys N) (Contains-from_any (tells_apart exact_unsi
 
 -- and back
 pub key_is : (N : Numbers) (n : ℕ) → In n (keys N) → IsNumber N n
-key_is N n i = contains_key-keys N n ∙ any_in (eq_by_cmp nat_cmp n) n (keys N) i ((eq_by_cmp_equiv nat_cmp_total).refl n)
+key_is N n i = grind (arith, contains_key-keys, any_in, (eq_by_cmp_equiv nat_cmp_total).refl)
+
+-- where there is a number, one is counted
+pub some_counted : (N : Numbers) (n : ℕ) → IsNumber N n → 1 ≤ len N
+some_counted N n i = grind (arith, cases_eq (len N) 0, empty_of_len N, get-empty)
 
 -- to put a number in the place of another leaves how many there are
 len_replaced : (G : Numbers) (d c : ℕ) → IsNumber G d → (IsNumber G c → c ≡ d) → len (insert (remove G d) c []) ≡ len G
 len_replaced G d c there only =
-    let had : is_some (get G d) ≡ true = there in
-    let gone : is_some (get (remove G d) c) ≡ false = ap is_some (get-remove nat_cmp_total G d c) ∙ removed (eq_by_cmp nat_cmp c d) refl in
-    let some : 0 < len G = (elim (cases_eq (len G) 0) [ inl e ↦ absurd (not_number G d (ap (λ m. get m d) (empty_of_len G e) ∙ get-empty nat_cmp d) there) | inr ne ↦ omega arith ]) in
-    len-insert nat_cmp_total (remove G d) c [] ∙ ap (λ b. cond b (len (remove G d)) (len (remove G d) + 1)) gone
-    ∙ ap (λ n. n + 1) (len-remove nat_cmp_total G d ∙ ap (λ b. cond b (len G - 1) (len G)) had) ∙ omega arith
-  where
-    removed : (b : Bool) → eq_by_cmp nat_cmp c d ≡ b → is_some (cond b None (get G c)) ≡ false
-    removed b e = grind arith
+    let gone : is_some (get (remove G d) c) ≡ false = grind (arith, get-remove nat_cmp_total G d c) in
+    let some = some_counted G d there in
+    grind (arith, len-insert nat_cmp_total (remove G d) c [], len-remove nat_cmp_total G d)
 
 -- ---- numbers that are known
 
@@ -130,21 +106,7 @@ shown_known asks n s = or_left (is_shown asks n) _ s
 -- where it is said that there is a number, there is one
 some_there : (N : Numbers) (ask : Ask) → Meets N ask → says_some ask ≡ true → (n : ℕ) × IsNumber N n
 some_there N (ListsIn r (m ∷ ns)) h t = (m, shown_is_number N (ListsIn r (m ∷ ns)) m h (or_left (m == m) _ (eq-eqb m m refl)))
-some_there N (Has m) h t = (m, h)
-some_there N (StandsAt First m) h t = (m, shown_is_number N (StandsAt First m) m h (eq-eqb m m refl))
-some_there N (StepsUp at m) h t = (m, shown_is_number N (StepsUp at m) m h (eq-eqb m m refl))
-some_there N (StepsDown at m) h t = (m, shown_is_number N (StepsDown at m) m h (eq-eqb m m refl))
-some_there N (IsTop First) h t = let d = meets_demand_in N (IsTop First) h in (d.0, d.1)
-some_there N (IsBottom First) h t = meets_demand_in N (IsBottom First) h
-some_there N ask h t = cc
-
--- and then strict marks are numbers
-end_is_number : (N : Numbers) (ask : Ask) (n k : ℕ) → Meets N ask → IsNumber N k → is_end ask n ≡ true → IsNumber N n
-end_is_number N ask n k h i j = grind arith
-
--- what is known is a number
-pub known_are_numbers : (N : Numbers) (asks : List Ask) (n : ℕ) → AllByRecursion (Meets N) asks → IsTrue (is_known asks n) → IsNumber N n
-known_are_numbers N asks n met t = grind (arith, or_cases, shown_are_numbers, and_parts, found_in, some_there, all_at, end_is_number)
+some_there N ask h t = elim (firsts N) [ Empty e none ↦ absurd (grind (arith, none)) | Begins c e here all ↦ (c, here) ]
 
 -- there is one more number at most
 pub one_more_once : (asks : List Ask) (e d : ℕ) → IsOneMore asks e → IsOneMore asks d → e ≡ d
@@ -154,13 +116,13 @@ one_more_once asks e d x y = first_free_once (is_denied asks) 1 e d x.first y.fi
 
 module _ (asks : List Ask) (N : Numbers) (met : AllByRecursion (Meets N) asks) (positive : (n : ℕ) → IsNumber N n → 1 ≤ n) where
   known_in_N : (n : ℕ) → IsTrue (is_known asks n) → IsNumber N n
-  known_in_N n s = known_are_numbers N asks n met s
+  known_in_N n s = grind (arith, or_cases, shown_are_numbers, and_parts, found_in, some_there, all_at)
 
   free_in_N : (n : ℕ) → IsNumber N n → IsFalse (is_denied asks n)
-  free_in_N n i = false_from_ne_true _ (numbers_not_denied N asks n met i)
+  free_in_N n i = grind (arith, cases_Bool (is_denied asks n), found_in, all_at, number_not_denied)
 
   -- the demand wants a number that is known
-  is_wanted : ℕ → Bool
+  abbrev is_wanted : ℕ → Bool
   is_wanted n = is_known asks n && wants (demand asks) n
 
   -- where no number is known that is wanted, and one of N is wanted, there is one more
@@ -169,24 +131,18 @@ module _ (asks : List Ask) (N : Numbers) (met : AllByRecursion (Meets N) asks) (
 
   -- where N has a number that is wanted, one is given
   given_wanted : (n : ℕ) → IsNumber N n → wants (demand asks) n ≡ true → (k : ℕ) × IsGivenNumber asks k × (wants (demand asks) k ≡ true)
-  unfolding is_wanted
   given_wanted n i t =
       elim (cases_Bool (list_any is_wanted (keys N))) [
         | inl some ↦ (let f = found_in is_wanted (keys N) some in let p = and_parts (is_known asks f.0) (wants (demand asks) f.0) f.2 in (f.0, inl p.0, p.1))
         | inr none ↦
-            let needed : (m : ℕ) → IsTrue (is_known asks m) → IsFalse (wants (demand asks) m) = λ m s.
-            false_from_ne_true _ (λ w. true≢false (sym (any_in is_wanted m (keys N) (key_in N m (known_in_N m s)) (and_from (is_known asks m) _ s w)) ∙ none)) in
-            let more = one_more n i t needed in
+            let more = one_more n i t (λ m s. grind (arith, any_in is_wanted m (keys N) (key_in N m (known_in_N m s)), true≢false)) in
             (more.0, inr more.1, more.1.wanted)
       ]
 
   -- given numbers that are wanted are one, where those of N are
   one_wanted : ((a b : ℕ) → IsNumber N a → IsNumber N b → wants (demand asks) a ≡ true → wants (demand asks) b ≡ true → a ≡ b)
       → (m n : ℕ) → IsGivenNumber asks m → IsGivenNumber asks n → wants (demand asks) m ≡ true → wants (demand asks) n ≡ true → m ≡ n
-  one_wanted one m n (inl s) (inl t) a b = one m n (known_in_N m s) (known_in_N n t) a b
-  one_wanted one m n (inl s) (inr x) a b = absurd (true≢false (sym a ∙ x.needed m s))
-  one_wanted one m n (inr x) (inl t) a b = absurd (true≢false (sym b ∙ x.needed n t))
-  one_wanted one m n (inr x) (inr y) a b = one_more_once asks m n x y
+  one_wanted one m n s t a b = grind (arith, one m n, known_in_N m, known_in_N n, one_more_once asks m n, true≢false)
 
   -- the given numbers meet the demand
   demand_given : (d : Demand) → demand asks ≡ d → MeetsDemand d (IsNumber N) → MeetsDemand d (IsGivenNumber asks)
@@ -194,18 +150,16 @@ module _ (asks : List Ask) (N : Numbers) (met : AllByRecursion (Meets N) asks) (
 
   replaced_in_N : (G : Numbers) → HasGivenNumbers asks G → (d c : ℕ) → IsOneMore asks d → IsNumber N c → (n : ℕ) → IsNumber (insert (remove G d) c []) n → IsNumber N n
   replaced_in_N G given d c x here n i =
-      elim (cases_eq n c) [
-        | inl e ↦ subst (IsNumber N) (sym e) here
-        | inr ne ↦
-            let other = ap is_some (get-insert nat_cmp_total (remove G d) c [] n ∙ ap (λ b. cond b (Some []) (get (remove G d) n)) (unsigned_tied n c ∙ ne_eqb n c ne)) in
-            let kept : IsNumber (remove G d) n = sym other ∙ i in
-            elim (cases_eq n d) [
-              | inl e ↦ absurd (not_number (remove G d) n (get-remove nat_cmp_total G d n ∙ ap (λ b. cond b None (get G n)) (unsigned_tied n d ∙ eq-eqb n d e)) kept)
-              | inr apart ↦
-                  let in_G : IsNumber G n = sym (ap is_some (get-remove nat_cmp_total G d n ∙ ap (λ b. cond b None (get G n)) (unsigned_tied n d ∙ ne_eqb n d apart))) ∙ kept in
-                  elim ((given n).0 in_G) [ inl s ↦ known_in_N n s | inr y ↦ absurd (apart (one_more_once asks n d y x)) ]
-            ]
-      ]
+      grind (
+        arith,
+        cases_eq n c,
+        cases_eq n d,
+        get-insert nat_cmp_total (remove G d) c [] n,
+        get-remove nat_cmp_total G d n,
+        known_in_N n,
+        one_more_once asks n d,
+        given n,
+      )
 
   -- there are no more given numbers than N's
   pub as_few : (G : Numbers) → HasGivenNumbers asks G → len G ≤ len N
@@ -221,9 +175,6 @@ module _ (asks : List Ask) (N : Numbers) (met : AllByRecursion (Meets N) asks) (
             subst (λ n. n ≤ len N) (len_replaced G f.0 c.0 there only) (len_le nat_cmp_total (insert (remove G f.0) c.0 []) N (λ n i. replaced_in_N G given f.0 c.0 x c.1 n i))
       ]
 
-  few_for : (G : Numbers) → len G ≤ len N → (ask : Ask) → Meets N ask → IsFewFor G ask
-  few_for G ask h i = grind arith
-
   -- and so what is asked stands together
   pub asks_stand : AsksStand asks
-  asks_stand = grind (arith, all_from, possible_in, all_at, free_in_N, known_in_N, demand_given, demand_of, few_for, as_few)
+  asks_stand = grind (arith, all_from, possible_in, all_at, free_in_N, known_in_N, demand_given, demand_of, as_few)

@@ -9,23 +9,21 @@ use Rattle.nntp_theory.proofs.Ids.SmallGivenSpool.{named_by, known_named}
 -- ---- the numbers that are known
 
 -- the number, if it is known
-if_known : List Ask → ℕ → List ℕ
+abbrev if_known : List Ask → ℕ → List ℕ
 if_known asks n = cond (is_known asks n) (n ∷ []) []
 
 -- the numbers that are known
-pub known_list : List Ask → List ℕ
+abbrev pub known_list : List Ask → List ℕ
 known_list asks = flat_map (if_known asks) (flat_map named_by asks)
 
 -- a number that is known is in the list
 pub in_known_list : (asks : List Ask) (n : ℕ) → IsTrue (is_known asks n) → In n (known_list asks)
-unfolding known_list if_known
 in_known_list asks n t =
     let f = known_named asks n t in
     to_flat (if_known asks) n n (flat_map named_by asks) (to_flat named_by f.0 n asks f.1 f.2) (subst (λ b. In n (cond b (n ∷ []) [])) (sym t) (inl refl))
 
 -- and back
 pub from_known_list : (asks : List Ask) (n : ℕ) → In n (known_list asks) → IsTrue (is_known asks n)
-unfolding known_list if_known
 from_known_list asks n i = grind (arith, from_flat, if_known, named_by)
 
 -- ---- the one more number, if it is needed
@@ -35,17 +33,15 @@ abbrev is_met : List Ask → Bool
 is_met asks = list_any (λ n. wants (demand asks) n) (known_list asks)
 
 -- the one more number, if there is one
-pub more : ℕ → List Ask → Option ℕ
+abbrev pub more : ℕ → List Ask → Option ℕ
 more limit asks = cond (is_met asks) None (if_wanted (demand asks) (free (is_denied asks) limit 1))
 
 -- what the search finds is the one more number
 pub more_is : (limit : ℕ) (asks : List Ask) (n : ℕ) → more limit asks ≡ Some n → IsOneMore asks n
-unfolding more
 more_is limit asks n e = grind (arith, false_from_ne_true, true≢false, any_in, known_list, in_known_list, free_is)
 
 -- and it is found, if it is within the limit
 pub more_found : (limit : ℕ) (asks : List Ask) (n : ℕ) → IsOneMore asks n → n ≤ limit → more limit asks ≡ Some n
-unfolding more
 more_found limit asks n x within = by (is_met asks) refl (free (is_denied asks) limit 1) refl
   where
     by : (b : Bool) → is_met asks ≡ b → (o : Option ℕ) → free (is_denied asks) limit 1 ≡ o → cond b None (if_wanted (demand asks) o) ≡ Some n

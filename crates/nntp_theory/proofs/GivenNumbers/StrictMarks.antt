@@ -1,9 +1,9 @@
 -- Where marks are strict, no number is given beside those that are known.
-use Rattle.std.proofs.{Common.{◌≡◌, ℕ, Bool, true, cond, IsTrue, List, [], ◌∷◌, inl, inr, refl, sym, subst, arith}, lemmas.Bool.{true≢false, and_from, or_left}}
+use Rattle.std.proofs.{Common.{◌≡◌, ℕ, true, cond, IsTrue, List, [], ◌∷◌, inl, inr, refl, sym, subst, arith}, lemmas.Bool.{true≢false, and_from, or_left}}
 use Rattle.std.{proofs.lemmas.Bool.{or_right, cases_lt, eq-eqb, lt-ltb}, specs.List.{AllByRecursion, list_any}}
 use Rattle.nntp_wire.specs.{declared.{water_marks.WaterMarks.{WaterMarks}, marks.Marks.TheVariants.{Strict}}, Listing.{ActiveValue}}
 use Rattle.nntp_article.specs.Session.{Spool.{Name}, Machine.{is_same}}
-use Rattle.nntp_said.specs.{Asks.{Ask, Estimates, Bounds, Has}, Facts.{Fact, Asks, IdAt, GroupsAre}}
+use Rattle.nntp_said.specs.{Asks.{Ask, Estimates, Bounds}, Facts.{Fact, Asks, GroupsAre}}
 use Rattle.nntp_theory.{specs.Given.{asks_in, asks_of, is_known, says_some, IsOneMore}, proofs.Members.{In, all_at, any_in, found_in, to_flat, from_flat}}
 use Rattle.nntp_theory.proofs.{GivenNumbers.{MetNumbersStand.{wants_less}, GivenNumbersMeet.{some_said}}, Session.NumbersOfShownGroups.{IsSelectable, Placed}}
 
@@ -21,19 +21,11 @@ module _ (facts : List Fact) (placed : AllByRecursion (Placed Strict facts) fact
       let g = from_flat (asks_in name) f.0 facts f.1 in
       by g.0 g.1 f.0 g.2 f.2
     where
-      under : (g : Name) (x ask : Ask) → IsSelectable Strict facts g → (b : Bool) → is_same g name ≡ b → In ask (cond b (x ∷ []) []) → (m : WaterMarks) × In (Estimates Strict m) (asks_of name facts)
-      under g x ask s b same i = grind (arith, selected)
-
-      only : (b : Bool) (x ask : Ask) → In ask (cond b (x ∷ []) []) → x ≡ ask
-      only b x ask i = grind arith
-
       by : (fact : Fact) → In fact facts → (ask : Ask) → In ask (asks_in name fact) → says_some ask ≡ true → (m : WaterMarks) × In (Estimates Strict m) (asks_of name facts)
-      by (Asks g x) i ask j t = under g x ask (all_at (Placed Strict facts) (Asks g x) facts placed i) (is_same g name) refl j
-      by (IdAt g n id) i ask j t = under g (Has n) ask (all_at (Placed Strict facts) (IdAt g n id) facts placed i) (is_same g name) refl j
       by (GroupsAre p lines) i ask j t =
           let f = from_flat (λ (line : ActiveValue). cond (is_same line.name name) (Bounds line.low line.high ∷ []) []) ask lines j in
-          absurd (true≢false (sym (subst (λ a. says_some a ≡ true) (sym (only (is_same f.0.name name) (Bounds f.0.low f.0.high) ask f.2)) t)))
-      by fact i ask j t = absurd j
+          absurd (grind (arith, f.2))
+      by fact i ask j t = grind (arith, selected, all_at (Placed Strict facts) fact facts placed i)
 
   -- so there is no one more: where a number would do, the low mark does
   pub none_more : (name : Name) (n : ℕ) → IsOneMore (asks_of name facts) n → ⊥

@@ -1,6 +1,6 @@
 -- Invented ids: they are message ids, and differ from one another.
-use Rattle.std.proofs.Common.{◌≡◌, ℕ, ◌+◌, ◌-◌, ◌<◌, ◌≤◌, ◌^◌, true, false, ◌==◌, List, [], ◌∷◌, ◌++◌, length, take, drop, refl, arith, length-append}
-use Rattle.std.proofs.{Math.Seq.{take-append_seam}, lemmas.{Bool.{and_from, le-leb, ne_eqb}, List.Folds.{list_all-append}, Fmt.{decimal_is_IsNumeral_wide}}}
+use Rattle.std.proofs.Common.{◌≡◌, ℕ, ◌+◌, ◌-◌, ◌<◌, ◌≤◌, ◌^◌, true, List, [], ◌∷◌, ◌++◌, length, take, drop, refl, arith, length-append}
+use Rattle.std.proofs.{Math.Seq.{take-append_seam}, lemmas.{Bool.{and_from, le-leb}, List.Folds.{list_all-append}, Fmt.{decimal_is_IsNumeral_wide}}}
 use Rattle.std.{proofs.lemmas.{Fmt.{length-decimal-le_wide}, Str.Parse.{digit_from_value}}, specs.{Prelude.{codes, decimal}, List.{list_all}}}
 use Rattle.std.specs.Str.Parse.{AllDigits, digits_value}
 use Rattle.nntp_theory.specs.Given.{invented}
@@ -23,14 +23,10 @@ digits_visible : (ds : List ℕ) → AllDigits 10 ds → list_all is_id_octet ds
 digits_visible [] h = refl
 digits_visible (d ∷ ds) h = grind (arith, digit_from_value, and_from, le-leb, digits_visible ds h.1)
 
--- one octet more before the end
-ends_more : (c : ℕ) (cs : List ℕ) → (c == 62) ≡ false → ends_id cs ≡ true → ends_id (c ∷ cs) ≡ true
-ends_more c cs h i = grind arith
-
 -- digits before the end
 ends_behind : (ds cs : List ℕ) → AllDigits 10 ds → ends_id cs ≡ true → ends_id (ds ++ cs) ≡ true
 ends_behind [] cs h e = e
-ends_behind (d ∷ ds) cs h e = let r = (digit_from_value d h.0).1 in ends_more d (ds ++ cs) (ne_eqb d 62 (λ e. omega arith)) (ends_behind ds cs h.1 e)
+ends_behind (d ∷ ds) cs h e = grind (arith, digit_from_value d h.0, ends_behind ds cs h.1 e)
 
 -- an invented id is a message id
 pub invented_is_id : (k : ℕ) → k < 10 ^ 64 → IsMessageId (invented k)
@@ -39,4 +35,4 @@ invented_is_id k small =
     let long : length (invented k) ≡ 20 + length (decimal k) = omega (arith, length-append (decimal k) (codes "@invented.invalid>")) in
     let most : length (decimal k) ≤ 64 = length-decimal-le_wide 64 k (omega arith) small small in
     (message_id-iff (invented k)).0
-    (grind (arith, and_from, le-leb, list_all-append, digits_visible, ends_more, ends_behind))
+    (grind (arith, and_from, le-leb, list_all-append, digits_visible, ends_behind))

@@ -4,8 +4,8 @@ use Rattle.std.proofs.{Common.{length-append}, lemmas.{Bool.{cases_lt, or_cases,
 use Rattle.std.specs.{Prelude.{IsFalse, ⊤}, List.{list_any, flat_map}, Cmp.Lexicographic.{same_text}}
 use Rattle.nntp_article.specs.{Session.{Machine.{is_same}, Spool.{Name}}, Article.Parts.{Id}}
 use Rattle.nntp_said.specs.Facts.{Fact, IdAt, TextIs, NoArticle}
-use Rattle.nntp_theory.{specs.Given.{mentions, is_mentioned, invented, AreInvented, id_shown, unshown_in}, proofs.Ids.InventedIds.{invented_number}}
-use Rattle.nntp_theory.proofs.Members.{In, in_back, any_front, any_back}
+use Rattle.nntp_theory.{specs.Given.{is_mentioned, invented, AreInvented, id_shown, unshown_in}, proofs.{Ids.InventedIds.{invented_number}, Members.{In}}}
+use Rattle.nntp_theory.proofs.Members.{in_back, any_back}
 
 -- the number of the id that a fact mentions, as if it were an invented one
 abbrev pub mentioned_number : Fact → List ℕ
@@ -31,11 +31,7 @@ module _ (B : ℕ) (small : (i : ℕ) → i < B → invented_number (invented i)
   -- and so one of the facts
   pub counted : (i : ℕ) (facts : List Fact) → i < B → is_mentioned facts (invented i) ≡ true → list_any (eqb i) (mentioned facts) ≡ true
   counted i [] l e = cc
-  counted i (fact ∷ facts) l e =
-      elim (or_cases (mentions (invented i) fact) (is_mentioned facts (invented i)) e) [
-        | inl t ↦ any_front (eqb i) (mentioned_number fact) (mentioned facts) ((grind (arith, or_left, invented_number, same_number)))
-        | inr r ↦ any_back (eqb i) (mentioned_number fact) (mentioned facts) (counted i facts l r)
-      ]
+  counted i (fact ∷ facts) l e = grind (arith, or_cases, or_left, same_number, any_back (eqb i) (mentioned_number fact) (mentioned facts), counted i facts l)
 
   -- the numbers from k on, behind those that were invented before
   numbered_from : (ids : List Id) (k : ℕ) (done : List ℕ) → ((i : ℕ) → i < k → list_any (eqb i) (done ++ mentioned facts) ≡ true)
@@ -43,7 +39,7 @@ module _ (B : ℕ) (small : (i : ℕ) → i < B → invented_number (invented i)
   numbered_from [] k done below few h = tt
   numbered_from (id ∷ ids) k done below few (j, (from, free, passed), is, rest) =
       let used : (i : ℕ) → i < j → i < B → list_any (eqb i) (done ++ mentioned facts) ≡ true = λ i l s.
-      elim (cases_lt i k) [ inl b ↦ below i b | inr g ↦ any_back (eqb i) done (mentioned facts) (counted i facts s (passed i g l)) ] in
+      grind (arith, below i, any_back (eqb i) done (mentioned facts), counted i facts s, passed i) in
       let count : length (done ++ mentioned facts) ≡ length done + length (mentioned facts) = length-append done (mentioned facts) in
       let lt : j < B = elim (cases_lt j B) [ inl l ↦ l | inr g ↦ (let le = le-length_from_below (done ++ mentioned facts) B (λ i l. used i (omega arith) l) in absurd (omega arith)) ] in (
         j,
@@ -51,12 +47,7 @@ module _ (B : ℕ) (small : (i : ℕ) → i < B → invented_number (invented i)
         lt,
         is,
         ap (is_mentioned facts) is ∙ free,
-        numbered_from ids (j + 1) (j ∷ done) (λ i l. elim
-            (cases_lt i j) [
-              | inl b ↦ or_right (eqb i j) _ (used i b (omega arith))
-              | inr g ↦ or_left (eqb i j) _
-                  (eq-eqb i j (omega arith))
-            ]) (omega arith) rest,
+        numbered_from ids (j + 1) (j ∷ done) (λ i l. grind (arith, or_left, or_right, used i, eq-eqb i j)) (omega arith) rest,
       )
 
   -- the numbers are small if few ids are mentioned and invented
@@ -66,8 +57,7 @@ module _ (B : ℕ) (small : (i : ℕ) → i < B → invented_number (invented i)
   -- one of the ids has a number, and isn't mentioned
   pub of_numbered : (k : ℕ) (ids : List Id) (id : Id) → Numbered k ids → In id ids → (j : ℕ) × (k ≤ j) × (j < B) × (id ≡ invented j) × IsFalse (is_mentioned facts id)
   of_numbered k [] id h i = absurd i
-  of_numbered k (x ∷ ids) id (j, from, lt, is, free, rest) (inl e) = (j, from, lt, sym e ∙ is, subst (λ id. IsFalse (is_mentioned facts id)) e free)
-  of_numbered k (x ∷ ids) id (j, from, lt, is, free, rest) (inr i) = let r = of_numbered (j + 1) ids id rest i in let l = r.1 in (r.0, omega arith, r.2, r.3, r.4)
+  of_numbered k (x ∷ ids) id (j, from, lt, is, free, rest) i = grind (arith, of_numbered (j + 1) ids id rest)
 
   -- ids at the front are numbered
   front_numbered : (k : ℕ) (xs ys : List Id) → Numbered k (xs ++ ys) → Numbered k xs
@@ -88,8 +78,7 @@ module _ (B : ℕ) (small : (i : ℕ) → i < B → invented_number (invented i)
   -- the id at a number for which none is shown is among the invented ones
   pub unshown_there : (name : Name) (n : ℕ) (id : Id) (es : List (ℕ × Id)) → In (n, id) es → id_shown facts name n ≡ None → In id (unshown_in facts name es)
   unshown_there name n id [] i none = absurd i
-  unshown_there name n id (e ∷ es) (inl same) none = grind arith
-  unshown_there name n id (e ∷ es) (inr i) none = in_back id (cond (is_some (id_shown facts name e.0)) [] (e.1 ∷ [])) _ (unshown_there name n id es i none)
+  unshown_there name n id (e ∷ es) i none = grind (arith, in_back, unshown_there name n id es)
 
   -- an id that is invented for a number isn't invented again behind it
   once : (name : Name) (k n m : ℕ) (id : Id) (e : ℕ × Id) (es : List (ℕ × Id)) → Numbered k (unshown_in facts name (e ∷ es))

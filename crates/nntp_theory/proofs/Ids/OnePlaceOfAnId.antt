@@ -1,7 +1,6 @@
 -- An id that is shown at a number has this number.
-use Rattle.std.proofs.Common.{◌≡◌, ℕ, Bool, true, ◌&&◌, ◌==◌, cond, IsTrue, List, [], ◌∷◌, Option, None, Some, is_some, IsSome, inl, refl, sym, subst, arith}
-use Rattle.std.proofs.lemmas.Bool.{eqb-true}
-use Rattle.nntp_article.specs.{Article.Parts.{Id}, Session.{Spool.{Name}, Machine.{is_same}}}
+use Rattle.std.proofs.{Common.{◌≡◌, ℕ, true, IsTrue, List, Option, Some, is_some, IsSome, refl, arith}, lemmas.Bool.{eqb-true}}
+use Rattle.nntp_article.specs.{Article.Parts.{Id}, Session.Spool.{Name}}
 use Rattle.nntp_said.specs.{Asks.{Has}, Facts.{Fact, IdAt}}
 use Rattle.nntp_theory.{specs.{Given.{shows, is_shown, asks_in, asks_of, first_given, id_in}, Together.{number_in, GiveOne}}, proofs.Members.{In, any_in}}
 use Rattle.nntp_theory.proofs.{Members.{to_flat, first_found}, Given.GivenHolds.{one_given}, Together.FactsOfASpoolStand.{same_itself}}
@@ -17,14 +16,8 @@ pub shown_with_id : (facts : List Fact) (name : Name) (n : ℕ) → IsSome (firs
 shown_with_id facts name n = given (first_given (id_in name n) facts) refl
   where
     by : (fact : Fact) (id : Id) → In fact facts → id_in name n fact ≡ Some id → IsTrue (is_shown (asks_of name facts) n)
-    by (IdAt g m other) id i e = one (is_same g name) refl (m == n) refl e
-      where
-        one : (a : Bool) → is_same g name ≡ a → (b : Bool) → (m == n) ≡ b → cond (a && b) (Some other) None ≡ Some id → IsTrue (is_shown (asks_of name facts) n)
-        one true same true at e =
-            any_in (λ ask. shows ask n) (Has m) (asks_of name facts)
-            (to_flat (asks_in name) (IdAt g m other) (Has m) facts i
-            (subst (λ b. In (Has m) (cond b (Has m ∷ []) [])) (sym same) (inl refl))) at
-        one a same b at e = cc
+    by (IdAt g m other) id i e =
+        grind (arith, any_in (λ ask. shows ask n) (Has m) (asks_of name facts), to_flat (asks_in name) (IdAt g m other) (Has m) facts i)
     by fact id i e = cc
 
     given : (o : Option Id) → first_given (id_in name n) facts ≡ o → is_some o ≡ true → IsTrue (is_shown (asks_of name facts) n)

@@ -1,18 +1,9 @@
 -- A head of one line that says an id.
-use Rattle.std.proofs.Common.{◌≡◌, ℕ, true, false, cond, ◌&&◌, not, IsTrue, List, [], ◌∷◌, ◌++◌, length, Some, refl, ap, ◌∙◌, arith, append-nil}
-use Rattle.std.{proofs.lemmas.Bool.{and_from, and_parts}, specs.{Prelude.{nat_le, codes, nat_lt}, List.{list_all, AllByRecursion}}}
+use Rattle.std.proofs.{Common.{◌≡◌, ℕ, true, ◌&&◌, IsTrue, List, [], ◌∷◌, ◌++◌, length, Some, refl, ap, ◌∙◌, arith, append-nil}, lemmas.Bool.{and_from}}
+use Rattle.std.{proofs.lemmas.Bool.{and_parts}, specs.{Prelude.{nat_le, codes, nat_lt}, List.{list_all, AllByRecursion}}}
 use Rattle.nntp_article.specs.{Article.Parts.{is_head, said_id, skip_blanks, skip_last_blanks, content_of, Id}, Session.Spool.{is_line}}
 use Rattle.nntp_theory.specs.Given.{plain_head}
-use Rattle.nntp_wire.specs.{Decided.{is_id_octet, begins_id}, Name.{IsMessageId}, Octets.{is_blank, is_clean, is_line_breaking}}
-use Rattle.nntp_wire.proofs.DecidedLemmas.{message_id-iff}
-
--- an octet of an id is no blank
-visible : (c : ℕ) → is_id_octet c ≡ true → is_blank c ≡ false
-visible c h = grind arith
-
--- and no NUL, CR or LF
-clean : (c : ℕ) → is_id_octet c ≡ true → (not (is_line_breaking c) ≡ true) × (nat_lt c 256 ≡ true)
-clean c h = grind arith
+use Rattle.nntp_wire.{specs.{Decided.{is_id_octet, begins_id}, Name.{IsMessageId}, Octets.{is_clean}}, proofs.DecidedLemmas.{message_id-iff}}
 
 -- octets of an id make a line
 all_clean : (cs : List ℕ) → list_all is_id_octet cs ≡ true → (is_clean cs ≡ true) × (list_all (λ c. nat_lt c 256) cs ≡ true)
@@ -26,14 +17,12 @@ id_line cs h = let both = all_clean cs h in and_from (is_clean (codes "Message-I
 -- an id has no blanks at its end
 no_last_blanks : (cs : List ℕ) → list_all is_id_octet cs ≡ true → skip_last_blanks cs ≡ cs
 no_last_blanks [] h = refl
-no_last_blanks (c ∷ cs) h =
-    let p = and_parts (is_id_octet c) _ h in
-    ap (λ b. cond (b && list_all is_blank cs) [] (c ∷ skip_last_blanks cs)) (visible c p.0) ∙ ap (λ cs. c ∷ cs) (no_last_blanks cs p.1)
+no_last_blanks (c ∷ cs) h = grind (arith, and_parts, no_last_blanks cs)
 
 -- and none at its front
 no_blanks : (cs : List ℕ) → list_all is_id_octet cs ≡ true → skip_blanks cs ≡ cs
 no_blanks [] h = refl
-no_blanks (c ∷ cs) h = let p = and_parts (is_id_octet c) _ h in ap (λ b. cond b (skip_blanks cs) (c ∷ cs)) (visible c p.0)
+no_blanks (c ∷ cs) h = grind (arith, and_parts)
 
 -- a message id has octets of ids alone
 octets : (id : Id) → IsMessageId id → list_all is_id_octet id ≡ true

@@ -6,7 +6,7 @@ use Rattle.nntp_said.specs.{Asks.{position_after}, declared.position.Position.{P
 use Rattle.nntp_theory.{specs.{Inner.Given.{size, weight}, Given.{facts_of_session}}, proofs.Given.FirstBadAnswer.{size-append}}
 use Rattle.nntp_pair.specs.{Pairing.{Paired, responses_of}, Inner.Pairing.{lines_in}}
 
--- so does an answer
+-- what an answer says is bounded by its lines
 pub answer_size : (how : Marks) (v : Visible) (at : Position) (p : Asked) (a : Response) → size (facts_of how v at p a) ≤ lines_in a + 3
 answer_size how v at p a = grind (arith, listed_numbers-few, active_groups-few)
 
@@ -22,4 +22,4 @@ session_size how ps answers = from_size how start.visible Nowhere ps answers
 -- answers of few lines weigh little
 pub pairs_weight : (pairs : List Paired) → AllByRecursion (λ pair. lines_in pair.response < 2 ^ 64) pairs → weight (responses_of pairs) ≤ (2 ^ 64 + 2) * length pairs
 pairs_weight [] few = omega arith
-pairs_weight (pair ∷ pairs) few = let rest = pairs_weight pairs few.1 in let here = few.0 in omega arith
+pairs_weight (pair ∷ pairs) few = omega (arith, pairs_weight pairs few.1, few.0)

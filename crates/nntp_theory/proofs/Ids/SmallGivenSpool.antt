@@ -1,22 +1,22 @@
 -- A session that says little is given a small spool.
 use Rattle.nntp_wire.specs.{declared.marks.Marks.TheVariants.{Strict}, Listing.{ActiveValue}}
-use Rattle.std.proofs.Common.{◌≡◌, ℕ, ◌+◌, ◌<◌, ◌≤◌, ◌^◌, Bool, true, false, cond, not, IsTrue, List, [], ◌∷◌, ◌++◌, map, length, Some, is_some, inl, inr, refl}
-use Rattle.std.proofs.{Common.{sym, ap, subst, ◌∙◌, arith, length-append}, lemmas.Bool.{cases_Bool, eqb-true, not-true, true≢false, or_cases, and_parts}}
-use Rattle.std.{proofs.lemmas.{List.{length-map}, Map.Keys.{IsDistinct-from_sorted}}, specs.{Prelude.{unwrap_or}, List.{list_any, flat_map, IsDistinct}}}
-use Rattle.std.specs.{List.{AllByRecursion}, Ordering.{nat_cmp, eq_by_cmp}, Cmp.{nat_cmp_total, eq_by_cmp_equiv, Lexicographic.{slice_cmp, same_text}}}
-use Rattle.std.specs.{Cmp.Lexicographic.{nat_list_cmp_total, nat_list_eq_equiv}, FinMap.{get, empty, get-entries, keys, entries, entries_sorted}}
+use Rattle.std.proofs.Common.{◌≡◌, ℕ, ◌+◌, ◌<◌, ◌≤◌, ◌^◌, true, false, cond, not, IsTrue, List, [], ◌∷◌, ◌++◌, map, length, inl, inr, refl, sym, ap, ◌∙◌, arith}
+use Rattle.std.proofs.{Common.{length-append}, lemmas.{Bool.{cases_Bool, eqb-true, not-true, true≢false, or_cases, and_parts}, List.{length-map}}}
+use Rattle.std.{proofs.lemmas.{List.Folds.{flat_map-map}, Map.{Keys.{IsDistinct-from_sorted}, Text.{is_eq-slice_cmp}}}, specs.List.{AllByRecursion, list_any}}
+use Rattle.std.specs.{List.{flat_map, IsDistinct}, Ordering.{nat_cmp, eq_by_cmp}, Cmp.{nat_cmp_total, Lexicographic.{slice_cmp, same_text, nat_list_cmp_total}}}
+use Rattle.std.specs.FinMap.{keys, entries, entries_sorted, nat_cmp-IsAntisymmetric, slice_cmp-IsAntisymmetric}
 use Rattle.nntp_article.specs.{Session.{Spool.{Spool, Numbers, IsNumber, IsGroup, numbers, Name}, Machine.{is_same}}, Article.Parts.{Id}}
 use Rattle.nntp_said.specs.{Asks.{Ask, Estimates, Bounds, ListsIn, Has, StandsAt, StepsUp, StepsDown}, declared.position.Position.TheVariants.{First}}
 use Rattle.nntp_said.specs.Facts.{Fact, ThereIs, Asks, IdAt, GroupsAre}
 use Rattle.nntp_theory.specs.Given.{shows, IsOneMore, HasGivenNumbers, asks_in, asks_of, shows_group, is_shown_group, unshown_in, unshown_ids, is_known}
-use Rattle.nntp_theory.{specs.Inner.Given.{size_in, size}, proofs.Members.{In, any_in, found_in, in_map, from_map, to_flat, from_flat, parts_few}}
+use Rattle.nntp_theory.{specs.Inner.Given.{size_in, size}, proofs.Members.{In, any_in, found_in, to_flat, from_flat, parts_few}}
 use Rattle.nntp_theory.proofs.{GivenNumbers.MetNumbersStand.{one_more_once, any_unknown, key_in, key_is}, Ids.NumbersOfInventedIds.{mentioned}}
-use Rattle.nntp_theory.proofs.Maps.{sorted_keys, keys_among, find_entry}
+use Rattle.nntp_theory.proofs.{Maps.{sorted_keys, keys_among, in_get}, Together.FactsOfASpoolStand.{same_itself, listed, in_listed}}
 
 -- ---- the names and numbers that are shown, as lists
 
 -- the groups that a fact shows
-names_in : Fact → List Name
+abbrev names_in : Fact → List Name
 names_in (ThereIs name) = name ∷ []
 names_in (GroupsAre p lines) = map (λ line. line.name) lines
 names_in fact = []
@@ -40,16 +40,12 @@ abbrev pub numbers_in : Name → Fact → List ℕ
 numbers_in name fact = flat_map named_by (asks_in name fact)
 
 -- the numbers of a group that are shown
-pub shown_numbers : Name → List Fact → List ℕ
+abbrev pub shown_numbers : Name → List Fact → List ℕ
 shown_numbers name facts = flat_map (numbers_in name) facts
 
 -- a group that a fact shows is one of its names
 names_shown : (name : Name) (fact : Fact) → shows_group name fact ≡ true → In name (names_in fact)
-unfolding names_in
-names_shown name (GroupsAre p lines) t =
-    let f = found_in (λ line. is_same line.name name) lines t in
-    subst (λ g. In g (map (λ line. line.name) lines)) (same_text f.0.name name (sym f.2)) (in_map (λ line. line.name) f.0 lines f.1)
-names_shown name fact t = grind (arith, same_text)
+names_shown name fact t = grind (arith, same_text, in_listed)
 
 -- a group that is shown is one of the names
 pub shown_name : (facts : List Fact) (name : Name) → IsTrue (is_shown_group facts name) → In name (names_of facts)
@@ -58,17 +54,12 @@ shown_name facts name t = let f = found_in (shows_group name) facts t in to_flat
 
 -- and back
 names_back : (name : Name) (fact : Fact) → In name (names_in fact) → shows_group name fact ≡ true
-unfolding names_in
-names_back name (ThereIs g) i = elim i [ inl e ↦ subst (λ n. is_same g n ≡ true) e (nat_list_eq_equiv.refl g) | inr j ↦ absurd j ]
-names_back name (GroupsAre p lines) i =
-    let f = from_map (λ (line : ActiveValue). line.name) name lines i in
-    any_in (λ line. is_same line.name name) f.0 lines f.1 (subst (λ n. is_same f.0.name n ≡ true) f.2 (nat_list_eq_equiv.refl f.0.name))
-names_back name fact i = absurd i
+names_back name fact i = grind (arith, same_itself, listed)
 
 -- one of the names is shown
 pub name_shown : (facts : List Fact) (name : Name) → In name (names_of facts) → IsTrue (is_shown_group facts name)
 unfolding names_of
-name_shown facts name i = let f = from_flat names_in name facts i in any_in (shows_group name) f.0 facts f.1 (names_back name f.0 f.2)
+name_shown facts name i = grind (arith, from_flat, any_in, names_back)
 
 -- a number that is shown is one of the ask's
 pub one_shown : (ask : Ask) (n : ℕ) → shows ask n ≡ true → In n (named_by ask)
@@ -80,7 +71,6 @@ known_named asks n t = grind (arith, or_cases, found_in, one_shown, and_parts)
 
 -- and of the numbers
 pub known_number : (name : Name) (facts : List Fact) (n : ℕ) → IsTrue (is_known (asks_of name facts) n) → In n (shown_numbers name facts)
-unfolding shown_numbers
 known_number name facts n t =
     let f = known_named (asks_of name facts) n t in
     let g = from_flat (asks_in name) f.0 facts f.1 in
@@ -90,11 +80,9 @@ known_number name facts n t =
 
 -- there are few names
 names_few : (facts : List Fact) → length (names_of facts) ≤ size facts
-unfolding names_of names_in
+unfolding names_of
 names_few [] = omega arith
-names_few (ThereIs name ∷ facts) = let rest = names_few facts in omega arith
-names_few (GroupsAre p lines ∷ facts) = grind (arith, length-append, names_of, length-map, names_few facts)
-names_few (fact ∷ facts) = let rest = names_few facts in omega arith
+names_few (fact ∷ facts) = grind (arith, length-append, length-map, names_few facts)
 
 -- marks show no number
 no_number : (name : Name) (lines : List ActiveValue) → flat_map named_by (flat_map (λ line. cond (is_same line.name name) (Bounds line.low line.high ∷ []) []) lines) ≡ []
@@ -107,12 +95,9 @@ no_number name (line ∷ lines) = grind (arith, no_number name lines)
 none_left : (g : Name) (ask : Ask) (name : Name) (names : List Name) → is_same g name ≡ true → AllByRecursion (λ other. eq_by_cmp (slice_cmp nat_cmp) name other ≡ false) names
     → length (flat_map (λ n. flat_map named_by (cond (is_same g n) (ask ∷ []) [])) names) ≡ 0
 none_left g ask name [] same apart = refl
-none_left g ask name (other ∷ names) same apart = by (is_same g other) refl (none_left g ask name names same apart.1)
-  where
-    by : (b : Bool) → is_same g other ≡ b → length (flat_map (λ n. flat_map named_by (cond (is_same g n) (ask ∷ []) [])) names) ≡ 0
-        → length (flat_map named_by (cond b (ask ∷ []) []) ++ flat_map (λ n. flat_map named_by (cond (is_same g n) (ask ∷ []) [])) names) ≡ 0
-    by true e rest = grind (arith, sym (same_text g name (sym same)) ∙ same_text g other (sym e), true≢false, eq_by_cmp_equiv, nat_list_cmp_total)
-    by false e rest = rest
+none_left g ask name (other ∷ names) same apart =
+    let one : g ≡ name = same_text g name (sym same) in
+    grind (arith, is_eq-slice_cmp name other, none_left g ask name names same apart.1)
 
 -- what an ask shows of several groups is no more than its size
 ask_few : (g : Name) (ask : Ask) (names : List Name) → IsDistinct (eq_by_cmp (slice_cmp nat_cmp)) names
@@ -124,7 +109,7 @@ ask_few g ask (name ∷ names) d = grind (arith, none_left, length-append, ask_f
 -- where nothing is shown of any group
 nothing_few : (f : Name → List ℕ) (names : List Name) → ((name : Name) → f name ≡ []) → length (flat_map f names) ≡ 0
 nothing_few f [] none = refl
-nothing_few f (name ∷ names) none = ap (λ xs. length (xs ++ flat_map f names)) (none name) ∙ nothing_few f names none
+nothing_few f (name ∷ names) none = grind (arith, nothing_few f names)
 
 -- and so a fact
 one_few : (fact : Fact) (names : List Name) → IsDistinct (eq_by_cmp (slice_cmp nat_cmp)) names → length (flat_map (λ name. numbers_in name fact) names) ≤ size_in fact
@@ -140,15 +125,13 @@ both_parts f h (name ∷ names) = grind (arith, length-append, both_parts f h na
 
 -- there are few numbers, over all groups
 numbers_few : (facts : List Fact) (names : List Name) → IsDistinct (eq_by_cmp (slice_cmp nat_cmp)) names → length (flat_map (λ name. shown_numbers name facts) names) ≤ size facts
-unfolding shown_numbers
 numbers_few [] names d = let none = nothing_few (λ name. []) names (λ name. refl) in omega arith
 numbers_few (fact ∷ facts) names d = grind (arith, both_parts (λ name. numbers_in name fact) (λ name. shown_numbers name facts) names, one_few, numbers_few facts names d)
 
 -- no more ids are mentioned than the size
 mentioned_few : (facts : List Fact) → length (mentioned facts) ≤ size facts
 mentioned_few [] = omega arith
-mentioned_few (IdAt name n id ∷ facts) = let rest = mentioned_few facts in omega arith
-mentioned_few (fact ∷ facts) = let rest = mentioned_few facts in omega arith
+mentioned_few (fact ∷ facts) = grind (arith, mentioned_few facts)
 
 -- ---- the spool that is given
 
@@ -163,11 +146,7 @@ given_few name facts N given =
           let unshown : (n : ℕ) → IsNumber N n → is_known asks n ≡ false → IsOneMore asks n = λ n i h. elim ((given n).0 i) [ inl t ↦ absurd (true≢false (sym t ∙ h)) | inr x ↦ x ] in
           let one = unshown f.0 (key_is N f.0 f.1) (not-true _ f.2) in
           let le = keys_among nat_cmp_total N (f.0 ∷ shown_numbers name facts)
-          (λ n i. elim (cases_Bool (is_known asks n)) [
-            | inl t ↦ inr (known_number name facts n t)
-            | inr h ↦ inl
-                (one_more_once asks f.0 n one (unshown n i h))
-          ]) in
+          (λ n i. grind (arith, known_number name facts n, one_more_once asks f.0 n one, unshown n i)) in
           omega arith
     ]
 
@@ -176,30 +155,19 @@ unshown_few : (facts : List Fact) (name : Name) (es : List (ℕ × Id)) → leng
 unshown_few facts name [] = omega arith
 unshown_few facts name (e ∷ es) = grind (arith, unshown_few facts name es)
 
--- the numbers of the entries are those of their names
-by_names : (facts : List Fact) (es : List (Name × Numbers))
-    → flat_map (λ (g : Name × Numbers). shown_numbers g.0 facts) es ≡ flat_map (λ name. shown_numbers name facts)
-    (map (λ (g : Name × Numbers). g.0) es)
-by_names facts [] = refl
-by_names facts (e ∷ es) = ap (λ ns. shown_numbers e.0 facts ++ ns) (by_names facts es)
-
 -- the ids for which none is shown are few
 pub unshown_ids_few : (facts : List Fact) (G : Spool) → ((name : Name) → IsGroup G name → IsTrue (is_shown_group facts name))
     → ((name : Name) → IsGroup G name → HasGivenNumbers (asks_of name facts) (numbers G name))
     → length (unshown_ids facts G) ≤ size facts + size facts
 unshown_ids_few facts G groups given =
     let each : (g : Name × Numbers) → In g (entries G.groups) → length (unshown_in facts g.0 (entries g.1)) ≤ 1 + length (shown_numbers g.0 facts) = λ g i.
-    (let at : get G.groups g.0 ≡ Some g.1 = get-entries G.groups g.0 ∙ find_entry nat_list_cmp_total g.0 g.1 (entries G.groups) (entries_sorted G.groups) i in
-    let is : HasGivenNumbers (asks_of g.0 facts) g.1 = subst (HasGivenNumbers (asks_of g.0 facts)) (ap (λ o. unwrap_or o empty) at) (given g.0 (ap is_some at)) in
-    let a = unshown_few facts g.0 (entries g.1) in
-    let b = given_few g.0 facts g.1 is in
-    omega arith) in
+    (let at = in_get nat_list_cmp_total (slice_cmp-IsAntisymmetric nat_cmp-IsAntisymmetric) G.groups g.0 g.1 i in
+    grind (arith, at, given g.0, unshown_few facts g.0 (entries g.1), given_few g.0 facts g.1)) in
     let all = parts_few (λ (g : Name × Numbers). unshown_in facts g.0 (entries g.1)) (λ (g : Name × Numbers). shown_numbers g.0 facts) (entries G.groups) each in
     let names = keys_among nat_list_cmp_total G.groups (names_of facts) (λ name i. shown_name facts name (groups name i)) in
-    let few = names_few facts in
-    let same = ap length (by_names facts (entries G.groups)) in
+    let same = ap length (flat_map-map (λ name. shown_numbers name facts) (λ (g : Name × Numbers). g.0) (entries G.groups)) in
     let total = numbers_few facts (keys G.groups) (IsDistinct-from_sorted (slice_cmp nat_cmp) (keys G.groups) (sorted_keys (slice_cmp nat_cmp) (entries G.groups) (entries_sorted G.groups))) in
-    omega arith
+    omega (arith, names_few facts)
 
 -- fewer ids than invented ids can number
 pub few_enough : (facts : List Fact) (n : ℕ) → size facts < 2 ^ 210 → n ≤ size facts + size facts → length (mentioned facts) + n < 10 ^ 64

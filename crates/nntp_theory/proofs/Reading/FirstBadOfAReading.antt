@@ -1,5 +1,5 @@
 -- The first bad answer of a reading is that of the outcome; a reading without one is explained by some spool.
-use Rattle.std.proofs.Common.{◌≡◌, ◌⊎◌, ℕ, List, [], ◌∷◌, ◌++◌, length, map, Some, inl, inr, refl, sym, ap, subst, ◌∙◌}
+use Rattle.std.proofs.Common.{arith, ◌≡◌, ◌⊎◌, ℕ, List, [], ◌∷◌, ◌++◌, length, map, Some, inl, inr, refl, sym, ap, subst, ◌∙◌}
 use Rattle.nntp_article.specs.{declared.session.profile.Profile.{Profile}, Session.{Spool.{Spool}, Explains.{Explains}}}
 use Rattle.nntp_pair.specs.{declared.class.{PairClass.{PairClass, TheVariants.{Malformed as PairMalformed}}, Class.{Class}}, Pairing.{Paired, Ending, end, bad}}
 use Rattle.nntp_pair.{specs.{Pairing.{IsPairing, streams}, Classes.{class_of}}, proofs.PassedLemmas.{passed-ends}}
@@ -17,15 +17,14 @@ pub first_bad : (profile : Profile) (client : ClientStream) (server : List ℕ) 
 first_bad profile client server pairs (Accepted pair) more ending class reading e = cc
 first_bad profile client server pairs (Refused pair) more ending class reading e =
     let r = accepted_first (ArePermitted profile) [] (streams client server) reading.left pairs (Refused pair ∷ more) (none_accepted profile) reading.judged in
-    let first = r.rest.1 in
     let same : _ ≡ class = cc in
     subst (λ class. IsOutcome profile client server (No (length pairs) class)) same
-    (outcome_at_response profile client server pairs pair r.between r.rest.0 r.paired first.0 ((permits_alone profile (exchanged pairs)).0 r.stand)
-    (λ h. first.1 ((permits_alone profile (exchanged (pairs ++ pair ∷ []))).1 h)))
+    (outcome_at_response profile client server pairs pair r.between r.rest.0 r.paired r.rest.1.0 ((permits_alone profile (exchanged pairs)).0 r.stand)
+    (λ h. r.rest.1.1 ((permits_alone profile (exchanged (pairs ++ pair ∷ []))).1 h)))
 first_bad profile client server pairs (Unspelled index place initial block) more ending class reading e =
     let r = accepted_first (ArePermitted profile) [] (streams client server) reading.left pairs (Unspelled index place initial block ∷ more) (none_accepted profile) reading.judged in
-    let first = r.rest.1 in
-    let pairing : IsPairing client server pairs (bad PairMalformed) = record { left = r.between; paired = r.paired; ends = passed-ends r.between r.rest.0 place initial block first.1 } in
+    let ends = passed-ends r.between r.rest.0 place initial block r.rest.1.1 in
+    let pairing : IsPairing client server pairs (bad PairMalformed) = record { left = r.between; paired = r.paired; ends = ends } in
     let same : class_of PairMalformed ≡ class = cc in
     subst (λ class. IsOutcome profile client server (No (length pairs) class)) same
     (outcome_at_octets profile client server pairs PairMalformed pairing ((permits_alone profile (exchanged pairs)).0 r.stand))
@@ -57,15 +56,7 @@ accepted_or_bad (Accepted pair ∷ answers) = elim (accepted_or_bad answers) [
   | inl (pairs, all) ↦ inl (pair ∷ pairs, ap (λ answers. Accepted pair ∷ answers) all)
   | inr first ↦ inr (record { pairs = pair ∷ first.pairs; answer = first.answer; more = first.more; whole = ap (λ answers. Accepted pair ∷ answers) first.whole; is_bad = first.is_bad })
 ]
-accepted_or_bad (Refused pair ∷ answers) = inr (record { pairs = []; answer = Refused pair; more = answers; whole = refl; is_bad = λ profile past. (_, refl) })
-accepted_or_bad (Unspelled index place initial block ∷ answers) = inr
-    (record {
-      pairs = [];
-      answer = Unspelled index place initial block;
-      more = answers;
-      whole = refl;
-      is_bad = λ profile past. (_, refl);
-    })
+accepted_or_bad (answer ∷ answers) = inr (record { pairs = []; answer = answer; more = answers; whole = refl; is_bad = λ profile past. (_, refl) })
 
 -- all answers are accepted, and no octet is left
 abbrev IsGood : List Judged → Ending → Type 0
@@ -78,8 +69,7 @@ pub good_explained : (profile : Profile) (client : ClientStream) (server : List 
     → IsGood answers ending → HasExplanation profile client server
 good_explained profile client server answers ending reading (all, unanswered, ends) =
     let pairs = accepted_of answers in
-    let same : IsReading profile client server (map Accepted pairs) (end unanswered) =
-    subst (λ (t : List Judged × Ending). IsReading profile client server t.0 t.1) (λ i. (all i, ends i)) reading in
+    let same : IsReading profile client server (map Accepted pairs) (end unanswered) = grind arith in
     let both = all_paired (ArePermitted profile) client server pairs (end unanswered) (none_accepted profile) same in
     let p = (pairs_permitted profile client server pairs both.0.left both.0.paired).1 ((permits_alone profile (exchanged pairs)).0 both.1) in
     (p.0, length pairs, explained_end profile p.0 client server pairs unanswered both.0 p.1 p.2)

@@ -18,9 +18,7 @@ all_accepted past (answer ∷ answers) = all_accepted (accepted_with past answer
 
 pub accepted_behind : (past : List Paired) (answers : List Judged) → all_accepted past answers ≡ past ++ accepted_of answers
 accepted_behind past [] = sym (append-nil past)
-accepted_behind past (Accepted pair ∷ answers) = accepted_behind (past ++ pair ∷ []) answers ∙ append_assoc past (pair ∷ []) (accepted_of answers)
-accepted_behind past (Refused pair ∷ answers) = accepted_behind past answers
-accepted_behind past (Unspelled index place initial block ∷ answers) = accepted_behind past answers
+accepted_behind past (answer ∷ answers) = grind (arith, append_assoc, accepted_behind (accepted_with past answer) answers)
 
 -- with one more answer these are accepted
 pub accepted_push : (past : List Paired) (answers : List Judged) (answer : Judged) → all_accepted past (answers ++ answer ∷ []) ≡ accepted_with (all_accepted past answers) answer
@@ -71,7 +69,7 @@ module _ (Stand : List Paired → Type 0) where
   -- with one more answer
   pub judged_push : (past : List Paired) (a b c : Unpaired) (answers : List Judged) (answer : Judged)
       → AreJudged Stand past a answers b → IsJudged Stand (all_accepted past answers) b answer c → AreJudged Stand past a (answers ++ answer ∷ []) c
-  judged_push past a b c [] answer same is = (c, subst (λ u. IsJudged Stand past u answer c) (sym same) is, refl)
+  judged_push past a b c [] answer same is = grind arith
   judged_push past a b c (x ∷ answers) answer (m, first, more) is = (m, first, judged_push (accepted_with past x) m b c answers answer more is)
 
   -- the index counts the answers
@@ -82,24 +80,15 @@ module _ (Stand : List Paired → Type 0) where
   -- those that are accepted stand
   pub accepted_stand : (past : List Paired) (a b : Unpaired) (answers : List Judged) → Stand past → AreJudged Stand past a answers b → Stand (all_accepted past answers)
   accepted_stand past a b [] stand same = stand
-  accepted_stand past a b (answer ∷ answers) stand (m, first, more) = accepted_stand (accepted_with past answer) m b answers (by answer first) more
-    where
-      by : (answer : Judged) → IsJudged Stand past a answer m → Stand (accepted_with past answer)
-      by answer judged = grind arith
+  accepted_stand past a b (answer ∷ answers) stand (m, first, more) = accepted_stand (accepted_with past answer) m b answers (grind arith) more
 
   -- and weigh no more than the octets that they take
   pub accepted_weight : (past : List Paired) (a b : Unpaired) (answers : List Judged)
       → AreJudged Stand past a answers b → weight (responses_of (all_accepted past answers)) + length b.server ≤ weight (responses_of past) + length a.server
   accepted_weight past a b [] same = let e = ap (λ (u : Unpaired). length u.server) same in omega (arith, e)
-  accepted_weight past a b (answer ∷ answers) (m, first, more) =
-      let rest = accepted_weight (accepted_with past answer) m b answers more in
-      let one = by answer first in
-      omega (arith, rest, one)
-    where
-      by : (answer : Judged) → IsJudged Stand past a answer m → weight (responses_of (accepted_with past answer)) + length m.server ≤ weight (responses_of past) + length a.server
-      by (Accepted pair) (next, h) = weight_next past a m pair next
-      by (Refused pair) (next, h) = let less = next-shorter a m pair next in omega (arith, less)
-      by (Unspelled index place initial block) (at, passed) = let less = passed-shorter a m place initial block passed in omega (arith, less)
+  accepted_weight past a b (Accepted pair ∷ answers) (m, (next, h), more) =
+      omega (arith, accepted_weight (past ++ pair ∷ []) m b answers more, weight_next past a m pair next)
+  accepted_weight past a b (answer ∷ answers) (m, first, more) = omega (arith, accepted_weight past m b answers more, judged_shorter past a m answer first)
 
   -- so those of both streams weigh no more than the server's octets
   pub accepted_light : (client : ClientStream) (server : List ℕ) (answers : List Judged) (left : Unpaired) → AreJudged Stand [] (streams client server) answers left
@@ -110,10 +99,8 @@ module _ (Stand : List Paired → Type 0) where
   pub accepted_open : (past : List Paired) (a b : Unpaired) (answers : List Judged)
       → (a.is_closed ≡ false → (visible_behind past).closed ≡ false) → AreJudged Stand past a answers b → b.is_closed ≡ false → (visible_behind (all_accepted past answers)).closed ≡ false
   accepted_open past a b [] before same still = before (ap (λ (u : Unpaired). u.is_closed) same ∙ still)
-  accepted_open past a b (answer ∷ answers) before (m, first, more) still = accepted_open (accepted_with past answer) m b answers (by answer first) more still
-    where
-      by : (answer : Judged) → IsJudged Stand past a answer m → m.is_closed ≡ false → (visible_behind (accepted_with past answer)).closed ≡ false
-      by answer h e = search (rules, ends, visible_next, as_many, after-closes)
+  accepted_open past a b (answer ∷ answers) before (m, first, more) still =
+      accepted_open (accepted_with past answer) m b answers (λ e. search (rules, ends, visible_next, as_many, after-closes)) more still
 
   -- ---- answers that are all accepted
 

@@ -1,5 +1,5 @@
 -- The answers of two streams as they are judged from the first on.
-use Rattle.std.proofs.Common.{◌≡◌, ℕ, ◌≤◌, List, [], ◌∷◌, ◌++◌, length, sym, ap, subst, ◌∙◌, arith}
+use Rattle.std.proofs.Common.{◌≡◌, ℕ, ◌≤◌, List, [], ◌∷◌, ◌++◌, length, subst, arith}
 use Rattle.nntp_article.specs.declared.session.profile.Profile.{Profile}
 use Rattle.nntp_pair.specs.Pairing.{Unpaired, asked_of, responses_of, streams}
 use Rattle.nntp_theory.specs.{Given.{facts_of_session}, Inner.Given.{size}, Permitted.{exchanged, ArePermitted}, Reading.{Judged, accepted_of, accepted_with}}
@@ -28,8 +28,7 @@ pub one_more_in_session : (profile : Profile) (client : ClientStream) (server : 
 one_more_in_session profile client server answers answer left after judged is = search (arith, judged_push, accepted_behind)
 
 pub accepted_one_more : (answers : List Judged) (answer : Judged) → accepted_of (answers ++ answer ∷ []) ≡ accepted_with (accepted_of answers) answer
-accepted_one_more answers answer =
-    sym (accepted_behind [] (answers ++ answer ∷ [])) ∙ accepted_push [] answers answer ∙ ap (λ past. accepted_with past answer) (accepted_behind [] answers)
+accepted_one_more answers answer = grind (arith, accepted_behind [] (answers ++ answer ∷ []), accepted_push [] answers answer, accepted_behind [] answers)
 
 pub index_in_session : (profile : Profile) (client : ClientStream) (server : List ℕ) (answers : List Judged) (left : Unpaired)
     → AreJudged (ArePermitted profile) [] (streams client server) answers left → left.index ≡ length answers

@@ -1,9 +1,8 @@
 -- Two streams have one reading, whatever decides which exchanges stand.
-use Rattle.std.proofs.Common.{◌≡◌, ◌≢◌, ◌⊎◌, ℕ, zero, suc, ◌+◌, ◌<◌, ◌≤◌, ◌^◌, List, [], ◌∷◌, ◌++◌, length, inl, inr, refl, sym, subst, ◌∙◌, arith}
+use Rattle.std.proofs.Common.{◌≡◌, ◌≢◌, ◌⊎◌, ℕ, zero, suc, ◌+◌, ◌<◌, ◌≤◌, ◌^◌, List, [], ◌∷◌, ◌++◌, length, inl, inr, refl, sym, ◌∙◌, arith}
 use Rattle.nntp_article.specs.declared.session.profile.Profile.{Profile}
-use Rattle.nntp_pair.specs.{declared.class.PairClass.TheVariants.{Surplus as PairSurplus, Cut as PairCut, Malformed as PairMalformed}, Pairing.{Paired}}
-use Rattle.nntp_pair.{specs.Pairing.{Unpaired, IsNext, Ending, end, bad, Ends, asked_of, responses_of, streams}, proofs.NextLemmas.{one-end}}
-use Rattle.nntp_pair.proofs.{NextDecided.{next-or-end}, PassedLemmas.{passed-exactly}}
+use Rattle.nntp_pair.specs.{declared.class.PairClass.TheVariants.{Malformed as PairMalformed}, Pairing.{Paired, Unpaired, IsNext, Ending, bad, Ends, asked_of}}
+use Rattle.nntp_pair.{specs.Pairing.{responses_of, streams}, proofs.{NextLemmas.{one-end}, NextDecided.{next-or-end}, PassedLemmas.{passed-exactly}}}
 use Rattle.nntp_theory.specs.{Inner.Given.{weight}, Permitted.{exchanged, ArePermitted}, Reading.{Judged, Accepted, Refused, Unspelled, accepted_with}}
 use Rattle.nntp_theory.{specs.Reading.{IsJudged, AreJudged, IsReadingBy, IsReading}, proofs.Given.GivenSpoolExists.{some_or_none}}
 use Rattle.nntp_theory.proofs.{Given.SessionsByFacts.{permits_alone}, Ids.SizeOfASession.{session_size}, Reading.JudgedAnswers.{one_judged, judged_shorter}}
@@ -18,13 +17,9 @@ module _ (Stand : List Paired → Type 0) where
       → AreJudged Stand past a answers b → Ends b ending → ending ≢ bad PairMalformed
       → AreJudged Stand past a others c → Ends c other → other ≢ bad PairMalformed → (answers ≡ others) × (b ≡ c)
   one_run past a b c [] [] ending other p ends passed q also too = (refl, sym p ∙ q)
-  one_run past a b c [] (y ∷ others) ending other p ends passed (k, first, q) also too = grind arith
-  one_run past a b c (x ∷ answers) [] ending other (m, first, p) ends passed q also too = grind arith
   one_run past a b c (x ∷ answers) (y ∷ others) ending other (m, first, p) ends passed (k, second, q) also too =
-      let one = one_judged Stand past a m k x y first second in
-      let here : AreJudged Stand (accepted_with past y) k answers b = subst (λ (t : Judged × Unpaired). AreJudged Stand (accepted_with past t.0) t.1 answers b) (λ i. (one.0 i, one.1 i)) p in
-      let rest = one_run (accepted_with past y) k b c answers others ending other here ends passed q also too in
-      ((λ i. one.0 i ∷ rest.0 i), rest.1)
+      grind (arith, one_judged Stand past a m k x y first second, one_run (accepted_with past y) k b c answers others ending other)
+  one_run past a b c answers others ending other p ends passed q also too = grind arith
 
   -- two streams have one reading
   pub one_reading : (client : ClientStream) (server : List ℕ) (answers others : List Judged) (ending other : Ending)
@@ -46,17 +41,12 @@ module _ (Stand : List Paired → Type 0) where
     pair_judged : (past : List Paired) (a b : Unpaired) (pair : Paired) → weight (responses_of past) + length a.server ≤ most → IsNext a pair b → IsMore past a
     pair_judged past a b pair small next =
         let bound = weight_next past a b pair next in
-        elim (decided (past ++ pair ∷ []) (omega (arith, bound, small))) [
-          | inl h ↦ (Accepted pair, b, (next, h))
-          | inr none ↦ (Refused pair, b, (next, none))
-        ]
+        elim (decided (past ++ pair ∷ []) (omega (arith, bound, small))) [ inl h ↦ (Accepted pair, b, (next, h)) | inr none ↦ (Refused pair, b, (next, none)) ]
 
     -- an end is one of the reading, or a frame is passed over
     end_judged : (past : List Paired) (a : Unpaired) (ending : Ending) → Ends a ending → IsMore past a ⊎ IsLast a
-    end_judged past a (end unanswered) ends = inr (end unanswered, ends, λ e. cc)
-    end_judged past a (bad PairSurplus) ends = inr (bad PairSurplus, ends, λ e. cc)
-    end_judged past a (bad PairCut) ends = inr (bad PairCut, ends, λ e. cc)
     end_judged past a (bad PairMalformed) ends = let some = (passed-exactly a).0 ends in inl (Unspelled a.index some.0 some.1 some.2, some.3, (refl, some.4))
+    end_judged past a ending ends = inr (ending, ends, λ e. cc)
 
     -- so there is one answer more, or the reading ends
     more_or_last : (past : List Paired) (a : Unpaired) → weight (responses_of past) + length a.server ≤ most → IsMore past a ⊎ IsLast a

@@ -5,7 +5,7 @@ use Rattle.nntp_article.specs.declared.session.profile.Profile.{Profile}
 use Rattle.nntp_wire.specs.{Answer.{Asked, Response}, declared.water_marks.WaterMarks.{WaterMarks}}
 use Rattle.nntp_said.specs.{Asks.{position_after, Estimates, ListsIn, Has, StandsAt, StepsUp, StepsDown}, declared.position.Position.{Position}}
 use Rattle.nntp_said.specs.{declared.position.Position.TheVariants.{Nowhere}, Facts.{Fact, Asks, IdAt, TextIs, GroupsAre, facts_of, facts_from}}
-use Rattle.nntp_said.{specs.Inner.Facts.{FitsAll}, proofs.Rows.{Row, row, marks, listing, up, down, text, text_at, text_here, active}}
+use Rattle.nntp_said.{specs.Inner.Facts.{FitsAll}, proofs.Rows.{Row, row}}
 use Rattle.nntp_theory.{specs.Given.{facts_of_session}, proofs.Members.{all_both, all_from, each_of}}
 
 -- marks and numbers are within the limit, a low mark of 0 estimates no number, a text has the parts that were asked for, and listed groups match
@@ -21,25 +21,13 @@ IsFitting profile (TextIs what id lines) = IsTrue (head_fits what id lines)
 IsFitting profile (GroupsAre p lines) = AllByRecursion (λ line. IsTrue (active_fits profile p line)) lines
 IsFitting profile fact = ⊤
 
--- the high mark is within the limit
-marks_within : (profile : Profile) (v : Visible) (name : Name) (m : WaterMarks) → IsTrue (marks_fit profile v name m) → m.high ≤ profile.limit
-marks_within profile v name m f = grind arith
-
 -- marks fit
 marks_fitting : (profile : Profile) (v : Visible) (name : Name) (m : WaterMarks) → IsTrue (marks_fit profile v name m) → IsFitting profile (Asks name (Estimates profile.marks m))
-marks_fitting profile v name m f = grind (arith, marks_within)
+marks_fitting profile v name m f = grind arith
 
 -- a row whose condition holds
 row_fitting : {profile : Profile} {v : Visible} {at : Position} {Fits : Type 0} {a : Response} {facts : List Fact} → Row profile v at Fits a facts → Fits → AllByRecursion (IsFitting profile) facts
-row_fitting {profile} {v} (marks m name known) f = (tt, (marks_fitting profile v name m (known f), tt))
-row_fitting {profile} {v} (listing m name range lines known) f = grind (arith, marks_fitting, all_from, and_parts, each_of)
-row_fitting (up s known) f = ((known f).1, ((known f).1, tt))
-row_fitting (down s known) f = ((known f).1, ((known f).1, tt))
-row_fitting (text what s known) f = (known f, tt)
-row_fitting (text_at what s known) f = ((known f).0, ((known f).1.1, tt))
-row_fitting (text_here what s known) f = ((known f).0, ((known f).1.1, ((known f).1.1, tt)))
-row_fitting {profile} (active p lines known) f = grind (arith, all_from, each_of)
-row_fitting r f = assumption
+row_fitting {profile} {v} r f = grind (arith, marks_fitting, all_from, and_parts, each_of)
 
 -- what an answer that fits says
 pub answer_fitting : (profile : Profile) (v : Visible) (at : Position) (p : Asked) (a : Response) → IsTrue (fits profile v p a) → AllByRecursion (IsFitting profile) (facts_of profile.marks v at p a)

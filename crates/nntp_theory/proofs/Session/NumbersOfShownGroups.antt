@@ -51,12 +51,6 @@ row_placed {profile} {v} all (text_at what s known) f stands h = (tt, (here_stan
 row_placed {profile} {v} all (text_here what s known) f stands h = let g = here_stands profile.marks all v stands (known f).1.0 in (tt, (g, (g, tt)))
 row_placed all r f stands h = assumption
 
--- so does an answer that fits
-step_placed : (profile : Profile) (all : List Fact) (v : Visible) (at : Position) (p : Asked) (a : Response)
-    → HasNoted profile.marks all v → IsTrue (fits profile v p a) → AllByRecursion (Among all) (facts_of profile.marks v at p a)
-    → AllByRecursion (Placed profile.marks all) (facts_of profile.marks v at p a)
-step_placed profile all v at p a stands f = row_placed all (row profile v at p a) f stands
-
 -- the group that is selected afterwards is there
 pub still_stands : (profile : Profile) (all : List Fact) (v : Visible) (at : Position) (p : Asked) (a : Response)
     → HasNoted profile.marks all v → IsTrue (fits profile v p a) → AllByRecursion (Among all) (facts_of profile.marks v at p a)
@@ -70,7 +64,7 @@ all_placed : (profile : Profile) (all : List Fact) (v : Visible) (at : Position)
     → AllByRecursion (Placed profile.marks all) (facts_from profile.marks v at ps answers)
 all_placed profile all v at (p ∷ ps) (a ∷ more) stands f h =
     let front = all_front (Among all) (facts_of profile.marks v at p a) (facts_from profile.marks (visible_after v p a) (position_after at p a) ps more) h in
-    all_both (Placed profile.marks all) (facts_of profile.marks v at p a) _ (step_placed profile all v at p a stands f.1 front)
+    all_both (Placed profile.marks all) (facts_of profile.marks v at p a) _ (row_placed all (row profile v at p a) f.1 stands front)
     (all_placed profile all (visible_after v p a) (position_after at p a) ps more (still_stands profile all v at p a stands f.1 front) f.2 (all_back (Among all) (facts_of profile.marks v at p a) _ h))
 all_placed profile all v at ps answers stands f h = tt
 
@@ -82,4 +76,4 @@ placed_among profile all ps answers f h = all_placed profile all start.visible N
 pub session_placed : (profile : Profile) (ps : List Asked) (answers : List Response) → FitsAll profile start.visible ps answers
     → AllByRecursion (Placed profile.marks (facts_of_session profile.marks ps answers))
     (facts_of_session profile.marks ps answers)
-session_placed profile ps answers f = search (arith, marks, placed_among, all_from)
+session_placed profile ps answers f = search (arith, placed_among, all_from)

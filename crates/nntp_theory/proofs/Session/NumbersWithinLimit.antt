@@ -1,10 +1,9 @@
 -- The numbers of a group are within the limit.
-use Rattle.std.proofs.{lemmas.Bool.{true≢false, and_parts, or_right, eqb-true, leb-true, lt-ltb, cases_lt, false_from_ne_true}, Common.{◌≡◌, ℕ, ◌≤◌, ◌<◌, true}}
-use Rattle.std.{proofs.Common.{cond, IsTrue, List, [], ◌∷◌, Option, inl, inr, refl, sym, subst, ◌∙◌, arith}, specs.Prelude.{IsFalse, nat_le, nat_lt}}
-use Rattle.std.specs.{List.{AllByRecursion, list_any}, Cmp.Lexicographic.{same_text}}
+use Rattle.std.proofs.{lemmas.Bool.{true≢false, and_parts, or_right, eqb-true, leb-true, lt-ltb, cases_lt}, Common.{◌≡◌, ℕ, ◌≤◌, ◌<◌, true, cond, IsTrue, List}}
+use Rattle.std.{proofs.Common.{[], ◌∷◌, inl, inr, sym, ◌∙◌, arith}, specs.{Prelude.{IsFalse, nat_le}, List.{AllByRecursion, list_any}}}
 use Rattle.nntp_theory.specs.{Inner.Estimates.{estimate_in, is_within}, Given.{is_shown_group, asks_in, asks_of, shows, denies, is_shown, is_denied}}
 use Rattle.nntp_theory.{specs.Given.{shows_group, is_end}, proofs.Members.{In, all_at, any_in, found_in, to_flat, from_flat}}
-use Rattle.nntp_theory.proofs.{Together.FactsOfASpoolStand.{same_itself}, Session.{NumbersOfShownGroups.{IsSelectable, Placed}, FittingFacts.{IsFitting}}}
+use Rattle.nntp_theory.proofs.Session.{NumbersOfShownGroups.{Placed}, FittingFacts.{IsFitting}}
 use Rattle.nntp_wire.specs.{declared.marks.Marks.{Marks}, Listing.{ActiveValue}}
 use Rattle.nntp_article.specs.{Session.{Spool.{Name}, Machine.{is_same, is_article_number, active_fits}}, declared.session.profile.Profile.{Profile}}
 use Rattle.nntp_said.specs.{Asks.{Ask, Estimates, Bounds}, Facts.{Fact, ThereIs, Asks, GroupsAre}}
@@ -17,32 +16,21 @@ module _ (profile : Profile) (facts : List Fact) (how : Marks) (fitting : AllByR
   denied_by : (name : Name) (fact : Fact) → In fact facts → (ask : Ask) → In ask (asks_in name fact) → (n : ℕ) → denies ask n ≡ true → is_denied (asks_of name facts) n ≡ true
   denied_by name fact i ask j n d = any_in (λ ask. denies ask n) ask (asks_of name facts) (to_flat (asks_in name) fact ask facts i j) d
 
-  -- an ask under its own test
-  in_own : (name : Name) (ask : Ask) → In ask (cond (is_same name name) (ask ∷ []) [])
-  in_own name ask = subst (λ b. In ask (cond b (ask ∷ []) [])) (sym (same_itself name)) (inl refl)
-
-  -- the marks of a listed group are within the limit
-  line_within : (p : Option (List ℕ)) (line : ActiveValue) → IsTrue (active_fits profile p line) → line.high ≤ profile.limit
-  line_within p line f = grind arith
-
   -- what is above the limit is denied
   above_denied : (name : Name) → IsTrue (is_shown_group facts name) → (n : ℕ) → profile.limit < n → is_denied (asks_of name facts) n ≡ true
   above_denied name i n above = let f = found_in (shows_group name) facts i in by f.0 f.1 f.2
     where
       by : (fact : Fact) → In fact facts → shows_group name fact ≡ true → is_denied (asks_of name facts) n ≡ true
       by (ThereIs g) j t =
-          let g' : IsSelectable how facts name = subst (IsSelectable how facts) (same_text g name (sym t)) (all_at (Placed how facts) (ThereIs g) facts placed j) in
-          let most : g'.marks.high ≤ profile.limit = (fits (Asks name (Estimates how g'.marks)) g'.estimated).0 in
-          denied_by name (Asks name (Estimates how g'.marks)) g'.estimated (Estimates how g'.marks)
-          (in_own name (Estimates how g'.marks)) n (or_right (nat_lt n g'.marks.low) _ (lt-ltb g'.marks.high n (omega arith)))
+          let s = all_at (Placed how facts) (ThereIs g) facts placed j in
+          let most = (fits (Asks g (Estimates how s.marks)) s.estimated).0 in
+          grind (arith, most, denied_by name (Asks g (Estimates how s.marks)) s.estimated (Estimates how s.marks), or_right, lt-ltb)
       by (GroupsAre p lines) j t =
           let f = found_in (λ line. is_same line.name name) lines t in
-          let most = line_within p f.0 (all_at (λ line. IsTrue (active_fits profile p line)) f.0 lines (fits (GroupsAre p lines) j) f.1) in
+          let within = all_at (λ line. IsTrue (active_fits profile p line)) f.0 lines (fits (GroupsAre p lines) j) f.1 in
           let bounds = Bounds f.0.low f.0.high in
-          denied_by name (GroupsAre p lines) j bounds
-          (to_flat (λ (line : ActiveValue). cond (is_same line.name name) (Bounds line.low line.high ∷ []) []) f.0 bounds lines
-          f.1 (subst (λ b. In bounds (cond b (bounds ∷ []) [])) (sym f.2) (inl refl)))
-          n (or_right (nat_lt n f.0.low) _ (lt-ltb f.0.high n (omega arith)))
+          let there = to_flat (λ (line : ActiveValue). cond (is_same line.name name) (Bounds line.low line.high ∷ []) []) f.0 bounds lines f.1 in
+          grind (arith, within, there, f.2, denied_by name (GroupsAre p lines) j bounds, or_right, lt-ltb)
       by fact j t = cc
 
   -- a number that an ask shows is one
@@ -60,12 +48,11 @@ module _ (profile : Profile) (facts : List Fact) (how : Marks) (fitting : AllByR
   end_in_limit name n count t few some free =
       let f = found_in (λ ask. is_end ask n) (asks_of name facts) t in
       let g = from_flat (asks_in name) f.0 facts f.1 in
-      let not_denied : IsFalse (denies f.0 n) = false_from_ne_true _ (λ d. true≢false (sym (any_in (λ ask. denies ask n) f.0 (asks_of name facts) f.1 d) ∙ free)) in
-      by g.0 (fits g.0 g.1) f.0 g.2 f.2 (few f.0 f.1) not_denied
+      by g.0 (fits g.0 g.1) f.0 g.2 f.2 (few f.0 f.1) (any_in (λ ask. denies ask n) f.0 (asks_of name facts) f.1)
     where
-      by : (fact : Fact) → IsFitting profile fact → (ask : Ask) → In ask (asks_in name fact) → is_end ask n ≡ true
-          → IsTrue (is_within (estimate_in ask) count) → IsFalse (denies ask n) → (1 ≤ n) × (n ≤ profile.limit)
-      by fact h ask i t few free = grind (arith, from_flat)
+      by : (fact : Fact) → IsFitting profile fact → (ask : Ask) → In ask (asks_in name fact) → is_end ask n ≡ true → IsTrue (is_within (estimate_in ask) count)
+          → (IsTrue (denies ask n) → IsTrue (is_denied (asks_of name facts) n)) → (1 ≤ n) × (n ≤ profile.limit)
+      by fact h ask i t few denied = grind (arith, from_flat)
 
   -- so a number that isn't denied is within it
   pub free_in_limit : (name : Name) → IsTrue (is_shown_group facts name) → (n : ℕ) → IsFalse (is_denied (asks_of name facts) n) → n ≤ profile.limit

@@ -1,7 +1,6 @@
 -- One pair more behind those of a session: what it asks and answers, says and leaves, and when it is permitted.
 use Rattle.nntp_wire.specs.{declared.marks.Marks.{Marks}, Answer.{Asked, Response}}
-use Rattle.std.proofs.{Common.{◌≡◌, ◌<◌, ◌≤◌, ◌^◌, ◌↔◌, false, IsTrue, List, [], ◌∷◌, ◌++◌, length, sym, ap, ap₂, ◌∙◌, arith}, lemmas.List.{length-map}}
-use Rattle.std.proofs.lemmas.List.{map-append}
+use Rattle.std.proofs.{Common.{◌≡◌, ◌<◌, ◌^◌, ◌↔◌, false, IsTrue, List, [], ◌∷◌, ◌++◌, length, sym, ap, ap₂, ◌∙◌, arith}, lemmas.List.{length-map, map-append}}
 use Rattle.nntp_article.specs.{Session.{Spool.{Spool}, Machine.{Visible, Run, start, fits, visible_after}}, declared.session.profile.Profile.{Profile}}
 use Rattle.nntp_pair.specs.Pairing.{Paired, asked_at, asked_of, responses_of}
 use Rattle.nntp_said.specs.{Asks.{position_after}, declared.position.Position.{Position, TheVariants.{Nowhere}}, Facts.{Fact, facts_of}}
@@ -41,24 +40,20 @@ pub facts_next : (how : Marks) (ps : List Asked) (answers : List Response) (aske
     → facts_of_session how (ps ++ asked ∷ []) (answers ++ response ∷ []) ≡ facts_of_session how ps answers ++ facts_of how
     (visible_from start.visible ps answers) (position_from Nowhere ps answers) asked response
 facts_next how ps answers asked response e =
-    let le : length answers ≤ length ps = omega (arith, e) in
-    facts_grow how start.visible Nowhere (ps ++ asked ∷ []) answers asked response (next_behind ps [] asked answers e)
-    ∙ ap₂ (λ (facts new : List Fact). facts ++ new) (facts_longer how start.visible Nowhere ps (asked ∷ []) answers le)
-    (ap₂ (λ v at. facts_of how v at asked response) (visible_longer start.visible ps (asked ∷ []) answers le) (position_longer Nowhere ps (asked ∷ []) answers le))
+    let grows = facts_grow how start.visible Nowhere (ps ++ asked ∷ []) answers asked response (next_behind ps [] asked answers e) in
+    grind (arith, grows, facts_longer, visible_longer, position_longer)
 
 -- what is visible then
 pub visible_next : (ps : List Asked) (answers : List Response) (asked : Asked) (response : Response) → length ps ≡ length answers
     → visible_from start.visible (ps ++ asked ∷ []) (answers ++ response ∷ []) ≡ visible_after (visible_from start.visible ps answers) asked response
 visible_next ps answers asked response e =
-    visible_grows start.visible (ps ++ asked ∷ []) answers asked response (next_behind ps [] asked answers e)
-    ∙ ap (λ v. visible_after v asked response) (visible_longer start.visible ps (asked ∷ []) answers (omega (arith, e)))
+    grind (arith, visible_grows start.visible (ps ++ asked ∷ []) answers asked response, next_behind ps [] asked answers e, visible_longer)
 
 -- and where the session stands then
 pub position_next : (ps : List Asked) (answers : List Response) (asked : Asked) (response : Response) → length ps ≡ length answers
     → position_from Nowhere (ps ++ asked ∷ []) (answers ++ response ∷ []) ≡ position_after (position_from Nowhere ps answers) asked response
 position_next ps answers asked response e =
-    position_grows Nowhere (ps ++ asked ∷ []) answers asked response (next_behind ps [] asked answers e)
-    ∙ ap (λ at. position_after at asked response) (position_longer Nowhere ps (asked ∷ []) answers (omega (arith, e)))
+    grind (arith, position_grows Nowhere (ps ++ asked ∷ []) answers asked response, next_behind ps [] asked answers e, position_longer)
 
 -- there are as many prompts as answers
 pub as_many : (past : List Paired) → length (asked_of past) ≡ length (responses_of past)

@@ -1,9 +1,8 @@
 -- Where the pairing of two streams ends at octets, they have the class of that end.
-use Rattle.std.proofs.{Common.{◌≡◌, ◌↔◌, ℕ, false, List, [], ◌∷◌, length, map, Option, None, Some, refl, sym, ap, ◌∙◌, arith}, lemmas.List.{length-map}}
+use Rattle.std.proofs.{Common.{◌≡◌, ◌↔◌, ℕ, List, [], ◌∷◌, length, map, Option, None, Some, refl, sym, ap, ◌∙◌, arith}, lemmas.List.{length-map}}
 use Rattle.nntp_wire.specs.{Answer.{Asked}, Session.{prompts_of, ClientStream}}
 use Rattle.nntp_pair.specs.{Pairing.{Paired, Unpaired, AreNext, IsBad, responses_of, asked_at, streams, Place}, Inner.Pairing.{IsLasting}}
-use Rattle.nntp_pair.specs.{declared.class.{PairClass.{PairClass, TheVariants.{Surplus as surplus}}, Class.{Class}}, Classes.{class_of}}
-use Rattle.nntp_pair.proofs.SpelledLemmas.{places-prompts, pairs-spelled}
+use Rattle.nntp_pair.{specs.{declared.class.{PairClass.{PairClass}, Class.{Class}}, Classes.{class_of}}, proofs.SpelledLemmas.{places-prompts, pairs-spelled}}
 use Rattle.nntp_article.specs.Session.{Spool.{Spool, IsSpool}, Machine.{Visible, start, visible_after, Run}, Explains.{ExplainsUpTo}}
 use Rattle.nntp_article.{specs.declared.session.profile.Profile.{Profile}, proofs.SessionLemmas.ClosingAnswers.{after-closes}}
 use Rattle.nntp_theory.{specs.Classes.{visible_from, asked_next, AnswersFirst, IsClass, HasClass, IsSettled}, proofs.Streams.OneClass.{closed_before}}
@@ -23,16 +22,10 @@ pub record PairedUp (v : Visible) (before left : Unpaired) (pairs : List Paired)
 pub paired_up : (v : Visible) (before left : Unpaired) (pairs : List Paired) → before.is_closed ≡ v.closed → AreNext before pairs left → PairedUp v before left pairs
 paired_up v before left [] same e = grind arith
 paired_up v before left (pair ∷ pairs) same (between, first, more) =
-    let opened : v.closed ≡ false = sym same ∙ first.is_open in
-    let response = pair.response in
-    let asked = asked_at pair.place in
-    grind (arith, after-closes, paired_up (visible_after v asked response) between left pairs (first.closing ∙ sym (after-closes v asked response opened)) more)
+    let closes = after-closes v (asked_at pair.place) pair.response (sym same ∙ first.is_open) in
+    grind (arith, closes, paired_up (visible_after v (asked_at pair.place) pair.response) between left pairs (first.closing ∙ sym closes) more)
 
 -- ---- the end
-
--- the class of the octets at which a pairing ends
-end_class : (class : PairClass) (profile : Profile) (v : Visible) (left : Unpaired) → IsBad class left → IsClass left.is_closed profile v (first_asked left.places) left.server (class_of class)
-end_class class profile v left h = grind arith
 
 -- there is a response for each
 pub count : (pairs : List Paired) → length (responses_of pairs) ≡ length pairs
@@ -52,11 +45,9 @@ pairs_close client server pairs left paired =
 pub settled_lasts : (client : ClientStream) (server : List ℕ) (pairs : List Paired) (left : Unpaired) (class : PairClass) → AreNext (streams client server) pairs left
     → IsSettled client server (length pairs) (class_of class) ↔ IsLasting class left
 unfolding pairs_before
-settled_lasts client server pairs left surplus paired = (
-  λ s. pairs_close client server pairs left paired ∙ closed_before client server (length pairs) (pairs_before client server pairs left paired) s.before ∙ s.closed,
-  λ closed. record { before = pairs_before client server pairs left paired; closed = sym (pairs_close client server pairs left paired) ∙ closed },
-)
-settled_lasts client server pairs left class paired = grind arith
+settled_lasts client server pairs left class paired =
+    let before = pairs_before client server pairs left paired in
+    grind (arith, before, pairs_close client server pairs left paired, closed_before client server (length pairs) before)
 
 -- the octets that pairs leave have the class that they have where they stand
 pub has_class : (profile : Profile) (client : ClientStream) (server : List ℕ) (pairs : List Paired) (left : Unpaired) (class : Class) → AreNext (streams client server) pairs left
@@ -66,16 +57,12 @@ unfolding pairs_before
 has_class profile client server pairs left class paired h =
     let up = paired_up start.visible (streams client server) left pairs refl paired in
     let ps = places-prompts client in
-    record {
-      before = pairs_before client server pairs left paired;
-      is_class =
-          grind (arith, pairs_close);
-    }
+    record { before = pairs_before client server pairs left paired; is_class = grind (arith, pairs_close) }
 
 pub end_has_class : (profile : Profile) (client : ClientStream) (server : List ℕ) (pairs : List Paired) (left : Unpaired) (class : PairClass) → AreNext (streams client server) pairs left
     → IsBad class left
     → HasClass profile client server (length pairs) (class_of class)
-end_has_class profile client server pairs left class paired h = grind (arith, has_class, end_class)
+end_has_class profile client server pairs left class paired h = has_class profile client server pairs left (class_of class) paired (grind arith)
 
 -- who permits the responses of the pairs explains them
 pub explained_pairs : (profile : Profile) (S : Spool) (client : ClientStream) (server : List ℕ) (pairs : List Paired) (left : Unpaired) → AreNext (streams client server) pairs left

@@ -1,12 +1,12 @@
 -- Of the spools with some property one explains two streams, or exactly one answer is bad.
 use Rattle.std.{specs.Prelude.{⊤}, proofs.Common.{◌≡◌, ◌≢◌, ℕ, zero, suc, ◌+◌, ◌<◌, ◌≤◌, ◌^◌, ◌⊎◌, List, [], ◌∷◌, ◌++◌, length, take, inl, inr, refl, sym, ap}}
 use Rattle.std.proofs.{Common.{subst, ◌∙◌, arith, length-append, append_assoc}, Math.Seq.{take-length}, lemmas.Bool.{cases_lt, cases_order}}
-use Rattle.std.proofs.lemmas.List.{append_cancel_left, length-take, nil_from_length}
+use Rattle.std.proofs.lemmas.List.{append-nil, length-take, nil_from_length}
 use Rattle.nntp_article.specs.Session.{Spool.{Spool, IsSpool}, Machine.{Run, start}, Explains.{ExplainsUpTo, Explains, ExplainsFirst, BadAmong, Bad}}
 use Rattle.nntp_article.specs.declared.session.profile.Profile.{Profile}
-use Rattle.nntp_wire.{specs.{Session.{Spelled, prompts_of, ClientStream}, Answer.{Asked, Response, Spells}}, proofs.SpellsDecided.{one-spelling, some-spelling}}
+use Rattle.nntp_wire.{specs.{Session.{Spelled, prompts_of, ClientStream}, Answer.{Asked, Response, Spells}}, proofs.SpellsDecided.{some-spelling}}
 use Rattle.nntp_theory.{specs.Inner.Given.{weight}, proofs.{Ids.SizeOfASession.{session_size}, Given.FirstBadAnswer.{run_fewer, none_permitted, holds_or_ends}}}
-use Rattle.nntp_theory.proofs.Given.GivenSpoolExists.{some_or_none}
+use Rattle.nntp_theory.proofs.{Given.GivenSpoolExists.{some_or_none}, Session.LaterPrompts.{spelled_count}, Streams.OneClass.{same_first}}
 use Rattle.nntp_pair.proofs.PairLemmas.{lines-few}
 
 -- ---- octets read as far as they spell answers
@@ -22,11 +22,7 @@ record Reading (ps : List Asked) (octets : List ℕ) : Type 0 where
 
 -- the octets are read as far as they spell answers
 read : (ps : List Asked) (octets : List ℕ) → Reading ps octets
-read [] octets = record { answers = []; spelled = []; rest = octets; is = refl; whole = refl; longest = none }
-  where
-    none : (others : List Response) (sp more : List ℕ) → Spelled [] others sp → octets ≡ sp ++ more → length others ≤ 0
-    none [] sp more s e = omega arith
-    none (a ∷ others) sp more s e = absurd s
+read [] octets = record { answers = []; spelled = []; rest = octets; is = refl; whole = refl; longest = λ others sp more s e. spelled_count [] others sp s }
 read (p ∷ ps) octets = by (some-spelling p octets) (read ps)
   where
     by : ((a : Response) × (b : List ℕ) × (rest : List ℕ) × Spells p a b × (octets ≡ b ++ rest)) ⊎ ((a : Response) (b rest : List ℕ) → Spells p a b → octets ≡ b ++ rest → ⊥)
@@ -50,22 +46,19 @@ read (p ∷ ps) octets = by (some-spelling p octets) (read ps)
         longer : (r : Reading ps rest) (others : List Response) (sp more : List ℕ) → Spelled (p ∷ ps) others sp → octets ≡ sp ++ more → length others ≤ length (a ∷ r.answers)
         longer r [] sp more t f = omega arith
         longer r (c ∷ others) sp more (d, tail, t, tail_spelled, whole) f =
-            let split : octets ≡ d ++ (tail ++ more) = f ∙ ap (λ sp. sp ++ more) whole ∙ append_assoc d tail more in
-            let same = one-spelling p a c b d rest (tail ++ more) s t (sym e ∙ split) in
-            grind (arith, append_cancel_left)
+            let same = same_first p a c b d rest tail [] more octets sp s t e whole (append-nil octets ∙ f) in
+            let le = r.longest others tail more tail_spelled (sym (append-nil rest) ∙ same.2) in
+            omega arith
 
 -- of two readings the shorter is the front of the longer
 same_front : (ps : List Asked) (answers others : List Response) (sp tp rest more : List ℕ) → Spelled ps answers sp → Spelled ps others tp → sp ++ rest ≡ tp ++ more → length answers ≤ length others
     → (answers ≡ take (length answers) others) × (length sp ≤ length tp)
 same_front ps [] others sp tp rest more s t e le = (refl, let none = ap length s in omega arith)
-same_front [] (a ∷ answers) others sp tp rest more s t e le = absurd s
-same_front (p ∷ ps) (a ∷ answers) [] sp tp rest more s t e le = absurd (omega arith)
 same_front (p ∷ ps) (a ∷ answers) (c ∷ others) sp tp rest more (b, tail, s, ss, whole) (d, tail', t, ts, whole') e le =
-    let split : b ++ (tail ++ rest) ≡ d ++ (tail' ++ more) = sym (append_assoc b tail rest) ∙ ap (λ sp. sp ++ rest) (sym whole) ∙ e ∙ ap (λ tp. tp ++ more) whole' ∙ append_assoc d tail' more in
-    let same = one-spelling p a c b d (tail ++ rest) (tail' ++ more) s t split in
-    let left = append_cancel_left b (tail ++ rest) (tail' ++ more) (split ∙ ap (λ d. d ++ (tail' ++ more)) (sym same.1)) in
-    let r = same_front ps answers others tail tail' rest more ss ts left (omega arith) in
-    grind (arith, append_cancel_left, length-append)
+    let same = same_first p a c b d tail tail' rest more sp tp s t whole whole' e in
+    let r = same_front ps answers others tail tail' rest more ss ts same.2 (omega arith) in
+    grind (arith, length-append)
+same_front ps (a ∷ answers) others sp tp rest more s t e le = grind arith
 
 -- the first answers of a reading, and what is left behind them
 first_spelled : (ps : List Asked) (answers : List Response) (sp : List ℕ) (n : ℕ) → Spelled ps answers sp → n ≤ length answers
@@ -79,16 +72,15 @@ first_spelled ps answers sp n s le = grind arith
 -- answers weigh no more than their octets
 pub light : (ps : List Asked) (answers : List Response) (sp : List ℕ) → Spelled ps answers sp → weight answers ≤ length sp
 light ps [] sp s = omega arith
-light [] (a ∷ answers) sp s = absurd s
 light (p ∷ ps) (a ∷ answers) sp (b, tail, s, ss, whole) = grind (arith, lines-few p a b s, length-append, light ps answers tail ss)
+light ps answers sp s = absurd s
 
 -- who explains m answers explains fewer
 pub first_explained : (profile : Profile) (S : Spool) (client : ClientStream) (server : List ℕ) (n m : ℕ) (rest : List ℕ) → n ≤ m
     → ExplainsUpTo profile S client server m rest → (left : List ℕ) × ExplainsUpTo profile S client server n left
 first_explained profile S client server n m rest le x =
     let f = first_spelled (prompts_of client) x.answers x.octets n x.spelled (omega arith) in
-    let run = subst (λ all. Run profile S start (prompts_of client) all) (sym (take-length x.answers)) x.run in
-    grind (arith, length-take, run_fewer, append_assoc)
+    grind (arith, take-length x.answers, length-take, run_fewer, append_assoc)
 
 -- ---- of the spools with P
 
@@ -96,11 +88,9 @@ module _ (P : Spool → Type 0) (profile : Profile) (client : ClientStream) (ser
   -- one answer is bad at most
   pub bad_once : (k j : ℕ) → BadAmong P profile client server k → BadAmong P profile client server j → k ≡ j
   bad_once k j (x, none) (y, none') =
-      elim (cases_order k j) [
-        | inl same ↦ same
-        | inr (inl l) ↦ absurd (none y.0 y.2 (first_explained profile y.0 client server (k + 1) j y.1 (omega arith) y.3))
-        | inr (inr g) ↦ absurd (none' x.0 x.2 (first_explained profile x.0 client server (j + 1) k x.1 (omega arith) x.3))
-      ]
+      let less = first_explained profile y.0 client server (k + 1) j y.1 in
+      let more = first_explained profile x.0 client server (j + 1) k x.1 in
+      grind (arith, cases_order k j, none y.0 y.2, less, none' x.0 x.2, more)
 
   -- where one of them explains all, no answer is bad
   pub explained_not_bad_among : (S : Spool) (n k : ℕ) → P S → Explains profile S client server n → BadAmong P profile client server k → ⊥
@@ -109,13 +99,9 @@ module _ (P : Spool → Type 0) (profile : Profile) (client : ClientStream) (ser
         | inl l ↦ none S p (first_explained profile S client server (k + 1) n [] (omega arith) x)
         | inr g ↦
             let z = y.3 in
-            let count = x.count in
-            let count' = z.count in
-            let f = (same_front (prompts_of client) x.answers z.answers x.octets z.octets [] y.1 x.spelled z.spelled (sym x.whole ∙ z.whole) (omega arith)).1 in
-            let m = ap length (sym x.whole ∙ z.whole) in
-            let a = length-append x.octets [] in
-            let b = length-append z.octets y.1 in
-            y.4 (nil_from_length y.1 (omega arith))
+            let e = sym x.whole ∙ z.whole in
+            let f = (same_front (prompts_of client) x.answers z.answers x.octets z.octets [] y.1 x.spelled z.spelled e (omega (arith, x.count, z.count))).1 in
+            y.4 (nil_from_length y.1 (omega (arith, f, ap length e, length-append x.octets [], length-append z.octets y.1)))
       ]
 
   -- one of them permits the answers
@@ -140,29 +126,25 @@ module _ (P : Spool → Type 0) (profile : Profile) (client : ClientStream) (ser
         f.1 ++ r.rest,
         f.2,
         r.whole ∙ ap (λ s. s ++ r.rest) f.3 ∙ append_assoc f.0 f.1 r.rest,
-        λ l e. let some = f.4 l in let none = ap length e in let m = length-append f.1 r.rest in omega arith,
+        λ l e. omega (arith, f.4 l, ap length e, length-append f.1 r.rest),
       )
 
   -- whoever explains answer k permits the first of them
   explained_permits : (T : Spool) (k : ℕ) → k < length r.answers → (y : ExplainsFirst profile T client server k) → Run profile T start (prompts_of client) (take (k + 1) r.answers)
-  explained_permits T k within y = grind (arith, (same_front (prompts_of client) y.1.answers r.answers y.1.octets r.spelled y.0 r.rest y.1.spelled r.is (sym y.1.whole ∙ r.whole) (omega arith)).0)
+  explained_permits T k within (more, y) = grind (arith, same_front (prompts_of client) y.answers r.answers y.octets r.spelled more r.rest y.spelled r.is)
 
   -- one that permits all of them explains both streams, or the answer behind them is bad
   at_the_end : SomeRuns r.answers → ((S : Spool) × (n : ℕ) × P S × Explains profile S client server n) ⊎ ((k : ℕ) × BadAmong P profile client server k)
   at_the_end (S, spool, p, run) = by r.rest refl
     where
-      up_to : (rest : List ℕ) → r.rest ≡ rest → ExplainsUpTo profile S client server (length r.answers) rest
-      up_to rest e = record { is_spool = spool; answers = r.answers; octets = r.spelled; count = refl; run = run; spelled = r.is; whole = r.whole ∙ ap (λ rest. r.spelled ++ rest) e }
+      up_to : ExplainsUpTo profile S client server (length r.answers) r.rest
+      up_to = record { is_spool = spool; answers = r.answers; octets = r.spelled; count = refl; run = run; spelled = r.is; whole = r.whole }
 
       by : (rest : List ℕ) → r.rest ≡ rest → ((S : Spool) × (n : ℕ) × P S × Explains profile S client server n) ⊎ ((k : ℕ) × BadAmong P profile client server k)
-      by [] e = inl (S, length r.answers, p, up_to [] e)
-      by (c ∷ cs) e = inr (
-        length r.answers,
-        (
-          (S, c ∷ cs, p, up_to (c ∷ cs) e, λ none. cc),
-          λ T q x. let le = r.longest x.1.answers x.1.octets x.0 x.1.spelled x.1.whole in let n = x.1.count in omega arith,
-        ),
-      )
+      by [] e = inl (S, length r.answers, p, subst (ExplainsUpTo profile S client server (length r.answers)) e up_to)
+      by (c ∷ cs) e =
+          let few = λ (T : Spool) (x : ExplainsFirst profile T client server (length r.answers)). r.longest x.1.answers x.1.octets x.0 x.1.spelled x.1.whole in
+          inr (length r.answers, ((S, r.rest, p, up_to, λ none. cc), λ T q x. omega (arith, x.1.count, few T x)))
 
   -- one of them explains both streams, or an answer is bad
   pub explained_or_bad_among : SomeRuns [] → IsDecided → ((S : Spool) × (n : ℕ) × P S × Explains profile S client server n) ⊎ ((k : ℕ) × BadAmong P profile client server k)
@@ -192,6 +174,6 @@ explained_or_bad profile client server small =
     decided : IsDecided (λ S. ⊤) profile client server
     decided answers octets rest spelled whole =
         let most = session_size profile.marks (prompts_of client) answers in
-        let less = light (prompts_of client) answers octets spelled in
         let all = ap length whole ∙ length-append octets rest in
-        elim (some_or_none profile (prompts_of client) answers (omega arith)) [ inl h ↦ inl (h.0, h.1, tt, h.2) | inr none ↦ inr (λ h. none h.0 h.1 h.3) ]
+        elim (some_or_none profile (prompts_of client) answers (omega (arith, most, all, light (prompts_of client) answers octets spelled)))
+        [ inl h ↦ inl (h.0, h.1, tt, h.2) | inr none ↦ inr (λ h. none h.0 h.1 h.3) ]

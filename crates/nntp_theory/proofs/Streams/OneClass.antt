@@ -1,9 +1,9 @@
 -- The class of a bad answer: there is one, and octets that follow leave it where it is settled.
 use Rattle.std.proofs.Common.{◌≡◌, ℕ, ◌+◌, Bool, true, false, IsTrue, List, [], ◌∷◌, ◌++◌, length, Option, None, Some, inl, inr, refl, sym, ap, subst, ◌∙◌}
-use Rattle.std.proofs.{Common.{arith, append_assoc, ◌⊎◌}, lemmas.{List.{append_cancel_left, append-nil}, Bool.{cases_Bool, true≢false}}}
+use Rattle.std.proofs.{Common.{arith, append_assoc}, lemmas.{List.{append_cancel_left, append-nil}, Bool.{cases_Bool, true≢false}}}
 use Rattle.nntp_wire.specs.{Answer.{Asked, Response, Spells}, Frame.{HasFrame, frame_octets}, Session.{prompts_of, Spelled, ClientStream, further}}
 use Rattle.nntp_wire.proofs.{SpellLemmas.{spelling-frame, one-frame}, SpellsDecided.{one-spelling, dec_spelling}, FramesDecided.{dec_frame, frame-longer}}
-use Rattle.nntp_article.specs.Session.{Spool.{Spool}, Machine.{Visible, State, Run, start, fits}, Explains.{ExplainsFirst, BadAmong}}
+use Rattle.nntp_article.specs.Session.{Spool.{Spool}, Machine.{Visible, State, Run, start, fits}, Explains.{ExplainsUpTo, ExplainsFirst, BadAmong}}
 use Rattle.nntp_article.specs.declared.session.profile.Profile.{Profile}
 use Rattle.nntp_pair.specs.{Pairing.{IsCut, IsMalformed}, declared.class.Class.{Class, TheVariants.{Surplus, Cut, Malformed, OutOfPlace, Contradiction}}}
 use Rattle.nntp_pair.proofs.PairingLemmas.{some-stay}
@@ -14,12 +14,10 @@ use Rattle.nntp_theory.specs.Classes.{IsClass, left_visible, HasClass, IsClosedB
 -- ---- one answer more
 
 -- an answer is given on an open connection
-pub run_open : (profile : Profile) (S : Spool) (s : State) (ps : List Asked) (answers : List Response) (a : Response)
-    → Run profile S s ps (answers ++ a ∷ []) → (visible_from s.visible ps answers).closed ≡ false
-run_open profile S s [] [] a r = absurd r
-run_open profile S s (p ∷ ps) [] a (new, permits, rest) = permits.may.is_open
-run_open profile S s [] (x ∷ answers) a r = absurd r
-run_open profile S s (p ∷ ps) (x ∷ answers) a (new, permits, rest) = grind (arith, run_open profile S new ps answers a rest)
+run_open : (profile : Profile) (S : Spool) (s : State) (ps : List Asked) (answers : List Response) (asked : Asked)
+    (a : Response) → asked_next ps answers ≡ Some asked → Run profile S s ps (answers ++ a ∷ []) → (visible_from s.visible ps answers).closed ≡ false
+run_open profile S s (p ∷ ps) (x ∷ answers) asked a e (new, permits, rest) = grind (arith, run_open profile S new ps answers asked a e rest)
+run_open profile S s ps answers asked a e r = cc
 
 -- and fits the visible state
 pub run_fits : (profile : Profile) (S : Spool) (s : State) (ps : List Asked) (answers : List Response) (asked : Asked)
@@ -35,6 +33,15 @@ spelled_snoc (p ∷ ps) (x ∷ answers) octets b asked a (c, rest, s, tail, whol
     (c, rest ++ b, s, spelled_snoc ps answers rest b asked a tail e t, ap (λ o. o ++ b) whole ∙ append_assoc c rest b)
 spelled_snoc ps answers octets b asked a s e t = grind (arith, append-nil)
 
+-- two readings of octets begin with the same answer, and the same octets are left behind it
+pub same_first : (p : Asked) (x y : Response) (b d s t rest more sp tp : List ℕ)
+    → Spells p x b → Spells p y d → sp ≡ b ++ s → tp ≡ d ++ t → sp ++ rest ≡ tp ++ more → (x ≡ y) × (b ≡ d) × (s ++ rest ≡ t ++ more)
+same_first p x y b d s t rest more sp tp first second whole whole' e =
+    let split : b ++ (s ++ rest) ≡ d ++ (t ++ more) =
+    sym (append_assoc b s rest) ∙ ap (λ sp. sp ++ rest) (sym whole) ∙ e ∙ ap (λ tp. tp ++ more) whole' ∙ append_assoc d t more in
+    let same = one-spelling p x y b d (s ++ rest) (t ++ more) first second split in
+    (same.0, same.1, append_cancel_left b (s ++ rest) (t ++ more) (split ∙ ap (λ d. d ++ (t ++ more)) (sym same.1)))
+
 -- of a reading that is one answer longer, the answers before are the same
 pub record OneMore (ps : List Asked) (answers others : List Response) (rest more : List ℕ) : Type 0 where
   pub asked : Asked
@@ -48,26 +55,21 @@ pub record OneMore (ps : List Asked) (answers others : List Response) (rest more
 pub one_more : (ps : List Asked) (answers others : List Response) (sp tp rest more : List ℕ) → Spelled ps answers sp
     → Spelled ps others tp → sp ++ rest ≡ tp ++ more → length others ≡ length answers + 1
     → OneMore ps answers others rest more
-one_more ps answers [] sp tp rest more s t e count = absurd (omega arith)
 one_more [] answers (y ∷ others) sp tp rest more s t e count = absurd t
 one_more (p ∷ ps) [] (y ∷ []) sp tp rest more s (b, tail, t, nothing, whole) e count = grind (arith, append-nil)
-one_more (p ∷ ps) [] (y ∷ z ∷ others) sp tp rest more s t e count = absurd (omega arith)
 one_more (p ∷ ps) (x ∷ answers) (y ∷ others) sp tp rest more (b, tail, s, ss, whole) (d, tail', t, ts, whole') e count =
-    let split : b ++ (tail ++ rest) ≡ d ++ (tail' ++ more) = sym (append_assoc b tail rest) ∙ ap (λ sp. sp ++ rest) (sym whole) ∙ e ∙ ap (λ tp. tp ++ more) whole' ∙ append_assoc d tail' more in
-    let same = one-spelling p x y b d (tail ++ rest) (tail' ++ more) s t split in
-    let left = append_cancel_left b (tail ++ rest) (tail' ++ more) (split ∙ ap (λ d. d ++ (tail' ++ more)) (sym same.1)) in
-    let m = one_more ps answers others tail tail' rest more ss ts left (omega arith) in
+    let same = same_first p x y b d tail tail' rest more sp tp s t whole whole' e in
+    let m = one_more ps answers others tail tail' rest more ss ts same.2 (omega arith) in
     record { asked = m.asked; response = m.response; front = m.front; next = m.next; spells = m.spells; is = (λ i. sym same.0 i ∷ m.is i); whole = m.whole }
+one_more ps answers others sp tp rest more s t e count = absurd (omega arith)
 
 -- readings of as many answers are the same
 as_many : (ps : List Asked) (answers others : List Response) (sp tp rest more : List ℕ) → Spelled ps answers sp
     → Spelled ps others tp → sp ++ rest ≡ tp ++ more → length others ≡ length answers → (answers ≡ others) × (rest ≡ more)
 as_many ps [] [] sp tp rest more s t e count = (refl, ap (λ sp. sp ++ rest) (sym s) ∙ e ∙ ap (λ tp. tp ++ more) t)
 as_many (p ∷ ps) (x ∷ answers) (y ∷ others) sp tp rest more (b, tail, s, ss, whole) (d, tail', t, ts, whole') e count =
-    let split : b ++ (tail ++ rest) ≡ d ++ (tail' ++ more) = sym (append_assoc b tail rest) ∙ ap (λ sp. sp ++ rest) (sym whole) ∙ e ∙ ap (λ tp. tp ++ more) whole' ∙ append_assoc d tail' more in
-    let same = one-spelling p x y b d (tail ++ rest) (tail' ++ more) s t split in
-    let left = append_cancel_left b (tail ++ rest) (tail' ++ more) (split ∙ ap (λ d. d ++ (tail' ++ more)) (sym same.1)) in
-    let r = as_many ps answers others tail tail' rest more ss ts left (omega arith) in
+    let same = same_first p x y b d tail tail' rest more sp tp s t whole whole' e in
+    let r = as_many ps answers others tail tail' rest more ss ts same.2 (omega arith) in
     ((λ i. same.0 i ∷ r.0 i), r.1)
 as_many ps answers others sp tp rest more s t e count = grind arith
 
@@ -124,6 +126,22 @@ class_there profile client server k before =
 pub one_class : (profile : Profile) (client : ClientStream) (server : List ℕ) (k : ℕ) (c d : Class) → HasClass profile client server k c → HasClass profile client server k d → c ≡ d
 one_class profile client server k c d h g = grind (arith, one_before, class_once, as_many, not_cut, not_malformed, one_fitting)
 
+-- below, T explains one answer more than those before octets of a class
+module _ (profile : Profile) (client : ClientStream) (server : List ℕ) (k : ℕ) (class : Class) (h : HasClass profile client server k class)
+    (T : Spool) (more : List ℕ) (y : ExplainsUpTo profile T client server (k + 1) more) where
+  one_answer : OneMore (prompts_of client) h.before.answers y.answers h.before.rest more
+  one_answer = grind (arith, one_more)
+
+  -- so they stand where something is asked on an open connection, and begin with an answer that fits
+  pub contradicted : class ≡ Contradiction
+  contradicted =
+      let m = one_answer in
+      let run = subst (λ answers. Run profile T start (prompts_of client) answers) m.is y.run in
+      let is_open = run_open profile T start (prompts_of client) h.before.answers m.asked m.response m.next run in
+      let fitting = run_fits profile T start (prompts_of client) h.before.answers m.asked m.response m.next run in
+      class_once false profile (left_visible client server k h.before) (Some m.asked) h.before.rest class Contradiction (grind (arith, is_open, m.next))
+      (record { response = m.response; front = m.front; rest = more; spells = m.spells; whole = m.whole; fitting = fitting })
+
 -- the answers before a bad one
 pub before_bad : (P : Spool → Type 0) (profile : Profile) (client : ClientStream) (server : List ℕ) (k : ℕ) → BadAmong P profile client server k → AnswersFirst client server k
 before_bad P profile client server k ((S, rest, p, x, some), none) = grind arith
@@ -143,9 +161,13 @@ before_longer client server more_client more_server k b =
       whole = ap (λ o. o ++ more_server) b.whole ∙ append_assoc b.octets b.rest more_server;
     }
 
--- the answer at the front of the octets is the one that they begin with
-answer_longer : (profile : Profile) (v : Visible) (asked : Asked) (octets more : List ℕ) (b : Bool) → BeginsWithAnswer profile v asked octets b → BeginsWithAnswer profile v asked (octets ++ more) b
-answer_longer profile v asked octets more b a = grind (arith, append_assoc)
+-- and so does the visible state that it leaves
+visible_stays : (client : ClientStream) (server more_client : List ℕ) (k : ℕ) (b : AnswersFirst client server k)
+    → visible_from start.visible (prompts_of (further client more_client)) b.answers ≡ left_visible client server k b
+visible_stays client server more_client k b =
+    let q = prompts_joined client more_client in
+    let few = spelled_count (prompts_of client) b.answers b.octets b.spelled in
+    ap (λ ps. visible_from start.visible ps b.answers) q.1 ∙ visible_longer start.visible (prompts_of client) q.0 b.answers few
 
 malformed_longer : (asked : Asked) (octets more : List ℕ) → IsMalformed asked octets → IsMalformed asked (octets ++ more)
 malformed_longer asked octets more m = grind (arith, frame-longer, true≢false, cases_Bool, append_assoc)
@@ -159,17 +181,11 @@ settled class closed = IsTrue true
 settled_by : (profile : Profile) (client : ClientStream) (server : List ℕ) (k : ℕ) (class : Class) (h : HasClass profile client server k class)
     → IsSettled client server k class → settled class (left_visible client server k h.before).closed
 settled_by profile client server k Surplus h s = closed_before client server k h.before s.before ∙ s.closed
-settled_by profile client server k Cut h s = absurd s
-settled_by profile client server k class h s = refl
+settled_by profile client server k class h s = grind arith
 
 open_longer : (profile : Profile) (v : Visible) (asked : Asked) (octets more : List ℕ) (class : Class) → settled class false
     → IsOpenClass profile v asked octets class → IsOpenClass profile v asked (octets ++ more) class
-open_longer profile v asked octets more Surplus s h = absurd h
-open_longer profile v asked octets more class s h = grind (arith, malformed_longer, answer_longer)
-
--- Surplus octets on an open connection aren't settled
-not_open : (class : Class) → class ≡ Surplus → settled class false → ⊥
-not_open class e s = true≢false (sym (subst (λ c. settled c false) e s))
+open_longer profile v asked octets more class s h = grind (arith, malformed_longer, append_assoc)
 
 class_longer : (closed : Bool) (profile : Profile) (v : Visible) (ps qs : List Asked) (answers : List Response) (octets more : List ℕ) (class : Class) → settled class closed
     → IsClass closed profile v (asked_next ps answers) octets class → IsClass closed profile v (asked_next (ps ++ qs) answers) (octets ++ more) class
@@ -177,18 +193,15 @@ class_longer true profile v ps qs answers octets more class s h = h
 class_longer false profile v ps qs answers octets more class s h = by (asked_next ps answers) refl h
   where
     by : (next : Option Asked) → asked_next ps answers ≡ next → IsClass false profile v next octets class → IsClass false profile v (asked_next (ps ++ qs) answers) (octets ++ more) class
-    by None e h = absurd (not_open class h s)
-    by (Some asked) e h = subst (λ next. IsClass false profile v next (octets ++ more) class) (sym (asked_longer ps qs answers asked e)) (open_longer profile v asked octets more class s h)
+    by None e h = grind arith
+    by (Some asked) e h = grind (arith, asked_longer ps qs answers asked e, open_longer profile v asked octets more class s h)
 
 -- a connection that is closed before an answer stays so
 closed_longer : (client : ClientStream) (server more_client more_server : List ℕ) (k : ℕ) → IsClosedBefore client server k → IsClosedBefore (further client more_client) (server ++ more_server) k
 unfolding before_longer
 closed_longer client server more_client more_server k c =
-    let b = c.before in
-    let q = prompts_joined client more_client in
-    let same : visible_from start.visible (prompts_of (further client more_client)) b.answers ≡ left_visible client server k b =
-    ap (λ ps. visible_from start.visible ps b.answers) q.1 ∙ visible_longer start.visible (prompts_of client) q.0 b.answers (spelled_count (prompts_of client) b.answers b.octets b.spelled) in
-    record { before = before_longer client server more_client more_server k b; closed = ap (λ (v : Visible). v.closed) same ∙ c.closed }
+    let same = visible_stays client server more_client k c.before in
+    record { before = before_longer client server more_client more_server k c.before; closed = ap (λ (v : Visible). v.closed) same ∙ c.closed }
 
 -- and a settled class stays settled
 pub settled_stays : (client : ClientStream) (server more_client more_server : List ℕ) (k : ℕ) (class : Class) → IsSettled client server k class
@@ -203,89 +216,57 @@ module _ (profile : Profile) (client : ClientStream) (server more_client more_se
   unfolding before_longer
   class_stays =
       let b = h.before in
-      let count = spelled_count (prompts_of client) b.answers b.octets b.spelled in
       let q = prompts_joined client more_client in
       let v = left_visible client server k b in
-      let same : visible_from start.visible (prompts_of (further client more_client)) b.answers ≡ v = ap
-      (λ ps. visible_from start.visible ps b.answers) q.1
-      ∙ visible_longer start.visible (prompts_of client) q.0 b.answers count in
       let there = class_longer v.closed profile v (prompts_of client) q.0 b.answers b.rest more_server class (settled_by profile client server k class h s) h.is_class in
-      record {
-        before = before_longer client server more_client more_server k b;
-        is_class = subst (λ (x : Visible × List Asked). IsClass x.0.closed profile x.0 (asked_next x.1 b.answers) (b.rest ++ more_server) class) (λ i. (sym same i, sym q.1 i)) there;
-      }
+      let same = visible_stays client server more_client k b in
+      record { before = before_longer client server more_client more_server k b; is_class = grind (arith, same, q.1, there) }
 
   -- who explains one answer more of the longer streams explains it of the shorter ones
   explains_shorter : (T : Spool) → (ExplainsFirst profile T client server k → ⊥) → ExplainsFirst profile T (further client more_client) (server ++ more_server) k → ⊥
-  explains_shorter T none (more, y) = by (cases_Bool v.closed)
+  unfolding before_longer class_stays
+  explains_shorter T none (more, y) =
+      let next = asked_next (prompts_of client) b.answers in
+      by v.closed next refl (subst (λ class. IsClass v.closed profile v next b.rest class) same h.is_class)
     where
       b : AnswersFirst client server k
       b = h.before
 
       v : Visible
-      v = left_visible client server k h.before
+      v = left_visible client server k b
 
-      q : (qs : List Asked) × (prompts_of (further client more_client) ≡ prompts_of client ++ qs)
-      q = prompts_joined client more_client
+      same : class ≡ Contradiction
+      same = contradicted profile (further client more_client) (server ++ more_server) k class class_stays T more y
 
-      run : Run profile T start (prompts_of client ++ q.0) y.answers
-      run = subst (λ ps. Run profile T start ps y.answers) q.1 y.run
-
-      m : OneMore (prompts_of client ++ q.0) h.before.answers y.answers (h.before.rest ++ more_server) more
-      m =
-          let c = y.count in
-          one_more (prompts_of client ++ q.0) h.before.answers y.answers h.before.octets y.octets (h.before.rest ++ more_server) more
-          (spelled_longer (prompts_of client) q.0 h.before.answers h.before.octets h.before.spelled) (subst (λ ps. Spelled ps y.answers y.octets) q.1 y.spelled)
-          (sym (append_assoc h.before.octets h.before.rest more_server) ∙ ap (λ o. o ++ more_server) (sym h.before.whole) ∙ y.whole) (omega arith)
-
-      is_open : v.closed ≡ false
-      is_open = search (arith, spelled_count, visible_longer, q, run_open, m, run)
+      m : OneMore (prompts_of (further client more_client)) b.answers y.answers (b.rest ++ more_server) more
+      m = one_answer profile (further client more_client) (server ++ more_server) k class class_stays T more y
 
       -- the same answer stands in front of the shorter octets
-      again : (asked : Asked) → asked_next (prompts_of client) h.before.answers ≡ Some asked → (fitting : Bool) → BeginsWithAnswer profile v asked h.before.rest fitting → ⊥
-      again asked e fitting a =
-          let same : m.asked ≡ asked = (let f = sym m.next ∙ asked_longer (prompts_of client) q.0 h.before.answers asked e in cc) in
+      by : (closed : Bool) (next : Option Asked) → asked_next (prompts_of client) b.answers ≡ next → IsClass closed profile v next b.rest Contradiction → ⊥
+      by false (Some asked) e a =
+          let q = prompts_joined client more_client in
+          let next = ap (λ ps. asked_next ps b.answers) q.1 ∙ asked_longer (prompts_of client) q.0 b.answers asked e in
+          let same : m.asked ≡ asked = (let f = sym m.next ∙ next in cc) in
           let one = one-spelling asked a.response m.response a.front m.front (a.rest ++ more_server) more a.spells (subst (λ p. Spells p m.response m.front) same m.spells)
           (sym (ap (λ o. o ++ more_server) a.whole ∙ append_assoc a.front a.rest more_server) ∙ m.whole) in
-          let answers : y.answers ≡ h.before.answers ++ a.response ∷ [] = m.is ∙ ap (λ r. h.before.answers ++ r ∷ []) (sym one.0) in
-          let few = asked_count (prompts_of client) h.before.answers asked e in
+          let answers : y.answers ≡ b.answers ++ a.response ∷ [] = m.is ∙ ap (λ r. b.answers ++ r ∷ []) (sym one.0) in
+          let few = asked_count (prompts_of client) b.answers asked e in
           let count = y.count in
+          let kept = b.count in
           none (
             a.rest,
             record {
               is_spool = y.is_spool;
               answers = y.answers;
-              octets = h.before.octets ++ a.front;
+              octets = b.octets ++ a.front;
               count = y.count;
-              run = run_shorter profile T start (prompts_of client) q.0 y.answers (omega arith) run;
-              spelled = subst (λ answers. Spelled (prompts_of client) answers (h.before.octets ++ a.front)) (sym answers)
-                  (spelled_snoc (prompts_of client) h.before.answers h.before.octets a.front asked a.response h.before.spelled e
-                  a.spells);
-              whole = h.before.whole ∙ ap (λ o. h.before.octets ++ o) a.whole ∙ sym (append_assoc h.before.octets a.front a.rest);
+              run = run_shorter profile T start (prompts_of client) q.0 y.answers (omega arith) (subst (λ ps. Run profile T start ps y.answers) q.1 y.run);
+              spelled = subst (λ answers. Spelled (prompts_of client) answers (b.octets ++ a.front)) (sym answers)
+                  (spelled_snoc (prompts_of client) b.answers b.octets a.front asked a.response b.spelled e a.spells);
+              whole = b.whole ∙ ap (λ o. b.octets ++ o) a.whole ∙ sym (append_assoc b.octets a.front a.rest);
             },
           )
-
-      -- a frame that spells nothing still does
-      nothing : (asked : Asked) → asked_next (prompts_of client) h.before.answers ≡ Some asked → IsMalformed asked h.before.rest → ⊥
-      nothing asked e is =
-          let same : m.asked ≡ asked = (let f = sym m.next ∙ asked_longer (prompts_of client) q.0 h.before.answers asked e in cc) in
-          let t = subst (λ p. Spells p m.response m.front) same m.spells in
-          let f = spelling-frame asked m.response m.front more t in
-          let long = frame-longer asked h.before.rest is.initial is.rest more_server is.block is.frame in
-          let one = one-frame asked (h.before.rest ++ more_server) f.0 is.initial f.1 is.block more (is.rest ++ more_server) (subst (λ o. HasFrame asked o f.0 f.1 more) (sym m.whole) f.3) long in
-          is.nothing m.response (subst (Spells asked m.response) (sym f.2 ∙ (λ i. frame_octets (one.0 i) (one.1 i))) t)
-
-      at_open : (asked : Asked) → asked_next (prompts_of client) h.before.answers ≡ Some asked → (c : Class) → settled c false → IsOpenClass profile v asked h.before.rest c → ⊥
-      at_open asked e c t h = grind (arith, nothing, again)
-
-      at_next : (next : Option Asked) → asked_next (prompts_of client) h.before.answers ≡ next → settled class false → IsClass false profile v next h.before.rest class → ⊥
-      at_next next e t c = grind (arith, not_open, at_open)
-
-      by : (v.closed ≡ true) ⊎ (v.closed ≡ false) → ⊥
-      by (inl closed) = true≢false (sym closed ∙ is_open)
-      by (inr opened) =
-          at_next (asked_next (prompts_of client) h.before.answers) refl (subst (settled class) opened (settled_by profile client server k class h s))
-          (subst (λ closed. IsClass closed profile v (asked_next (prompts_of client) h.before.answers) h.before.rest class) opened h.is_class)
+      by closed next e c = grind arith
 
   -- the answer is still bad among the same spools
   pub bad_stays : (P : Spool → Type 0) → BadAmong P profile client server k → BadAmong P profile (further client more_client) (server ++ more_server) k

@@ -23,8 +23,7 @@ pub same_answers : (profile : Profile) (S T : Spool) (client : ClientStream) (se
 same_answers profile S T client server n m x y =
     let p = by_pairs profile S client server n [] x in
     let q = by_pairs profile T client server m [] y in
-    let one = one-run p.0 q.0 (streams client server) p.1 q.1 (end _) (end _) p.2 (p.4, refl) q.2 (q.4, refl) in
-    sym p.3 ∙ ap responses_of one.0 ∙ q.3
+    grind (arith, one-run p.0 q.0 (streams client server) p.1 q.1 (end _) (end _) p.2 (p.4, refl) q.2 (q.4, refl), p.3, q.3)
 
 -- what they say is bounded by the octets
 few_facts : (profile : Profile) (S : Spool) (client : ClientStream) (server : List ℕ) (n : ℕ) (x : Explains profile S client server n)
@@ -41,18 +40,14 @@ given_explains profile S G client server n x small given =
     record {
       explains = record { is_spool = g.0; answers = x.answers; octets = x.octets; count = x.count; run = g.1; spelled = x.spelled; whole = x.whole };
       given = given;
-      least = λ T m y.
-          let same = same_answers profile T S client server m n y x in
-          given_is_least profile T G (prompts_of client) x.answers y.is_spool (subst (λ answers. Run profile T start (prompts_of client) answers) same y.run) given;
+      least = λ T m y. grind (arith, same_answers profile T S client server m n y x, given_is_least profile T G (prompts_of client) x.answers y.is_spool);
     }
 
 -- two streams have one outcome at most
 pub one_outcome : (profile : Profile) (client : ClientStream) (server : List ℕ) (h k : Outcome) → IsOutcome profile client server h → IsOutcome profile client server k → h ≡ k
 one_outcome profile client server (Yes S n) (Yes T m) x y = grind (arith, same_answers profile S T client server n m x.explains y.explains, given_once)
 one_outcome profile client server (No k c) (No j d) x y =
-    let place = bad_once (λ S. ⊤) profile client server k j x.0 y.0 in
-    let class = one_class profile client server j c d (subst (λ k. HasClass profile client server k c) place x.1) y.1 in
-    λ i. No (place i) (class i)
+    grind (arith, bad_once (λ S. ⊤) profile client server k j x.0 y.0, one_class profile client server j c d)
 one_outcome profile client server h k x y = search (arith, explained_not_bad)
 
 -- and they have one
@@ -111,7 +106,7 @@ module _ (profile : Profile) (client : ClientStream) (server : List ℕ) (pairs 
       → BadAmong P profile client server (length pairs) × HasClass profile client server (length pairs) (class_by (fits profile v (asked_at pair.place) pair.response))
   bad_response P S spool p run none =
       let longer = AreNext-push pairs (streams client server) before after pair paired next in
-      let responses : responses_of (pairs ++ pair ∷ []) ≡ responses_of pairs ++ pair.response ∷ [] = map-append (λ pair. pair.response) pairs (pair ∷ []) in (
+      let responses = map-append (λ (pair : Paired). pair.response) pairs (pair ∷ []) in (
         bad_answer profile client server pairs pair before after paired next P S spool p ((pairs_run profile S client server pairs before paired).1 run)
             (grind (arith, pairs_run)),
         answer_has_class profile client server pairs pair before after paired next _ (ap (λ v. fits profile v (asked_at pair.place) pair.response) same_visible),

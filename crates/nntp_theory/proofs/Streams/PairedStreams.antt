@@ -1,51 +1,23 @@
 -- What the pairing of two streams, and whether some spool permits its responses, say of the streams.
-use Rattle.std.proofs.{Common.{◌≡◌, ◌≢◌, ℕ, ◌+◌, Bool, false, List, [], ◌∷◌, ◌++◌, length, Some, refl, sym, subst, ◌∙◌, arith}, lemmas.Bool.{true≢false}}
-use Rattle.nntp_wire.{specs.{Answer.{Spells}, Frame.{frame_octets}, Session.{prompts_of, ClientStream}}, proofs.SpellsDecided.{one-spelling}}
-use Rattle.nntp_pair.specs.Pairing.{Paired, Unpaired, IsNext, AreNext, end, bad, IsPairing, responses_of, asked_at, streams, Place}
-use Rattle.nntp_pair.specs.declared.class.{PairClass.{PairClass, TheVariants.{Surplus as surplus, Cut as cut, Malformed as malformed}}, Class.{Class}}
-use Rattle.nntp_pair.{specs.Classes.{class_of}, proofs.SpelledLemmas.{places-prompts, pairs-spelled}}
-use Rattle.nntp_article.specs.Session.{Spool.{Spool, IsSpool}, Machine.{Run, start, fits}, Explains.{ExplainsUpTo, Explains, ExplainsFirst, BadAmong}}
+use Rattle.std.proofs.{Common.{◌≡◌, ℕ, Bool, false, List, [], ◌∷◌, ◌++◌, length, Some, refl, sym, ◌∙◌, arith}, lemmas.Bool.{true≢false}}
+use Rattle.nntp_wire.{specs.{Frame.{frame_octets}, Session.{prompts_of, ClientStream}}, proofs.SpellsDecided.{one-spelling}}
+use Rattle.nntp_pair.specs.Pairing.{Paired, Unpaired, IsNext, AreNext, end, bad, IsPairing, responses_of, asked_at, streams}
+use Rattle.nntp_pair.{specs.{declared.class.PairClass.{PairClass}, Classes.{class_of}}, proofs.SpelledLemmas.{places-prompts, pairs-spelled}}
+use Rattle.nntp_article.specs.Session.{Spool.{Spool, IsSpool}, Machine.{Run, start, fits}, Explains.{Explains, ExplainsFirst, BadAmong}}
 use Rattle.nntp_article.specs.declared.session.profile.Profile.{Profile}
-use Rattle.nntp_theory.specs.{Inner.Permits.{SomePermits}, Classes.{visible_from, asked_next, IsOpenClass, IsClass, HasClass, left_visible, class_by}}
-use Rattle.nntp_theory.proofs.Streams.{OneClass.{OneMore, one_more, run_open, run_fits, not_cut, not_malformed}, ClassAtTheEnd.{first_asked, paired_up, count}}
-use Rattle.nntp_theory.proofs.Streams.ClassAtTheEnd.{has_class, end_has_class, explained_pairs}
+use Rattle.nntp_theory.{specs.{Inner.Permits.{SomePermits}, Classes.{visible_from, asked_next, HasClass, class_by}}, proofs.Streams.OneClass.{one_more}}
+use Rattle.nntp_theory.proofs.Streams.{OneClass.{run_fits, contradicted}, ClassAtTheEnd.{first_asked, paired_up, count, has_class, end_has_class}}
+use Rattle.nntp_theory.proofs.Streams.ClassAtTheEnd.{explained_pairs}
 
 -- where the pairing comes to its end, who permits its responses explains both streams
 pub explained_end : (profile : Profile) (S : Spool) (client : ClientStream) (server : List ℕ) (pairs : List Paired) (unanswered : ℕ) → IsPairing client server pairs (end unanswered)
     → IsSpool profile.limit S → Run profile S start (prompts_of client) (responses_of pairs) → Explains profile S client server (length pairs)
 explained_end profile S client server pairs unanswered pairing spool run = grind (arith, explained_pairs)
 
--- below, T explains one answer more than those before octets of a class
-module _ (profile : Profile) (client : ClientStream) (server : List ℕ) (k : ℕ) (class : Class) (h : HasClass profile client server k class)
-    (T : Spool) (more : List ℕ) (y : ExplainsUpTo profile T client server (k + 1) more) where
-  pub one_answer : OneMore (prompts_of client) h.before.answers y.answers h.before.rest more
-  one_answer = grind (arith, count, one_more)
-
-  pub one_run : (m : OneMore (prompts_of client) h.before.answers y.answers h.before.rest more) → Run profile T start (prompts_of client) (h.before.answers ++ m.response ∷ [])
-  one_run m = subst (λ answers. Run profile T start (prompts_of client) answers) m.is y.run
-
-  -- so they stand where something is asked on an open connection
-  pub there : (m : OneMore (prompts_of client) h.before.answers y.answers h.before.rest more) → IsOpenClass profile (left_visible client server k h.before) m.asked h.before.rest class
-  there m = grind (arith, run_open, one_run)
-
 -- no spool explains an answer where the pairing ends at octets
 no_more : (profile : Profile) (client : ClientStream) (server : List ℕ) (k : ℕ) (class : PairClass) → HasClass profile client server k (class_of class) → (T : Spool)
     → ExplainsFirst profile T client server k → ⊥
-no_more profile client server k class h T (more, y) =
-    let m = one_answer profile client server k (class_of class) h T more y in
-    by class m (there profile client server k (class_of class) h T more y m)
-  where
-    by : (class : PairClass) (m : OneMore (prompts_of client) h.before.answers y.answers h.before.rest more)
-        → IsOpenClass profile (left_visible client server k h.before) m.asked h.before.rest (class_of class) → ⊥
-    by surplus m is = is
-    by cut m is =
-        let v = left_visible client server k h.before in
-        not_cut profile v m.asked h.before.rest (fits profile v m.asked m.response) is
-        (record { response = m.response; front = m.front; rest = more; spells = m.spells; whole = m.whole; fitting = refl })
-    by malformed m is =
-        let v = left_visible client server k h.before in
-        not_malformed profile v m.asked h.before.rest (fits profile v m.asked m.response) is
-        (record { response = m.response; front = m.front; rest = more; spells = m.spells; whole = m.whole; fitting = refl })
+no_more profile client server k class h T (more, y) = grind (arith, contradicted profile client server k (class_of class) h T more y)
 
 -- where the pairing ends at octets, and one of the spools with P permits its responses, the answer there is bad among these
 pub bad_end : (P : Spool → Type 0) (profile : Profile) (client : ClientStream) (server : List ℕ) (pairs : List Paired) (class : PairClass) → IsPairing client server pairs (bad class)
@@ -63,18 +35,7 @@ module _ (profile : Profile) (client : ClientStream) (server : List ℕ) (pairs 
   -- the class is by whether its response fits
   pub answer_has_class : (b : Bool) → fits profile (visible_from start.visible (prompts_of client) (responses_of pairs))
       (asked_at pair.place) pair.response ≡ b → HasClass profile client server (length pairs) (class_by b)
-  answer_has_class b e =
-      let v = visible_from start.visible (prompts_of client) (responses_of pairs) in
-      has_class profile client server pairs before (class_by b) paired
-      (subst (λ (x : Bool × List Place). IsClass x.0 profile v (first_asked x.1) before.server (class_by b)) (λ i. (sym next.is_open i, sym next.place i)) (by b e))
-    where
-      by : (b : Bool) → fits profile (visible_from start.visible (prompts_of client) (responses_of pairs)) (asked_at pair.place) pair.response ≡ b
-          → IsOpenClass profile (visible_from start.visible (prompts_of client) (responses_of pairs)) (asked_at pair.place) before.server (class_by b)
-      by b e = grind arith
-
-  -- some octets stand there
-  some_octets : before.server ≢ []
-  some_octets e = grind arith
+  answer_has_class b e = has_class profile client server pairs before (class_by b) paired (grind arith)
 
   -- what is asked there
   asked_is : asked_next (prompts_of client) (responses_of pairs) ≡ Some (asked_at pair.place)
@@ -92,14 +53,13 @@ module _ (profile : Profile) (client : ClientStream) (server : List ℕ) (pairs 
       let spelled = (pairs-spelled client server pairs before paired).0 in
       let a = count pairs in
       let m = one_more (prompts_of client) (responses_of pairs) y.answers spelled.0 y.octets before.server more spelled.1 y.spelled (sym spelled.2 ∙ y.whole) (omega arith) in
-      let same : m.asked ≡ asked_at pair.place = (let e = sym m.next ∙ asked_is in cc) in
-      let one = one-spelling (asked_at pair.place) m.response pair.response m.front (frame_octets pair.initial next.answered.block) more after.server
-      (subst (λ asked. Spells asked m.response m.front) same m.spells) next.answered.spells (sym m.whole ∙ next.answered.frame.whole) in
-      grind (arith, count)
+      let front = frame_octets pair.initial next.answered.block in
+      grind (arith, asked_is, m, one-spelling (asked_at pair.place) m.response pair.response m.front front more after.server)
 
   -- the answer is bad among the spools with P, if none of them permits it behind those that one of them permits
   pub bad_answer : (P : Spool → Type 0) (S : Spool) → IsSpool profile.limit S → P S → Run profile S start (prompts_of client) (responses_of pairs)
       → ((T : Spool) → IsSpool profile.limit T → P T → Run profile T start (prompts_of client) (responses_of pairs ++ pair.response ∷ []) → ⊥)
       → BadAmong P profile client server (length pairs)
   bad_answer P S spool p run none =
-      ((S, before.server, p, explained_pairs profile S client server pairs before paired spool run, some_octets), λ T q x. none T x.1.is_spool q (permitted T x))
+      let x = explained_pairs profile S client server pairs before paired spool run in
+      ((S, before.server, p, x, λ e. grind arith), λ T q x. none T x.1.is_spool q (permitted T x))

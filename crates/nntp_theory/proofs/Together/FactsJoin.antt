@@ -18,21 +18,10 @@ pub together_more : (facts more : List Fact) → Together facts → AgreeWithin 
 together_more facts more t w = (
   λ h. record {
     well_formed = all_back IsWellFormed facts more h.well_formed;
-    names = record {
-      groups = λ name. apart_shown (shows_group name) (denies_group name) facts more (h.groups name);
-      no_groups = λ name. apart_denied (shows_group name) (denies_group name) facts more (h.groups name);
-    };
+    names = search (apart_shown, apart_denied, h.groups);
     numbers = λ name. subst AsksStand (asks_append name facts more) (h.numbers name);
-    ids = record {
-      ids = λ name n. give_same_of_both (id_in name n) facts more (h.ids name n);
-      ids_once = λ name id. give_same_of_both (number_in name id) facts more (h.ids_once name id);
-    };
-    articles = λ id. record {
-      shown = apart_shown (shows_article id) (denies_article id) facts more (h.articles id);
-      denied = apart_denied (shows_article id) (denies_article id) facts more (h.articles id);
-      head = give_same_of_both (head_in id) facts more (h.heads id);
-      body = give_same_of_both (body_in id) facts more (h.bodies id);
-    };
+    ids = search (give_same_of_both, h.ids, h.ids_once);
+    articles = search (apart_shown, apart_denied, give_same_of_both, h.articles, h.heads, h.bodies);
   },
   λ j. record {
     well_formed = all_both IsWellFormed facts more t.well_formed j.well_formed;

@@ -1,8 +1,7 @@
 -- What holds of a spool stands together.
-use Rattle.std.proofs.Common.{◌≡◌, ℕ, ◌↔◌, Bool, true, false, cond, ◌&&◌, ◌==◌, IsTrue, List, [], ◌∷◌, ◌++◌, map, Option, None, Some, is_some, IsSome, refl}
-use Rattle.std.proofs.{Common.{sym, ap, subst, ◌∙◌, arith}, lemmas.Bool.{true≢false, and_parts, eqb-true, false_from_ne_true, not-true}}
-use Rattle.std.{proofs.lemmas.List.Elements.{recursion_from_All}, specs.{Prelude.{IfSome}, List.{AllByRecursion, list_any}, Option.{option_map_or}}}
-use Rattle.std.specs.{Cmp.Lexicographic.{same_text, nat_list_eq_equiv}, FinMap.{get}}
+use Rattle.std.proofs.Common.{◌≡◌, ℕ, ◌↔◌, Bool, true, cond, IsTrue, List, [], ◌∷◌, ◌++◌, map, Option, None, Some, IsSome, refl, sym, ap, ◌∙◌, arith}
+use Rattle.std.proofs.lemmas.{Bool.{true≢false, and_parts, eqb-true, false_from_ne_true, not-true}, List.Elements.{recursion_from_All}}
+use Rattle.std.specs.{Prelude.{IfSome}, List.{AllByRecursion, list_any}, Option.{option_map_or}, Cmp.Lexicographic.{same_text, nat_list_eq_equiv}, FinMap.{get}}
 use Rattle.nntp_article.specs.{Article.Parts.{Line, Id, head_part, body_part}, Session.Spool.{Spool, Text, IsGroup, numbers, IsSpool, HasText, text_of}}
 use Rattle.nntp_article.{specs.Session.{Spool.{is_line, Name}, Machine.{is_same}}, proofs.ArticleLemmas.HeadHasNoEmptyLine.{parts}}
 use Rattle.nntp_said.specs.Facts.{Fact, Holds, ThereIs, ThereIsNo, IdAt, TextIs, NoArticle, GroupsAre}
@@ -11,21 +10,21 @@ use Rattle.nntp_theory.{specs.{Inner.Together.{Together}, Together.{denies_group
 use Rattle.nntp_theory.proofs.Members.{all_at, all_front, all_back, all_both, all_from, any_in, found_in, in_map, from_map, contains_in, in_contains}
 use Rattle.nntp_theory.proofs.{Members.{first_found, first_there}, GivenNumbers.{MetNumbersStand.{asks_stand}, AskedOfAGroup.{met_by_facts}}}
 use Rattle.nntp_wire.specs.{Listing.{ActiveValue}, Wildmat.{MatchesName}, Decided.{matches_name}, Name.{IsGroupName}, declared.command.What.{What}}
-use Rattle.nntp_wire.{specs.declared.command.What.TheVariants.{Article, Head}, proofs.DecidedLemmas.{matches_name-iff}}
+use Rattle.nntp_wire.{specs.declared.command.What.TheVariants.{Article}, proofs.DecidedLemmas.{matches_name-iff}}
 
 -- a text is the same as itself
 pub same_itself : (xs : List ℕ) → is_same xs xs ≡ true
 same_itself xs = nat_list_eq_equiv.refl xs
 
 -- a name that is in a list of groups is found there
-listed : (name : Name) (lines : List ActiveValue) → In name (map (λ line. line.name) lines) → list_any (λ line. is_same line.name name) lines ≡ true
+pub listed : (name : Name) (lines : List ActiveValue) → In name (map (λ line. line.name) lines) → list_any (λ line. is_same line.name name) lines ≡ true
 listed name lines i = grind (arith, from_map, any_in, same_itself)
 
 -- and back
 pub in_listed : (name : Name) (lines : List ActiveValue) → list_any (λ line. is_same line.name name) lines ≡ true → In name (map (λ line. line.name) lines)
 in_listed name lines t =
     let f = found_in (λ line. is_same line.name name) lines t in
-    subst (λ g. In g (map (λ line. line.name) lines)) (same_text f.0.name name (sym f.2)) (in_map (λ line. line.name) f.0 lines f.1)
+    grind (arith, same_text f.0.name name, in_map (λ line. line.name) f.0 lines f.1)
 
 -- the group matches, if there is a wildmat
 pub matching : (name : Name) (p : Option (List ℕ)) → option_map_or (λ w. matches_name w name) p true ≡ true ↔ IfSome p (λ w. MatchesName w name)
@@ -50,9 +49,8 @@ module _ (limit : ℕ) (S : Spool) (facts : List Fact) (spool : IsSpool limit S)
 
   -- a group that a fact shows is S's
   shown_by_one : (name : Name) (fact : Fact) → Holds S fact → shows_group name fact ≡ true → IsGroup S name
-  shown_by_one name (ThereIs g) h t = subst (IsGroup S) (same_text g name (sym t)) h
-  shown_by_one name (GroupsAre p lines) h t = grind (arith, contains_in, in_listed)
-  shown_by_one name fact h t = cc
+  shown_by_one name (ThereIs g) h t = grind (arith, same_text g name)
+  shown_by_one name fact h t = grind (arith, contains_in, in_listed)
 
   -- a group that is shown is S's
   pub group_in_S : (name : Name) → IsTrue (is_shown_group facts name) → IsGroup S name
@@ -60,19 +58,13 @@ module _ (limit : ℕ) (S : Spool) (facts : List Fact) (spool : IsSpool limit S)
 
   -- and no group of S is denied
   denied_by_one : (name : Name) (fact : Fact) → Holds S fact → IsGroup S name → denies_group name fact ≡ true → ⊥
-  denied_by_one name (ThereIsNo g) h there t = true≢false (sym there ∙ ap is_some (subst (λ g. get S.groups g ≡ None) (same_text g name (sym t)) h))
+  denied_by_one name (ThereIsNo g) h there t = grind (arith, same_text g name)
   denied_by_one name (GroupsAre p lines) h there t = grind (arith, and_parts, matching, true≢false, listed, in_contains, not-true)
   denied_by_one name fact h there t = cc
 
   -- an id that a fact shows is S's
   id_by_one : (name : Name) (n : ℕ) (id : Id) (fact : Fact) → Holds S fact → id_in name n fact ≡ Some id → get (numbers S name) n ≡ Some id
-  id_by_one name n id (IdAt g m other) h e = one (is_same g name && m == n) refl e
-    where
-      one : (b : Bool) → (is_same g name && m == n) ≡ b → cond b (Some other) None ≡ Some id → get (numbers S name) n ≡ Some id
-      one true is e =
-          let p = and_parts (is_same g name) (m == n) is in
-          subst (λ g. get (numbers S g) n ≡ Some id) (same_text g name (sym p.0)) (subst (λ m. get (numbers S g) m ≡ Some id) (eqb-true m n p.1) (h ∙ e))
-      one false is e = cc
+  id_by_one name n id (IdAt g m other) h e = grind (arith, same_text g name, eqb-true)
   id_by_one name n id fact h e = cc
 
   -- an id that is shown is S's
@@ -81,14 +73,7 @@ module _ (limit : ℕ) (S : Spool) (facts : List Fact) (spool : IsSpool limit S)
 
   -- and stands at its number
   number_by_one : (name : Name) (id : Id) (n : ℕ) (fact : Fact) → Holds S fact → number_in name id fact ≡ Some n → get (numbers S name) n ≡ Some id
-  number_by_one name id n (IdAt g m other) h e = one (is_same g name && is_same other id) refl e
-    where
-      one : (b : Bool) → (is_same g name && is_same other id) ≡ b → cond b (Some m) None ≡ Some n → get (numbers S name) n ≡ Some id
-      one true is e =
-          let p = and_parts (is_same g name) (is_same other id) is in
-          let same : m ≡ n = cc in
-          subst (λ g. get (numbers S g) n ≡ Some id) (same_text g name (sym p.0)) (subst (λ m. get (numbers S g) m ≡ Some id) same (h ∙ ap Some (same_text other id (sym p.1))))
-      one false is e = cc
+  number_by_one name id n (IdAt g m other) h e = grind (arith, same_text g name, same_text other id)
   number_by_one name id n fact h e = cc
 
   -- what is sent of an article in S
@@ -97,13 +82,13 @@ module _ (limit : ℕ) (S : Spool) (facts : List Fact) (spool : IsSpool limit S)
 
   -- an id that is shown to have an article has one in S
   article_by_one : (id : Id) (fact : Fact) → Holds S fact → shows_article id fact ≡ true → IsSome (get S.articles id)
-  article_by_one id (IdAt name n other) h t = subst (λ id. IsSome (get S.articles id)) (same_text other id (sym t)) (spool.ids_have_articles name n other h)
-  article_by_one id (TextIs what other lines) h t = subst (λ id. IsSome (get S.articles id)) (same_text other id (sym t)) (ap is_some (article_of what other lines h).1)
+  article_by_one id (IdAt name n other) h t = grind (arith, same_text other id, spool.ids_have_articles name n other h)
+  article_by_one id (TextIs what other lines) h t = grind (arith, same_text other id, article_of what other lines h)
   article_by_one id fact h t = cc
 
   -- and isn't denied
   article_denied : (id : Id) (fact : Fact) → Holds S fact → IsSome (get S.articles id) → denies_article id fact ≡ true → ⊥
-  article_denied id (NoArticle other) h there t = true≢false (sym there ∙ ap is_some (subst (λ id. get S.articles id ≡ None) (same_text other id (sym t)) h))
+  article_denied id (NoArticle other) h there t = grind (arith, same_text other id)
   article_denied id fact h there t = cc
 
   -- the parts of an article that is sent
@@ -123,8 +108,7 @@ module _ (limit : ℕ) (S : Spool) (facts : List Fact) (spool : IsSpool limit S)
   -- a head that one fact gives is S's
   head_by_one : (id : Id) (lines : List Line) (fact : Fact) → Holds S fact → head_in id fact ≡ Some lines → HasPart (λ t. t.head) id lines
   head_by_one id lines (TextIs Article other (Some ls)) h e = grind (arith, article_of, has_part, parts_of)
-  head_by_one id lines (TextIs Head other (Some ls)) h e = grind (arith, article_of, has_part)
-  head_by_one id lines fact h e = cc
+  head_by_one id lines fact h e = grind (arith, article_of, has_part)
 
   -- and a body
   body_by_one : (id : Id) (lines : List Line) (fact : Fact) → Holds S fact → body_in id fact ≡ Some lines → HasPart (λ t. t.body) id lines
@@ -136,7 +120,7 @@ module _ (limit : ℕ) (S : Spool) (facts : List Fact) (spool : IsSpool limit S)
   -- an article has one such part
   part_once : (part : Text → List Line) (id : Id) (x y : List Line) → HasPart part id x → HasPart part id y → x ≡ y
   unfolding HasPart
-  part_once part id x y (t, at, is) (u, there, same) = let one : t ≡ u = (let q : Some t ≡ Some u = sym at ∙ there in cc) in sym is ∙ ap part one ∙ same
+  part_once part id x y h g = grind arith
 
   -- a head that is sent is S's
   pub head_in_S : (id : Id) (lines : List Line) → first_given (head_in id) facts ≡ Some lines → (t : Text) × (get S.articles id ≡ Some t) × (t.head ≡ lines)
@@ -148,14 +132,12 @@ module _ (limit : ℕ) (S : Spool) (facts : List Fact) (spool : IsSpool limit S)
   unfolding HasPart
   body_in_S id lines e = let f = first_found (body_in id) facts lines e in body_by_one id lines f.0 (of_fact f.0 f.1) f.2
 
-  -- lines of an article are lines
-  lines_are : (id : Id) (t : Text) → get S.articles id ≡ Some t → AllByRecursion (λ line. IsTrue (is_line line)) t.head × AllByRecursion (λ line. IsTrue (is_line line)) t.body
-  lines_are id t e = grind (arith, recursion_from_All (λ line. IsTrue (is_line line)) (t.head ++ t.body) (spool.heads id t e).1, all_front, all_back)
-
-  -- and so those that are sent of it
+  -- lines that are sent of an article are lines
   sent_lines : (what : What) (id : Id) (t : Text) (lines : Option (List Line)) → get S.articles id ≡ Some t
       → text_of what t ≡ lines → IfSome lines (λ lines. AllByRecursion (λ line. IsTrue (is_line line)) lines)
-  sent_lines what id t lines e same = grind (arith, lines_are, all_both)
+  sent_lines what id t lines e same =
+      let whole = recursion_from_All (λ line. IsTrue (is_line line)) (t.head ++ t.body) (spool.heads id t e).1 in
+      grind (arith, whole, all_front, all_back, all_both)
 
   -- names, ids and lines are S's
   well_formed : (fact : Fact) → Holds S fact → IsWellFormed fact

@@ -61,19 +61,12 @@ give_one_both {A} f facts more one within same = grind (arith, all_both, all_fro
 
 -- and back
 pub give_same_of_both : {A : Type 0} (f : Fact → Option A) (facts more : List Fact) → GiveOne f (facts ++ more) → GiveSame f facts more
-give_same_of_both {A} f facts more one = by (first_given f more) (first_given f facts) refl refl
+give_same_of_both {A} f facts more one = grind (arith, found, all_back, whole)
   where
     whole : first_given f (facts ++ more) ≡ option_or (first_given f facts) (first_given f more)
     whole = given_append f facts more
 
     -- what the first of more facts that gives something gives
-    step : (o : Option A) (xs : List Fact) (x : A) → (first_given f xs ≡ Some x → first_given f (facts ++ more) ≡ Some x) → option_or o (first_given f xs) ≡ Some x
-        → IfSome o (λ x. first_given f (facts ++ more) ≡ Some x) → first_given f (facts ++ more) ≡ Some x
-    step o xs x rest e h = grind arith
-
     found : (xs : List Fact) (x : A) → first_given f xs ≡ Some x → AllByRecursion (λ fact. IfSome (f fact) (λ x. first_given f (facts ++ more) ≡ Some x)) xs → first_given f (facts ++ more) ≡ Some x
     found [] x e h = cc
-    found (fact ∷ xs) x e h = step (f fact) xs x (λ e. found xs x e h.1) e h.0
-
-    by : (p o : Option A) → first_given f more ≡ p → first_given f facts ≡ o → IfSome p (λ x. IfSome o (λ y. x ≡ y))
-    by p o e g = grind (arith, found, all_back, whole)
+    found (fact ∷ xs) x e h = grind (arith, found xs x)

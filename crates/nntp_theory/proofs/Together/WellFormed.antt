@@ -19,7 +19,7 @@ block_lines : (block : Option (List (List ℕ))) → IsCleanBlock block → are_
 block_lines block clean h = grind (arith, sent_lines, octets-parts)
 
 -- names, ids and lines of the response are such
-IsProper : Response → Type 0
+abbrev IsProper : Response → Type 0
 IsProper (group_is m name) = IsGroupName name
 IsProper (numbers_are m name lines) = IsGroupName name
 IsProper (sends s) = IsMessageId s.id × IfSome s.block (λ lines. AllByRecursion (λ line. IsTrue (is_line line)) lines)
@@ -27,42 +27,7 @@ IsProper (active_are lines) = AllByRecursion (λ line. IsGroupName line.name) (a
 IsProper (overviews_are lines) = ⊤
 IsProper (plain code) = ⊤
 
--- so are those of one that names a group
-group_proper : (bytes : List ℕ) (response : Response) → SaysGroup bytes response → IsProper response
-unfolding IsProper
-group_proper bytes response h = grind arith
-
--- or lists numbers
-numbers_proper : (bytes : List ℕ) (block : Option (List (List ℕ))) (response : Response) → SaysByLines (SaysNumbers bytes) block response → IsProper response
-unfolding IsProper
-numbers_proper bytes block response h = grind arith
-
--- or sends an article
-article_proper : (code : ℕ) (bytes : List ℕ) (block : Option (List (List ℕ))) (response : Response)
-    → IfSome block (λ lines. AllByRecursion (λ line. IsTrue (is_line line)) lines) → SaysArticle code bytes block response
-    → IsProper response
-unfolding IsProper
-article_proper code bytes block response lines h = grind arith
-
--- or lists groups
-active_proper : (block : Option (List (List ℕ))) (response : Response) → SaysByLines SaysActive block response → IsProper response
-unfolding IsProper
-active_proper block response h = grind (arith, active_groups-named)
-
--- or lists overviews
-overviews_proper : (block : Option (List (List ℕ))) (response : Response) → SaysByLines SaysOverviews block response → IsProper response
-unfolding IsProper
-overviews_proper block response h = grind arith
-
--- or is a code
-code_proper : (code : ℕ) (response : Response) → SaysCode code response → IsProper response
-unfolding IsProper
-code_proper code response h = grind arith
-
-capabilities_proper : (code : ℕ) (block : Option (List (List ℕ))) (response : Response) → SaysByLines (SaysCapabilities code) block response → IsProper response
-capabilities_proper code block response h = grind (arith, code_proper)
-
--- and so are those of one that octets and a block say, in whatever way
+-- so are those of one that octets and a block say, in whatever way
 said_proper : (code : ℕ) (bytes : List ℕ) (block : Option (List (List ℕ))) (response : Response) → IfSome block (λ lines. AllByRecursion (λ line. IsTrue (is_line line)) lines)
     → SaysGroup bytes response ⊎ (SaysByLines (SaysNumbers bytes) block response
     ⊎ (SaysArticle code bytes block response
@@ -70,7 +35,7 @@ said_proper : (code : ℕ) (bytes : List ℕ) (block : Option (List (List ℕ)))
     ⊎ (SaysByLines SaysOverviews block response
     ⊎ (SaysByLines (SaysCapabilities code) block response ⊎ SaysCode code response)))))
     → IsProper response
-said_proper code bytes block response lines h = grind (arith, group_proper, numbers_proper, article_proper, active_proper, overviews_proper, capabilities_proper, code_proper)
+said_proper code bytes block response lines h = grind (arith, active_groups-named)
 
 -- and of one that they spell
 spelled_proper : (asked : Asked) (response : Response) (bytes : List ℕ) → Spells asked response bytes → are_octets bytes ≡ true → IsProper response
@@ -78,7 +43,6 @@ spelled_proper asked response bytes s h = grind (arith, said_proper, block_lines
 
 -- a row of such a response is well formed
 row_formed : {profile : Profile} {v : Visible} {at : Position} {Fits : Type 0} {a : Response} {facts : List Fact} → Row profile v at Fits a facts → IsProper a → AllByRecursion IsWellFormed facts
-unfolding IsProper
 row_formed r h = grind arith
 
 -- what octets spell says well-formed facts
