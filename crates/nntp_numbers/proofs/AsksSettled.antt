@@ -1,17 +1,16 @@
 -- Whether what is asked stands together, from what is shown, the first free number, how many there are, and the demand.
 use Rattle.std.proofs.Common.{◌≡◌, ◌⊎◌, ℕ, ◌+◌, true, false, ◌&&◌, IsTrue, List, [], Option, None, Some, inl, inr, refl, sym, ap, subst, ◌∙◌, arith}
-use Rattle.std.{proofs.lemmas.Bool.{true≢false, and_parts, and_from, false_from_ne_true, ltb-true, lt-ltb}, specs.{Prelude.{◌↔◌}, List.{AllByRecursion}}}
-use Rattle.std.specs.FinMap.{len, insert}
-use Rattle.nntp_article.specs.Session.Spool.{Numbers, IsNumber}
+use Rattle.std.{proofs.lemmas.Bool.{and_parts, and_from, false_from_ne_true, ltb-true, lt-ltb}, specs.{FinMap.{len, insert}, List.{AllByRecursion}}}
+use Rattle.std.specs.Prelude.{◌↔◌}
+use Rattle.nntp_theory.proofs.GivenNumbers.CountOfGivenNumbers.{known_meet, none_more, one_more_given, one_more_counted, as_many_given, more_meets}
+use Rattle.nntp_theory.proofs.{GivenNumbers.MetNumbersStand.{second_shown, shown_known, wanted_there}, Together.FewEnough.{few_for, within_all}}
+use Rattle.nntp_theory.specs.{Given.{is_known, is_denied, demand, wants, IsOneMore, IsGivenNumber, HasGivenNumbers}, Inner.Conflict.{AreApart}}
+use Rattle.nntp_theory.specs.{Inner.{Estimates.{is_within, is_within_all}, Together.{AsksStand}}, Together.{IsFewFor, is_possible, MeetsDemand}}
+use Rattle.nntp_theory.specs.declared.demand.Demand.{Demand, TheVariants.{NoDemand, OnlyOne, SecondIs, Impossible}}
+use Rattle.nntp_numbers.specs.{Inner.Summary.{AreCounted, PassSoMany, FirstFree, has_room, is_settled, is_met, Looks}, declared.shown.HowMany.{HowMany}}
+use Rattle.nntp_numbers.specs.declared.shown.HowMany.TheVariants.{Absent, Several}
+use Rattle.nntp_article.specs.Session.Spool.{Numbers}
 use Rattle.nntp_said.specs.Asks.{Ask}
-use Rattle.nntp_theory.specs.{Inner.{Conflict.{AreApart}, Together.{AsksStand}, Estimates.{is_within, is_within_all}}, Given.{is_known, is_denied, demand}}
-use Rattle.nntp_theory.specs.{Given.{wants, IsOneMore, IsGivenNumber, HasGivenNumbers}, declared.demand.Demand.{Demand, TheVariants.{NoDemand, NotEmpty}}}
-use Rattle.nntp_theory.specs.{declared.demand.Demand.TheVariants.{OnlyOne, SecondIs, Impossible}, Together.{is_possible, MeetsDemand}}
-use Rattle.nntp_theory.proofs.GivenNumbers.CountOfGivenNumbers.{none_more, one_more_given, one_more_counted, as_many_given, more_meets}
-use Rattle.nntp_theory.proofs.GivenNumbers.{GivenNumbersMeet.{same_demand}, MetNumbersStand.{second_shown, shown_known, wanted_there}}
-use Rattle.nntp_theory.proofs.Together.FewEnough.{few_for, within_all}
-use Rattle.nntp_numbers.specs.{Inner.Summary.{PassSoMany, FirstFree, has_room, is_settled, is_met, Looks}, declared.shown.HowMany.{HowMany}}
-use Rattle.nntp_numbers.specs.declared.shown.HowMany.TheVariants.{Absent, Single, Several}
 
 -- ---- the demand
 
@@ -24,28 +23,28 @@ module _ (asks : List Ask) where
   abbrev pub Shown : ℕ → Type 0
   Shown n = IsTrue (is_known asks n)
 
-  -- there is a map of what is shown, with so many
-  abbrev Counted : ℕ → Type 0
-  Counted count = (M : Numbers) × ((n : ℕ) → IsNumber M n ↔ IsTrue (is_known asks n)) × (len M ≡ count)
-
   -- where the shown numbers meet the demand, there is no more
   pub no_more : MeetsDemand (demand asks) Shown → (e : ℕ) → IsOneMore asks e → ⊥
-  no_more met e x = let w = wanted_there Shown (demand asks) e met x.wanted in true≢false (sym w.2 ∙ x.needed w.0 w.1)
+  no_more met e x = grind (arith, wanted_there Shown (demand asks) e met x.wanted, x.needed)
+
+  -- there is a map of what is given, with so many
+  abbrev pub AreGiven : ℕ → Type 0
+  AreGiven count = (N : Numbers) × HasGivenNumbers asks N × (len N ≡ count)
 
   -- what is given is as many as is shown
-  pub as_shown : (count : ℕ) → Counted count → ((e : ℕ) → IsOneMore asks e → ⊥) → (N : Numbers) → HasGivenNumbers asks N → len N ≡ count
-  as_shown count (M, shown, is) none N given = as_many_given asks N M given (none_more asks M shown none) ∙ is
+  pub shown_given : (count : ℕ) → AreCounted (is_known asks) count → ((e : ℕ) → IsOneMore asks e → ⊥) → AreGiven count
+  shown_given count (M, shown, is) none = (M, none_more asks M shown none, is)
 
   -- or one more
-  pub as_more : (count e : ℕ) → Counted count → IsOneMore asks e → (N : Numbers) → HasGivenNumbers asks N → len N ≡ count + 1
-  as_more count e (M, shown, is) x N given = as_many_given asks N (insert M e []) given (one_more_given asks M shown e x) ∙ one_more_counted asks M shown e x ∙ ap (λ n. n + 1) is
+  pub more_given : (count e : ℕ) → AreCounted (is_known asks) count → IsOneMore asks e → AreGiven (count + 1)
+  more_given count e (M, shown, is) x = (insert M e [], one_more_given asks M shown e x, grind (arith, one_more_counted asks M shown e x))
 
-  -- there is a map of what is given
-  pub given_of_shown : (count : ℕ) → Counted count → ((e : ℕ) → IsOneMore asks e → ⊥) → (N : Numbers) × HasGivenNumbers asks N
-  given_of_shown count (M, shown, is) none = (M, none_more asks M shown none)
+  -- so many are few enough exactly if they are within the estimates
+  pub few_given : (count : ℕ) → AreGiven count → IsTrue (is_within_all asks count) → (N : Numbers) → HasGivenNumbers asks N → AllByRecursion (IsFewFor N) asks
+  few_given count (M, there, is) few N given = few_for N asks (ap (is_within_all asks) (as_many_given asks N M given there ∙ is) ∙ few)
 
-  pub given_of_more : (count e : ℕ) → Counted count → IsOneMore asks e → (N : Numbers) × HasGivenNumbers asks N
-  given_of_more count e (M, shown, is) x = (insert M e [], one_more_given asks M shown e x)
+  within_given : (count : ℕ) → AreGiven count → AsksStand asks → IsTrue (is_within_all asks count)
+  within_given count (M, there, is) stand = ap (is_within_all asks) (sym is) ∙ within_all M asks (stand.few M there)
 
   -- the two ways in which what is asked stands together
   pub data Ways (count : ℕ) : Type 0 where
@@ -53,46 +52,27 @@ module _ (asks : List Ask) where
     ByMore : (e : ℕ) → IsOneMore asks e → IsTrue (is_within_all asks (count + 1)) → Ways count
 
   -- by what is shown, or by one more
-  pub stands : (count : ℕ) → Counted count → ArePossible asks → AreApart asks → Ways count → AsksStand asks
-  stands count counted possible apart (ByShown met few) =
-      let none = no_more met in
-      record {
-        possible = possible;
-        not_denied = λ n g. elim g [ inl s ↦ apart n s | inr x ↦ absurd (none n x) ];
-        demand_met = same_demand Shown (IsGivenNumber asks) (λ n s. inl s) (λ n g. elim g [ inl s ↦ s | inr x ↦ absurd (none n x) ]) (demand asks) met;
-        few = λ N given. few_for N asks (ap (is_within_all asks) (as_shown count counted none N given) ∙ few);
-      }
-  stands count counted possible apart (ByMore e x few) = record {
-    possible = possible;
-    not_denied = λ n g. elim g [ inl s ↦ apart n s | inr y ↦ y.first.1 ];
-    demand_met = more_meets asks e x;
-    few = λ N given. few_for N asks (ap (is_within_all asks) (as_more count e counted x N given) ∙ few);
-  }
+  stands : (count : ℕ) → AreCounted (is_known asks) count → ArePossible asks → AreApart asks → Ways count → AsksStand asks
+  stands count counted possible apart way = elim way [
+    | ByShown met few ↦ by ((known_meet asks (no_more met)).1 met) count (shown_given count counted (no_more met)) few
+    | ByMore e x few ↦ by (more_meets asks e x) (count + 1) (more_given count e counted x) few
+  ]
+    where
+      by : MeetsDemand (demand asks) (IsGivenNumber asks) → (count : ℕ) → AreGiven count → IsTrue (is_within_all asks count) → AsksStand asks
+      by met count given few = record { possible = possible; not_denied = λ n g. grind (arith, apart n); demand_met = met; few = few_given count given few }
 
   -- what is given meets the demand by what is shown, or by one more
   pub met_by : MeetsDemand (demand asks) (IsGivenNumber asks) → MeetsDemand (demand asks) Shown ⊎ ((e : ℕ) × IsOneMore asks e)
   met_by = grind arith
 
   -- so there is no other way
-  pub ways : (count : ℕ) → Counted count → AsksStand asks → Ways count
-  ways count counted stand = elim (met_by stand.demand_met) [ inl met ↦ shown met | inr x ↦ more x.0 x.1 ]
-    where
-      shown : MeetsDemand (demand asks) Shown → Ways count
-      shown met =
-          let none = no_more met in
-          let N = given_of_shown count counted none in
-          ByShown met (ap (is_within_all asks) (sym (as_shown count counted none N.0 N.1)) ∙ within_all N.0 asks (stand.few N.0 N.1))
-
-      more : (e : ℕ) → IsOneMore asks e → Ways count
-      more e x =
-          let N = given_of_more count e counted x in
-          ByMore e x (ap (is_within_all asks) (sym (as_more count e counted x N.0 N.1)) ∙ within_all N.0 asks (stand.few N.0 N.1))
+  ways : (count : ℕ) → AreCounted (is_known asks) count → AsksStand asks → Ways count
+  ways count counted stand = elim (met_by stand.demand_met) [
+    | inl met ↦ ByShown met (within_given count (shown_given count counted (no_more met)) stand)
+    | inr x ↦ ByMore x.0 x.1 (within_given (count + 1) (more_given count x.0 counted x.1) stand)
+  ]
 
 -- ---- the test
-
--- a shown number that is wanted is found
-found_is : (asks : List Ask) (d : Demand) (n : ℕ) → IsTrue (is_known asks n) → wants d n ≡ true → ((m : ℕ) → (is_known asks m && wants d m) ≡ false) → ⊥
-found_is asks d n s w none = true≢false (sym (and_from (is_known asks n) (wants d n) s w) ∙ none n)
 
 -- where so many are wanted that they meet the demand, they meet it
 pub met_if : (asks : List Ask) (d : Demand) → d ≡ demand asks → (w : HowMany) → PassSoMany (λ n. is_known asks n && wants d n) w → is_met d w ≡ true → MeetsDemand d (Shown asks)
@@ -108,9 +88,7 @@ module _ (asks : List Ask) (c : ℕ) (e : Option ℕ) (within : (n : ℕ) → is
   more_of_room d is none None free t = cc
   more_of_room d is none (Some n) free t =
       let p = and_parts (wants d n) (is_within e (c + 1)) t in
-      ByMore n
-      (grind (arith, false_from_ne_true, found_is))
-      (sym (within (c + 1)) ∙ p.1)
+      ByMore n (grind (arith, false_from_ne_true, and_from)) (sym (within (c + 1)) ∙ p.1)
 
   -- by those that are known, where they meet the demand
   by_known : (d : Demand) → d ≡ demand asks → (w : HowMany) → PassSoMany (λ n. is_known asks n && wants d n) w → is_met d w ≡ true → IsTrue (is_within e c) → Ways asks c
@@ -121,15 +99,10 @@ module _ (asks : List Ask) (c : ℕ) (e : Option ℕ) (within : (n : ℕ) → is
     way : (d : Demand) → d ≡ demand asks → (w : HowMany) → PassSoMany (λ n. is_known asks n && wants d n) w → IsTrue (is_settled d w f c e) → Ways asks c
     way NoDemand is w found t = by_known NoDemand is w found refl t
     way Impossible is w found t = cc
-    way NotEmpty is Absent found t = more_of_room NotEmpty is found f free t
-    way OnlyOne is Absent found t = more_of_room OnlyOne is found f free t
-    way (SecondIs k) is Absent found t = more_of_room (SecondIs k) is found f free t
-    way NotEmpty is Single found t = by_known NotEmpty is Single found refl t
-    way NotEmpty is Several found t = by_known NotEmpty is Several found refl t
-    way OnlyOne is Single found t = by_known OnlyOne is Single found refl t
-    way (SecondIs k) is Single found t = by_known (SecondIs k) is Single found refl t
+    way d is Absent found t = more_of_room d is found f free t
     way OnlyOne is Several found t = cc
     way (SecondIs k) is Several found t = cc
+    way d is w found t = by_known d is w found refl t
 
     -- and the way tells that it passes
     test : (d : Demand) → d ≡ demand asks → (w : HowMany) → PassSoMany (λ n. is_known asks n && wants d n) w → Ways asks c → is_settled d w f c e ≡ true

@@ -1,12 +1,11 @@
 -- What a part says whose numbers are listed in a range.
-use Rattle.std.proofs.{Common.{◌≡◌, ℕ, suc, ◌^◌, ◌<◌, true, ◌==◌, IsTrue, List, [], ◌∷◌, get_or, inl, inr, refl, arith}, Math.Bool.{or-false, and-true}}
-use Rattle.std.{proofs.lemmas.Bool.{and_parts, and_from, or_left, or_cases, leb-true, eq-eqb, eqb-true}, specs.List.{list_all}}
-use Rattle.nntp_wire.specs.declared.{marks.Marks.{Marks}, water_marks.WaterMarks.{WaterMarks}, range.Range.{Range}}
+use Rattle.std.proofs.{Common.{◌≡◌, ℕ, suc, ◌^◌, ◌<◌, true, List, [], ◌∷◌, get_or, arith}, Math.Bool.{or-false, and-true}, lemmas.Bool.{and_parts, and_from}}
+use Rattle.std.proofs.lemmas.Bool.{or_cases, leb-true, eqb-true}
+use Rattle.nntp_wire.specs.declared.{marks.Marks.{Marks}, range.Range.{Range}, water_marks.WaterMarks.{WaterMarks}}
 use Rattle.nntp_intervals.specs.Inner.Intervals.{is_between}
 use Rattle.nntp_article.specs.Session.Machine.{is_in_range}
 use Rattle.nntp_said.specs.Asks.{Estimates, ListsIn}
-use Rattle.nntp_numbers.specs.Inner.{Part.{Says, is_one_of, AreListable, last_in}, PartOf.{IsSmall, nothing_said, part_with}}
-use Rattle.nntp_numbers.proofs.GapsOfAPart.{listed_later}
+use Rattle.nntp_numbers.{proofs.GapsOfAPart.{all_pass}, specs.Inner.{Part.{Says, is_one_of, AreListable, last_in}, PartOf.{IsSmall, nothing_said, part_with}}}
 
 -- the range as an interval
 in_range : (r : Range) (n : ℕ) → n < 2 ^ 64 → is_in_range r n ≡ is_between r.first (last_in r) n
@@ -15,14 +14,10 @@ in_range r n small = grind arith
 -- the numbers of a slice are of 64 bits
 small_items : (ns : List ℕ) → ((i : ℕ) → get_or ns i 0 < 2 ^ 64) → (n : ℕ) → is_one_of ns n ≡ true → n < 2 ^ 64
 small_items [] fits n t = cc
-small_items (k ∷ ns) fits n t = elim (or_cases (n == k) (is_one_of ns n) t) [ inl e ↦ (let a = fits 0 in let b = eqb-true n k e in omega arith) | inr u ↦ small_items ns (λ i. fits (suc i)) n u ]
-
-all_in_range : (r : Range) (ks : List ℕ) → ((n : ℕ) → is_one_of ks n ≡ true → IsTrue (is_in_range r n)) → list_all (is_in_range r) ks ≡ true
-all_in_range r [] within = refl
-all_in_range r (k ∷ ks) within = grind (arith, and_from, or_left, eq-eqb, listed_later, all_in_range r ks (λ n t. within n (listed_later k ks n t)))
+small_items (k ∷ ns) fits n t = grind (arith, or_cases, eqb-true, fits 0, small_items ns (λ i. fits (suc i)))
 
 -- the marks and the list say this
 pub says_range : (how : Marks) (m : WaterMarks) (r : Range) (ns : List ℕ) → ((i : ℕ) → get_or ns i 0 < 2 ^ 64) → IsSmall (part_with ns (ListsIn r ns) (part_with ns (Estimates how m) nothing_said))
     → AreListable r ns
     → Says (part_with ns (ListsIn r ns) (part_with ns (Estimates how m) nothing_said)) (Estimates how m ∷ ListsIn r ns ∷ [])
-says_range how m r ns fits small may = grind (arith, and_from, all_in_range, or-false, in_range, and-true, and_parts, small_items, leb-true)
+says_range how m r ns fits small may = grind (arith, and_from, all_pass (is_in_range r) ns, or-false, in_range, and-true, and_parts, small_items, leb-true)

@@ -1,18 +1,14 @@
 -- What a part says that one ask made.
-use Rattle.std.{proofs.Common.{◌≡◌, ℕ, ◌+◌, ◌-◌, ◌^◌, ◌<◌, ◌≤◌, Bool, true, false, cond, List, [], ◌∷◌, refl, rules, arith}, specs.Prelude.{nat_lt}}
+use Rattle.std.proofs.{Common.{ℕ, ◌^◌, ◌<◌, ◌≤◌, List, [], ◌∷◌, rules, arith}, lemmas.Bool.Decides.{nat_tests}}
 use Rattle.nntp_wire.specs.declared.{marks.Marks.{Marks}, water_marks.WaterMarks.{WaterMarks}}
-use Rattle.nntp_said.specs.{declared.position.Position.{Position, TheVariants.{Nowhere, First, Known}}, Asks.{Ask, Estimates, Has, Lacks, StandsAt}}
-use Rattle.nntp_said.specs.Asks.{StandsNowhere, StepsUp, StepsDown, IsTop, IsBottom}
-use Rattle.nntp_numbers.specs.Inner.{Part.{Said, Says}, PartOf.{IsSmall, impossible, listing, nothing_said, part_with}, PartView.{said}, Summary.{AreBounded}}
+use Rattle.nntp_said.specs.Asks.{Ask, Estimates, Has, Lacks, StandsAt, StandsNowhere, StepsUp, StepsDown, IsTop, IsBottom}
+use Rattle.nntp_said.specs.declared.position.Position.{Position}
+use Rattle.nntp_numbers.specs.Inner.{Part.{Said, Says}, PartOf.{IsSmall, nothing_said, part_with}, PartView.{said}, Summary.{AreBounded}}
 use Rattle.nntp_numbers.specs.declared.numbers_part.NumbersPart.{NumbersPart}
 
 -- the part that an ask makes, whose answer shows these numbers
 abbrev of_ask : List ℕ → Ask → Said
 of_ask shown ask = part_with shown ask nothing_said
-
--- the number is there
-abbrev has : ℕ → Said
-has n = listing n n (n ∷ []) nothing_said
 
 -- the high end and the last number of what a part says are below 2^64
 pub said_small : (p : NumbersPart) → IsSmall (said p)
@@ -37,27 +33,10 @@ pub says_nowhere : (shown : List ℕ) (at : Position) → Says (of_ask shown (St
 says_nowhere shown at = grind arith
 
 pub says_up : (at : Position) (n : ℕ) → IsSmall (of_ask (n ∷ []) (StepsUp at n)) → 1 ≤ n → Says (of_ask (n ∷ []) (StepsUp at n)) (StepsUp at n ∷ Has n ∷ [])
-says_up Nowhere n small some = search rules
-says_up First n small some = search rules
-says_up (Known c) n small some = by (nat_lt c n) refl small
-  where
-    stepped : Bool → Said
-    stepped b = cond b (record (has n) { first = c + 1 }) (impossible (has n))
-
-    by : (b : Bool) → nat_lt c n ≡ b → IsSmall (stepped b) → Says (stepped b) (StepsUp (Known c) n ∷ Has n ∷ [])
-    by b e small = search rules
+says_up at n small some = grind (arith, nat_tests, small)
 
 pub says_down : (at : Position) (n : ℕ) → IsSmall (of_ask (n ∷ []) (StepsDown at n)) → 1 ≤ n → Says (of_ask (n ∷ []) (StepsDown at n)) (StepsDown at n ∷ Has n ∷ [])
-says_down Nowhere n small some = search rules
-says_down First n small some = search rules
-says_down (Known c) n small some = by (nat_lt n c) refl small
-  where
-    stepped : Bool → Said
-    stepped b = cond b (record (has n) { last = c - 1 }) (impossible (has n))
-
-    by : (b : Bool) → nat_lt n c ≡ b → IsSmall (stepped b) → Says (stepped b) (StepsDown (Known c) n ∷ Has n ∷ [])
-    by true e small = search rules
-    by false e small = search rules
+says_down at n small some = grind (arith, nat_tests, small)
 
 pub says_top : (shown : List ℕ) (at : Position) → (of_ask shown (IsTop at)).high < 2 ^ 64 → Says (of_ask shown (IsTop at)) (IsTop at ∷ [])
 says_top shown at small = grind arith

@@ -1,6 +1,6 @@
 use Rattle.std.{proofs.Common.{◌||◌, ap, ◌∙◌}, specs.Prelude.{nat_lt}}
 use Rattle.nntp_intervals.specs.Inner.Intervals.{holds}
-use Rattle.nntp_numbers.{specs.Inner.PartView.{said}, proofs.{GapsOfAPart.{denies_by_gaps}, Tallies.{or_assoc}}}
+use Rattle.nntp_numbers.{proofs.{GapsOfAPart.{denies_by_gaps}, Tallies.{or_assoc}}, specs.Inner.PartView.{said}}
 use Rattle.nntp_theory.proofs.OkResults.{on_ok}
 use Rattle.nntp_numbers.proofs.numbers.deny.Goals as goal
 

@@ -1,8 +1,8 @@
-use Rattle.nntp_numbers.proofs.Implied.{none_implies, some_implies}
+use Rattle.std.proofs.{Common.{◌+◌, arith}, lemmas.Bool.Decides.{nat_tests}}
 use Rattle.nntp_numbers.proofs.numbers.is_implied.Goals as goal
 
 pub returns-in-None-Some : goal.returns-in-None-Some
-returns-in-None-Some c = none_implies c.args.estimate c.args.other c.in-None-Some.field-0-1 c.in-None-Some.is-0 c.in-None-Some.is-1
+returns-in-None-Some c = (λ t. cc, λ h. grind (arith, nat_tests, h (c.in-None-Some.field-0-1 + 1)))
 
 pub returns-in-Some-Some : goal.returns-in-Some-Some
-returns-in-Some-Some c = some_implies c.args.estimate c.args.other c.in-Some-Some.estimate c.in-Some-Some.other c.in-Some-Some.is-0 c.in-Some-Some.is-1
+returns-in-Some-Some c = (λ t n. grind (arith, nat_tests), λ h. grind (arith, nat_tests, h c.in-Some-Some.estimate))

@@ -2,11 +2,7 @@ use Rattle.nntp_numbers.proofs.NumberSets.{opened, one_kept, several_kept}
 use Rattle.nntp_numbers.proofs.number_set.NumberSet.how_many.Goals as goal
 
 pub returns-in-Some : goal.returns-in-Some
-returns-in-Some g c =
-    one_kept c.in-Some.ends c.self.inside.between.keys c.args.self.now
-    (opened c.self.inside.ends c.self.inside.between.keys c.args.self.now c.in-Some.ends c.self.invariant c.self.view_is c.in-Some.is) c.if-ends.true
+returns-in-Some g c = one_kept _ _ _ (opened _ _ _ c.in-Some.ends c.self.invariant c.self.view_is c.in-Some.is) c.if-ends.true
 
 pub returns-in-Some-2 : goal.returns-in-Some-2
-returns-in-Some-2 g c =
-    several_kept c.in-Some.ends c.self.inside.between.keys c.args.self.now
-    (opened c.self.inside.ends c.self.inside.between.keys c.args.self.now c.in-Some.ends c.self.invariant c.self.view_is c.in-Some.is) c.if-ends.false
+returns-in-Some-2 g c = several_kept _ _ _ (opened _ _ _ c.in-Some.ends c.self.invariant c.self.view_is c.in-Some.is) c.if-ends.false

@@ -3,5 +3,4 @@ use Rattle.nntp_numbers.proofs.number_set.NumberSet.none_outside.Goals as goal
 
 pub returns-then-low-ends : goal.returns-then-low-ends
 returns-then-low-ends g c =
-    outside_none c.in-Some.ends c.self.inside.between.keys c.args.self.now
-    (opened c.self.inside.ends c.self.inside.between.keys c.args.self.now c.in-Some.ends c.self.invariant c.self.view_is c.in-Some.is) c.args.low c.args.high c.if-low-ends.true
+    outside_none _ _ _ (opened _ _ _ c.in-Some.ends c.self.invariant c.self.view_is c.in-Some.is) c.args.low c.args.high c.if-low-ends.true

@@ -1,4 +1,4 @@
-use Rattle.nntp_numbers.{specs.Inner.PartView.{said}, proofs.MoreAsks.{added}}
+use Rattle.nntp_numbers.{proofs.MoreAsks.{added}, specs.Inner.PartView.{said}}
 use Rattle.nntp_numbers.proofs.numbers.Numbers.add.Goals as goal
 
 pub returns : goal.returns

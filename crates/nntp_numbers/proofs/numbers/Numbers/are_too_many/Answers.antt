@@ -10,7 +10,5 @@ returns g c = λ asks sum bounded apart.
       | then-has_one_more w ↦ w.more-is ∙ ap (λ b. cond b 1 0) (sym w.if-has_one_more.true)
       | else-has_one_more w ↦ w.more-is ∙ ap (λ b. cond b 1 0) (sym w.if-has_one_more.false)
     ] in
-    too_many_if asks c.tally-tally.result.count tally.count c.has_one_more.result (c.has_one_more.ensures asks sum bounded tally.found)
-    c.if-has_one_more.more more c.is_within.result
-    (c.is_within.ensures ∙ ap (λ s. is_within s.estimate (c.tally-tally.result.count + c.if-has_one_more.more)) c.self.view_is
-    ∙ sum.estimate (c.tally-tally.result.count + c.if-has_one_more.more))
+    too_many_if asks _ tally.count c.has_one_more.result (c.has_one_more.ensures asks sum bounded tally.found) _ more c.is_within.result
+    (c.is_within.ensures ∙ ap (λ s. is_within s.estimate (c.tally-tally.result.count + c.if-has_one_more.more)) c.self.view_is ∙ sum.estimate _)

@@ -1,4 +1,4 @@
-use Rattle.nntp_numbers.{specs.Inner.PartView.{said}, proofs.GapsOfAPart.{none_denied}}
+use Rattle.nntp_numbers.{proofs.GapsOfAPart.{none_denied}, specs.Inner.PartView.{said}}
 use Rattle.nntp_numbers.proofs.numbers_part.NumbersPart.denies_none.Goals as goal
 
 pub returns-then-none_outside : goal.returns-then-none_outside

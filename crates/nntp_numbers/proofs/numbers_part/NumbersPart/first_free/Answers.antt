@@ -1,5 +1,5 @@
 use Rattle.std.proofs.Common.{sym, arith}
-use Rattle.nntp_numbers.{specs.Inner.PartView.{said}, proofs.FirstFreeOfAPart.{may_begin, first_of_part}}
+use Rattle.nntp_numbers.{proofs.FirstFreeOfAPart.{may_begin, first_of_part}, specs.Inner.PartView.{said}}
 use Rattle.nntp_numbers.proofs.numbers_part.NumbersPart.first_free.Goals as goal
 
 pub returns-in-Some : goal.returns-in-Some

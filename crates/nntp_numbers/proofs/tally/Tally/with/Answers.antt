@@ -1,6 +1,5 @@
-use Rattle.std.proofs.Common.{◌+◌, ◌==◌, ◌||◌, ◌∙◌, sym, subst}
-use Rattle.nntp_numbers.{specs.Inner.Summary.{IsTally}, proofs.{Tallies.{tally_there, tally_wanted, tally_unwanted}, tally.Tally.with.Goals.{then-wants}}}
-use Rattle.nntp_numbers.proofs.tally.Tally.with.Goals.{else-wants}
+use Rattle.std.proofs.Common.{◌∙◌, sym}
+use Rattle.nntp_numbers.proofs.{Tallies.{tally_there, tally_wanted, tally_unwanted}, tally.Tally.with.Goals.{then-wants, else-wants}}
 use Rattle.nntp_numbers.proofs.tally.Tally.with.Goals as goal
 
 pub returns-then-is_there-clause-tally : goal.returns-then-is_there-clause-tally
@@ -11,8 +10,6 @@ pub returns-clause-tally : goal.returns-clause-tally
 returns-clause-tally c = λ p there t.
     let none = sym there ∙ c.if-is_there.false in
     elim c.if-wants.branch [
-      | then-wants w ↦ subst (λ f. IsTally (λ m. p m || c.args.n == m) c.args.demand f (c.args.self.count + 1)) (sym (w.result-is ∙ w.and_one.ensures))
-          (tally_wanted p c.args.n c.args.demand c.args.self.found c.args.self.count none (sym c.wants.ensures ∙ w.if-wants.true) t)
-      | else-wants w ↦ subst (λ f. IsTally (λ m. p m || c.args.n == m) c.args.demand f (c.args.self.count + 1)) (sym w.result-is)
-          (tally_unwanted p c.args.n c.args.demand c.args.self.found c.args.self.count none (sym c.wants.ensures ∙ w.if-wants.false) t)
+      | then-wants w ↦ rw (w.result-is ∙ w.and_one.ensures) (tally_wanted p c.args.n c.args.demand _ _ none (sym c.wants.ensures ∙ w.if-wants.true) t)
+      | else-wants w ↦ rw w.result-is (tally_unwanted p c.args.n c.args.demand _ _ none (sym c.wants.ensures ∙ w.if-wants.false) t)
     ]
