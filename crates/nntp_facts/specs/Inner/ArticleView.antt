@@ -3,7 +3,7 @@ use Rattle.std.specs.{Prelude.{Bool, true, false, List, Option, None, Some, opti
 use Rattle.std.specs.{Coded.{coded_option, coded_bool}, declared.rc.{Rc.{Rc}, RcStr.{RcStr}}, Rc.{rc_str_bytes}}
 use Rattle.nntp_article.specs.Article.Parts.{Id, Line}
 use Rattle.nntp_facts.specs.{Inner.{Kept.{KeptArticle}, Articles.{unsent}}, declared.articles.known.KnownArticle.{KnownArticle, TheVariants.{Unsent, Named}}}
-use Rattle.nntp_facts.specs.declared.articles.{known.KnownArticle.TheVariants.{Sent}, added.Added.{Added, TheVariants.{Never}}}
+use Rattle.nntp_facts.specs.declared.articles.{known.KnownArticle.TheVariants.{Head, Body, Whole}, added.Added.{Added, TheVariants.{Never}}}
 use Rattle.nntp_facts.specs.declared.articles.added.Added.TheVariants as adds
 
 -- the lines of a block that is held, if there is one
@@ -14,7 +14,9 @@ lines_held held = option_map (λ block. block.value) held
 abbrev pub known_article : {A : Type 0} → KnownArticle A → KeptArticle
 known_article Unsent = unsent
 known_article Named = record { is_denied = false; is_sent = true; head = None; body = None }
-known_article (Sent lines) = record { is_denied = false; is_sent = true; head = lines_held lines.value.head; body = lines_held lines.value.body }
+known_article (Head head) = record { is_denied = false; is_sent = true; head = Some head.value; body = None }
+known_article (Body body) = record { is_denied = false; is_sent = true; head = None; body = Some body.value }
+known_article (Whole lines) = record { is_denied = false; is_sent = true; head = Some lines.value.head.value; body = Some lines.value.body.value }
 
 -- what is kept of articles, one after the other
 abbrev pub entries_value : {A : Type 0} → List (RcStr A × KnownArticle A) → List (Id × KeptArticle)

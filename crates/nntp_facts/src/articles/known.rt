@@ -1,10 +1,9 @@
 //! What is known of one article.
-ghost use Rattle.std.specs.Prelude.{◌≡◌, ◌↔◌, IsTrue, IfOk, OnOk, option_map};
-ghost use Rattle.std.specs.Option.{option_or};
+ghost use Rattle.std.specs.Prelude.{◌≡◌, ◌↔◌, false, true, IsTrue, IfOk, option_map};
 ghost use Rattle.nntp_article.specs.Article.Parts.{Id};
 ghost use Rattle.nntp_article.specs.Session.Machine.{head_fits};
 ghost use Rattle.nntp_theory.specs.Inner.Together.{AreSame};
-ghost use Rattle.nntp_facts.specs.Inner.Articles.{head_sent, body_sent, MayBeSent, unsent, with_sent};
+ghost use Rattle.nntp_facts.specs.Inner.Articles.{head_sent, body_sent, MayBeSent, with_sent};
 ghost use Rattle.nntp_facts.specs.Inner.Kept.{IsAddedIf};
 ghost use Rattle.nntp_facts.specs.Inner.ArticleView.{known_article, lines_held};
 
@@ -12,6 +11,7 @@ use nntp_article::Parts;
 use nntp_wire::{Block, OwnedBlock, What};
 use std::alloc::{AllocError, Allocator};
 use std::boxed::Box;
+use std::mem;
 use std::rc::Rc;
 
 /// What is known of an article.
@@ -21,17 +21,21 @@ pub(crate) enum KnownArticle<A: Allocator> {
     Unsent,
     /// A success named the article, and none of its lines were sent.
     Named,
-    /// A success sent lines of the article.
-    Sent(Box<SentLines<A>, A>),
+    /// The lines of the head were sent, and none of the body.
+    Head(Rc<OwnedBlock<A>, A>),
+    /// The lines of the body were sent, and none of the head.
+    Body(Rc<OwnedBlock<A>, A>),
+    /// The lines of both were sent.
+    Whole(Box<WholeArticle<A>, A>),
 }
 
-/// The lines that were sent of an article.
+/// The lines of an article.
 #[derive(Drop)]
-pub(crate) struct SentLines<A: Allocator> {
-    /// The lines of the head, if they were sent.
-    head: Option<Rc<OwnedBlock<A>, A>>,
-    /// The lines of the body, if they were sent.
-    body: Option<Rc<OwnedBlock<A>, A>>,
+pub(crate) struct WholeArticle<A: Allocator> {
+    /// The lines of the head.
+    head: Rc<OwnedBlock<A>, A>,
+    /// The lines of the body.
+    body: Rc<OwnedBlock<A>, A>,
 }
 
 /// The parts of an article that a success sends.
@@ -94,40 +98,16 @@ fn are_same<A: Allocator>(sent: &Option<Block<'_>>, held: Option<&Rc<OwnedBlock<
     }
 }
 
-/// Holds lines that are sent, where none are held yet.
-fn hold<A: Allocator + Copy>(
+/// Copies lines, if they are sent.
+fn copied<A: Allocator + Copy>(
     alloc: A,
-    held: &mut Option<Rc<OwnedBlock<A>, A>>,
     sent: &Option<Block<'_>>,
-) -> Result<(), AllocError>
-    ensures { OnOk result (lines_held held.new ≡ option_or (lines_held held.old) sent.now) }
+) -> Result<Option<Rc<OwnedBlock<A>, A>>, AllocError>
+    ensures { IfOk result (λ copy. lines_held copy ≡ sent.now) }
 {
-    if let (None, Some(sent)) = (&*held, sent) {
-        *held = Some(Rc::new(alloc, sent.to_owned(alloc)?)?);
-    }
-    Ok(())
-}
-
-impl<A: Allocator + Copy> SentLines<A> {
-    /// Holds the lines that a success sends first of an article.
-    fn first(alloc: A, sent: &Sent<'_>) -> Result<SentLines<A>, AllocError>
-        ensures { IfOk result (λ lines. (lines_held lines.head ≡ sent.now.head) × (lines_held lines.body ≡ sent.now.body)) }
-    {
-        let mut lines = SentLines {
-            head: None,
-            body: None,
-        };
-        lines.hold(alloc, sent)?;
-        Ok(lines)
-    }
-
-    /// Holds the lines that a success sends, where none of their part are held yet.
-    fn hold(&mut self, alloc: A, sent: &Sent<'_>) -> Result<(), AllocError>
-        ensures head { OnOk result (lines_held self.new.head ≡ option_or (lines_held self.old.head) sent.now.head) }
-        ensures body { OnOk result (lines_held self.new.body ≡ option_or (lines_held self.old.body) sent.now.body) }
-    {
-        hold(alloc, &mut self.head, &sent.head)?;
-        hold(alloc, &mut self.body, &sent.body)
+    match sent {
+        Some(sent) => Ok(Some(Rc::new(alloc, sent.to_owned(alloc)?)?)),
+        None => Ok(None),
     }
 }
 
@@ -144,7 +124,8 @@ impl<A: Allocator> KnownArticle<A> {
         ensures { option_map (λ head. head.now.value) result ≡ (known_article self.now).head }
     {
         match self {
-            KnownArticle::Sent(lines) => lines.as_ref().head.as_ref(),
+            KnownArticle::Head(head) => Some(head),
+            KnownArticle::Whole(lines) => Some(&lines.as_ref().head),
             _ => None,
         }
     }
@@ -154,7 +135,8 @@ impl<A: Allocator> KnownArticle<A> {
         ensures { option_map (λ body. body.now.value) result ≡ (known_article self.now).body }
     {
         match self {
-            KnownArticle::Sent(lines) => lines.as_ref().body.as_ref(),
+            KnownArticle::Body(body) => Some(body),
+            KnownArticle::Whole(lines) => Some(&lines.as_ref().body),
             _ => None,
         }
     }
@@ -190,28 +172,47 @@ impl<A: Allocator + Copy> KnownArticle<A> {
         if !self.may_send(sent) {
             return Ok(false);
         }
-        self.send(alloc, sent)?;
+        *self = mem::replace(self, KnownArticle::Unsent).with(alloc, sent)?;
         Ok(true)
     }
 
-    /// Holds the parts that a success sends.
-    fn send(&mut self, alloc: A, sent: &Sent<'_>) -> Result<(), AllocError>
-        ensures { OnOk result (known_article self.new ≡ with_sent (known_article self.old) sent.now.head sent.now.body) }
+    /// Returns what is known once a success sends these parts: of each part what was sent first.
+    fn with(self, alloc: A, sent: &Sent<'_>) -> Result<KnownArticle<A>, AllocError>
+        ensures { IfOk result (λ article. known_article article ≡ with_sent (known_article self) sent.now.head sent.now.body) }
     {
         match self {
-            KnownArticle::Sent(lines) => lines.as_mut().hold(alloc, sent)?,
-            _ => *self = KnownArticle::first(alloc, sent)?,
+            KnownArticle::Head(head) => {
+                KnownArticle::of_parts(alloc, Some(head), copied(alloc, &sent.body)?)
+            }
+            KnownArticle::Body(body) => {
+                KnownArticle::of_parts(alloc, copied(alloc, &sent.head)?, Some(body))
+            }
+            KnownArticle::Whole(lines) => Ok(KnownArticle::Whole(lines)),
+            _ => KnownArticle::of_parts(
+                alloc,
+                copied(alloc, &sent.head)?,
+                copied(alloc, &sent.body)?,
+            ),
         }
-        Ok(())
     }
 
-    /// Returns what is known of an article of which a success sends these parts, and none were sent before.
-    fn first(alloc: A, sent: &Sent<'_>) -> Result<KnownArticle<A>, AllocError>
-        ensures { IfOk result (λ article. known_article article ≡ with_sent unsent sent.now.head sent.now.body) }
+    /// Returns what is known of an article that a success named, and of which these parts were sent.
+    fn of_parts(
+        alloc: A,
+        head: Option<Rc<OwnedBlock<A>, A>>,
+        body: Option<Rc<OwnedBlock<A>, A>>,
+    ) -> Result<KnownArticle<A>, AllocError>
+        ensures { IfOk result (λ article. known_article article
+            ≡ record { is_denied = false; is_sent = true; head = lines_held head; body = lines_held body }) }
     {
-        if sent.head.is_none() && sent.body.is_none() {
-            return Ok(KnownArticle::Named);
+        match (head, body) {
+            (Some(head), Some(body)) => {
+                let lines = Box::new(alloc, WholeArticle { head, body })?;
+                Ok(KnownArticle::Whole(lines))
+            }
+            (Some(head), None) => Ok(KnownArticle::Head(head)),
+            (None, Some(body)) => Ok(KnownArticle::Body(body)),
+            (None, None) => Ok(KnownArticle::Named),
         }
-        Ok(KnownArticle::Sent(Box::new(alloc, SentLines::first(alloc, sent)?)?))
     }
 }
