@@ -1,11 +1,14 @@
 -- The ids of a group's numbers, and one more.
-use Rattle.std.proofs.{Common.{arith, ◌≡◌, ℕ, Bool, true, false, List, [], ◌∷◌, None, Some, refl, sym, ap, ◌∙◌}, lemmas.Bool.{true≢false, false≢true}}
-use Rattle.std.proofs.lemmas.{Bool.{and_parts, and_from, cases_Bool, Decides.{same_from_decides}}, Map.Text.{is_eq-slice_cmp}, Slice.Eq.{bytes_eq-Decides}}
-use Rattle.std.specs.{declared.{cmp.Ordering.{Ordering}, rc.RcStr.{RcStr}}, Prelude.{◌||◌, not, bytes_eq}, Ordering.{nat_cmp, is_eq}, Cmp.{nat_cmp_total}}
-use Rattle.std.specs.{Cmp.Lexicographic.{slice_cmp}, Bool.{Decides}, List.{list_all, list_any}, Set.{remove_key}, Rc.{rc_str_bytes}, BTreeSet.{insert_key}}
-use Rattle.std.specs.FinMap.{get, insert, empty, entries, find, put, entries-insert, get-entries}
+use Rattle.std.proofs.Common.{arith, add-one, ◌≡◌, ◌+◌, ◌<◌, ℕ, Bool, true, false, inl, inr, List, [], ◌∷◌, map, length, get_or, drop, drop-cons, None, Some}
+use Rattle.std.proofs.{Common.{not, refl, sym, ap, subst, if◌then◌else◌, ◌∙◌}, lemmas.Bool.{false≢true, and_parts, and_from, cases_Bool}}
+use Rattle.std.proofs.lemmas.{Bool.Decides.{same_from_decides}, List.{drop_all}, Map.Text.{is_eq-slice_cmp}, Slice.Eq.{bytes_eq-Decides}}
+use Rattle.std.specs.{declared.{cmp.Ordering.{Ordering}, rc.RcStr.{RcStr}}, Prelude.{◌||◌, bytes_eq}, Ordering.{nat_cmp, is_eq}, Cmp.{nat_cmp_total}}
+use Rattle.std.specs.{Cmp.Lexicographic.{slice_cmp}, Bool.{Decides}, List.{list_all, list_any}, Rc.{rc_str_bytes}, BTreeSet.{insert_key}, FinMap.{get, insert}}
+use Rattle.std.specs.FinMap.{empty, entries, find, put, entries-insert, get-entries}
 use Rattle.nntp_article.{specs.{Session.Spool.{Numbers}, Article.Parts.{Id}}, proofs.SessionLemmas.SetKeys.{or_swap, any-insert_key}}
-use Rattle.nntp_spool.{specs.{Numbers.{has_id}, Inner.Numbers.{AreIdsOf}}, proofs.{NumbersInOrder.{either_false, entries-empty}, ShownMaps.{octet_keys}}}
+use Rattle.nntp_wire.proofs.ShownMaps.{list_all-map}
+use Rattle.nntp_spool.{specs.{Numbers.{has_id}, Inner.Numbers.{AreIdsOf, AreKnown, AreAscending, numbers_shown, with_number}}, proofs.ShownNumbers.{each_entry}}
+use Rattle.nntp_spool.proofs.{NumbersInOrder.{entries-empty}, ShownMaps.{octet_keys}}
 
 some_none : {A : Type 0} (x : A) → Some x ≡ None → ⊥
 some_none x e = cc
@@ -19,12 +22,6 @@ pub has_id-insert : (N : Numbers) (n : ℕ) (new id : List ℕ) → get N n ≡ 
 has_id-insert N n new id absent =
     ap (list_any (λ e. bytes_eq e.1 id)) (entries-insert nat_cmp_total N n new)
     ∙ any-put nat_cmp (λ e. bytes_eq e.1 id) n new (entries N) (sym (get-entries N n) ∙ absent)
-
-pub same_ids : {A : Type 0} (ids new : List (RcStr A)) (N M : Numbers) → new ≡ ids → N ≡ M → AreIdsOf ids M → AreIdsOf new N
-same_ids ids new N M e d are id = ap (list_any (λ known. bytes_eq id (rc_str_bytes known))) e ∙ are id ∙ sym (ap (λ m. has_id m id) d)
-
-pub no_ids : {A : Type 0} (ids : List (RcStr A)) (N : Numbers) → ids ≡ [] → N ≡ empty → AreIdsOf ids N
-no_ids ids N e d id = ap (list_any (λ known. bytes_eq id (rc_str_bytes known))) e ∙ sym (ap (list_any (λ e. bytes_eq e.1 id)) (entries-empty N d))
 
 -- no numbers have no id
 pub none_has : (N : Numbers) (id : Id) → N ≡ empty → has_id N id ≡ false
@@ -61,6 +58,23 @@ all_ids {A = A} t ids N are =
     ) (λ e. e, λ e. e)
 
 module _ {A : Type 0} where
+  -- the ids that are known, where there are some
+  pub known_are : (known : List (RcStr A)) (N : Numbers) → AreKnown known N → (known ≡ [] → ⊥) → AreIdsOf known N
+  known_are known N (inl none) some = absurd (some none)
+  known_are known N (inr are) some = are
+
+  -- the ids of a list of numbers
+  pub listed_id : (ids : List (ℕ × RcStr A)) (id : Id) → AreAscending ids → list_any (λ e. bytes_eq (rc_str_bytes e.1) id) ids ≡ has_id (numbers_shown ids) id
+  listed_id ids id h = sym (ap (list_any (λ (e : ℕ × Id). bytes_eq e.1 id)) (each_entry ids h) ∙ any_octets ids)
+    where
+      any_octets : (ids : List (ℕ × RcStr A)) → list_any (λ (e : ℕ × Id). bytes_eq e.1 id) (map (λ e. (e.0, rc_str_bytes e.1)) ids) ≡ list_any (λ e. bytes_eq (rc_str_bytes e.1) id) ids
+      any_octets [] = refl
+      any_octets (e ∷ ids) = ap (λ b. bytes_eq (rc_str_bytes e.1) id || b) (any_octets ids)
+
+  -- a test of each id of a list of numbers
+  pub all_listed : (t : Id → Bool) (ids : List (ℕ × RcStr A)) → AreAscending ids → list_all (λ e. t (rc_str_bytes e.1)) ids ≡ list_all (λ e. t e.1) (entries (numbers_shown ids))
+  all_listed t ids h = sym (ap (list_all (λ (e : ℕ × Id). t e.1)) (each_entry ids h) ∙ list_all-map (λ (e : ℕ × Id). t e.1) (λ e. (e.0, rc_str_bytes e.1)) ids)
+
   abbrev octets_cmp : RcStr A → RcStr A → Ordering
   octets_cmp a b = slice_cmp nat_cmp (rc_str_bytes a) (rc_str_bytes b)
 
@@ -73,26 +87,34 @@ module _ {A : Type 0} where
   any_known id (k ∷ ids) = rw (is_eq-slice_cmp id (rc_str_bytes k)) (ap (λ b. bytes_eq id (rc_str_bytes k) || b) (any_known id ids))
 
   -- what a set of the ids answers where one more is put into it
-  pub is_added : (ids : List (RcStr A)) (M N : Numbers) (id : List ℕ) (k : RcStr A) (added : Bool) → AreIdsOf ids M
-      → M ≡ N → rc_str_bytes k ≡ id → added ≡ not (list_any (is_of (rc_str_bytes k)) ids) → added ≡ not (has_id N id)
-  is_added ids M N id k added are same is e = grind (arith, any_known)
-
-  is_of_itself : (id : List ℕ) (k : RcStr A) → rc_str_bytes k ≡ id → is_of id k ≡ true
-  is_of_itself id k is = is_eq-slice_cmp id (rc_str_bytes k) ∙ (bytes_eq-Decides id (rc_str_bytes k)).1 (sym is)
-
-  -- what was put among keys is taken out again
-  remove-insert : (id : List ℕ) (k : RcStr A) (ks : List (RcStr A)) → rc_str_bytes k ≡ id → list_any (λ known. bytes_eq id (rc_str_bytes known)) ks ≡ false
-      → remove_key (is_of id) (insert_key octets_cmp ks k) ≡ ks
-  remove-insert id k [] is absent = rw (is_of_itself id k is) refl
-  remove-insert id k (x ∷ ks) is absent = grind (arith, either_false, is_eq-slice_cmp, remove-insert id k ks is, is_of_itself, true≢false)
+  pub is_added : (ids : List (RcStr A)) (N : Numbers) (k : RcStr A) (added : Bool) → AreIdsOf ids N
+      → added ≡ not (list_any (is_of (rc_str_bytes k)) ids) → added ≡ not (has_id N (rc_str_bytes k))
+  is_added ids N k added are e = e ∙ ap not (any_known (rc_str_bytes k) ids ∙ are (rc_str_bytes k))
 
   -- an id more, at a number that was not there
-  pub one_id_more : (ids new : List (RcStr A)) (N : Numbers) (n : ℕ) (id : List ℕ) (k : RcStr A) → AreIdsOf ids N
+  one_id_more : (ids new : List (RcStr A)) (N : Numbers) (n : ℕ) (id : List ℕ) (k : RcStr A) → AreIdsOf ids N
       → get N n ≡ None → rc_str_bytes k ≡ id → new ≡ insert_key octets_cmp ids k → AreIdsOf new (insert N n id)
   one_id_more ids new N n id k are absent is e q = grind (arith, any-insert_key, octet_keys, either_way, has_id-insert)
 
-  -- an id that was put among others, and taken out again
-  pub id_taken_back : (ids more new : List (RcStr A)) (N M : Numbers) (id : List ℕ) (k : RcStr A) → AreIdsOf ids N
-      → has_id N id ≡ false → rc_str_bytes k ≡ id → more ≡ insert_key octets_cmp ids k → new ≡ remove_key (is_of id) more → M ≡ N
-      → AreIdsOf new M
-  id_taken_back ids more new N M id k are fresh is put taken same = same_ids ids new M N (taken ∙ ap (remove_key (is_of id)) put ∙ remove-insert id k ids is (are id ∙ fresh)) same are
+  -- an id more, if it was not there
+  pub known_with : (ids new : List (RcStr A)) (N : Numbers) (n : ℕ) (k : RcStr A) (added : Bool) → AreIdsOf ids N → get N n ≡ None → added ≡ not (has_id N (rc_str_bytes k))
+      → new ≡ insert_key octets_cmp ids k → (added ≡ false → new ≡ ids) → AreIdsOf new (with_number N n (rc_str_bytes k))
+  known_with ids new N n k added are absent e put same = by (has_id N (rc_str_bytes k)) refl
+    where
+      by : (there : Bool) → has_id N (rc_str_bytes k) ≡ there → AreIdsOf new (if there then N else insert N n (rc_str_bytes k))
+      by true h = subst (λ ids. AreIdsOf ids N) (sym (same (e ∙ ap not h))) are
+      by false h = one_id_more ids new N n (rc_str_bytes k) k are absent refl put
+
+  -- one more of the numbers was passed, and its id put among those that are known
+  pub one_passed : (ids : List (ℕ × RcStr A)) (i : ℕ) (e : ℕ × RcStr A) (known new : List (RcStr A)) (k : RcStr A) (id : Id) → i < length ids → e ≡ get_or ids i e
+      → rc_str_bytes k ≡ rc_str_bytes e.1 → new ≡ insert_key octets_cmp known k
+      → (list_any (λ known. bytes_eq id (rc_str_bytes known)) new || list_any (λ e. bytes_eq (rc_str_bytes e.1) id) (drop (i + 1) ids))
+      ≡ (list_any (λ known. bytes_eq id (rc_str_bytes known)) known || list_any (λ e. bytes_eq (rc_str_bytes e.1) id) (drop i ids))
+  one_passed ids i e known new k id lt is same put =
+      let rest : drop i ids ≡ e ∷ drop (i + 1) ids = grind (arith, add-one, drop-cons) in
+      grind (arith, any-insert_key, octet_keys, either_way, or_swap)
+
+  -- none is left
+  pub all_passed : (ids : List (ℕ × RcStr A)) (i : ℕ) (known : List (RcStr A)) (id : Id) → i ≡ length ids
+      → list_any (λ known. bytes_eq id (rc_str_bytes known)) known ≡ (list_any (λ known. bytes_eq id (rc_str_bytes known)) known || list_any (λ e. bytes_eq (rc_str_bytes e.1) id) (drop i ids))
+  all_passed ids i known id end = grind (arith, drop_all)

@@ -96,9 +96,8 @@ impl<A: Allocator> Numbers<A> {
         ensures failed { writer_failed output.new ≡ (writer_failed output.old || is_err result) }
         ensures same_writer { IsSameWriter output.old output.new }
     {
-        let mut entries = self.ids.iter();
-        while let Some((number, id)) = entries.next() {
-            put_number_line(output, *number, id.as_str().as_bytes())?;
+        for numbered in &self.ids {
+            put_number_line(output, numbered.0, numbered.1.as_str().as_bytes())?;
         }
         Ok(())
     }

@@ -53,10 +53,10 @@ impl<A: Allocator + Copy> BoxedNumbers<A> {
         ensures err { OnErr result (self.new ≡ self.old) }
     {
         if let Some(numbers) = &mut self.numbers {
-            return numbers.as_mut().put(number, id);
+            return numbers.as_mut().put(alloc, number, id);
         }
         let mut numbers = Numbers::new(alloc);
-        let added = numbers.put(number, id)?;
+        let added = numbers.put(alloc, number, id)?;
         self.numbers = Some(Box::new(alloc, numbers)?);
         Ok(added)
     }

@@ -189,7 +189,8 @@ impl<A: Allocator + Copy> SpoolBuilder<A> {
         Ok(())
     }
 
-    /// Adds an article number, with the message-id that it has, to a group that was added before.
+    /// Adds an article number, with the message-id that it has, to a group that was added before. It
+    /// takes time in the order of the group's numbers above it.
     ///
     /// # Errors
     ///

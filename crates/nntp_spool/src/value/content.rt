@@ -244,13 +244,20 @@ impl<A: Allocator> Content<A> {
         self.articles.is_after(id)
     }
 
-    /// Tells whether each id of these numbers has an article. The ids are looked for in their own
-    /// order, in which each is found near the one before it.
+    /// Tells whether each id of these numbers has an article. The ids of many are looked for in their
+    /// own order, in which each is found near the one before it.
     fn knows_all(&self, numbers: &BoxedNumbers<A>) -> bool
         ensures { result ≡ all_known self.now numbers.now }
     {
         let numbers = numbers.or(&self.no_numbers);
-        numbers.known.iter().all(|id| self.has_article(id.as_str()))
+        if numbers.known.is_empty() {
+            numbers
+                .ids
+                .iter()
+                .all(|numbered| self.has_article(numbered.1.as_str()))
+        } else {
+            numbers.known.iter().all(|id| self.has_article(id.as_str()))
+        }
     }
 
     /// Tells whether each id of a number has an article.

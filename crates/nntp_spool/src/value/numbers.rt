@@ -1,44 +1,47 @@
 //! The numbers of one group, with the id at each.
-ghost use Rattle.std.specs.Prelude.{◌≡◌, ℕ, None, Some, true, false, not, is_some, OnOk, OnErr, IfOk, IfErr, option_copied, MatchOption, ◌≤◌};
+ghost use Rattle.std.specs.Prelude.{◌≡◌, ℕ, ◌≤◌, ◌<◌, None, Some, true, false, not, is_some, OnOk, OnErr, IfOk, IfErr, option_copied, MatchOption, vec_len, vec_capacity};
 ghost use Rattle.std.specs.FinMap as map;
 ghost use Rattle.std.specs.Rc.{rc_str_bytes};
 ghost use Rattle.nntp_article.specs.Inner.Spool.{IsFirst};
 ghost use Rattle.nntp_article.specs.Session.Spool.{IsNextAbove, IsNextBelow, NoneAbove, NoneBelow, IsNumber};
 ghost use Rattle.nntp_spool.specs.Ascending.{is_last};
 ghost use Rattle.nntp_spool.specs.Numbers.{has_id};
-ghost use Rattle.nntp_spool.specs.Inner.Numbers.{with_number};
+ghost use Rattle.nntp_spool.specs.Inner.Numbers.{with_number, numbers_shown, AreAscending, AreKnown, AreIdsOf, AreParts};
 
 use std::alloc::{AllocError, Allocator, Global};
-use std::collections::{BTreeMap, BTreeSet};
+use std::collections::BTreeSet;
 use std::marker::Model;
-use std::ops::Bound;
 use std::rc::RcStr;
+
+/// So many numbers may have their ids gone through, where one is looked up.
+const FEW: usize = 8;
+
+/// A number, and the message-id there.
+pub(crate) type Numbered<A> = (u64, RcStr<A>);
 
 /// The numbers of a group, ascending, and the message-id at each.
 #[derive(Drop)]
 pub struct Numbers<A: Allocator = Global> {
-    /// The message-id at each number.
-    pub(crate) ids: BTreeMap<u64, RcStr<A>, A>,
-    /// The ids once more, each the same text, to look one up.
+    /// Each number with its message-id.
+    pub(crate) ids: Vec<Numbered<A>, A>,
+    /// The ids once more, each the same text, to look one up. It is empty while there are few.
     pub(crate) known: BTreeSet<RcStr<A>, A>,
 }
 
 impl<A: Allocator> Model for Numbers<A> {
-    ghost use Rattle.std.specs.Prelude.{List, ℕ, map as list_map};
+    ghost use Rattle.std.specs.Prelude.{List, ℕ};
     ghost use Rattle.std.specs.Ordering.{nat_cmp};
     ghost use Rattle.std.specs.Coded.{coded_ℕ, coded_list};
     ghost use Rattle.std.specs.FinMap as map;
-    ghost use Rattle.std.specs.Rc.{rc_str_bytes};
+    ghost use Rattle.nntp_spool.specs.Inner.Numbers.{numbers_shown, AreAscending, AreKnown};
 
     ghost Value = { map.FinMap nat_cmp (List ℕ) };
 
     ghost coded = { map.code coded_ℕ (coded_list coded_ℕ) };
 
-    ghost view = { λ a. map.from_entries (list_map (λ e. (e.0, rc_str_bytes e.1)) a.ids.entries) };
+    ghost view = { λ a. numbers_shown a.ids.items };
 
-    ghost use Rattle.nntp_spool.specs.Inner.Numbers.{AreIdsOf};
-
-    ghost invariant = { λ a. AreIdsOf a.known.keys (map.from_entries (list_map (λ e. (e.0, rc_str_bytes e.1)) a.ids.entries)) };
+    ghost invariant = { λ a. AreAscending a.ids.items × AreKnown a.known.keys (numbers_shown a.ids.items) };
 }
 
 impl<A: Allocator + Copy> Numbers<A> {
@@ -47,7 +50,7 @@ impl<A: Allocator + Copy> Numbers<A> {
         ensures { result ≡ map.empty }
     {
         Numbers {
-            ids: BTreeMap::new(alloc),
+            ids: Vec::new(alloc),
             known: BTreeSet::new(alloc),
         }
     }
@@ -60,43 +63,116 @@ impl<A: Allocator + Copy> Numbers<A> {
         ensures ok { OnOk result (self.new ≡ with_number self.old number id.now) }
     {
         let id = RcStr::from_str(alloc, id)?;
-        self.put(number, &id)
+        self.put(alloc, number, &id)
     }
 
     /// Adds a number that isn't there with its id, and answers true. Where the id is there already,
-    /// it answers false and adds nothing. Memory is refused to ids alone that aren't there.
-    pub(crate) fn put(&mut self, number: u64, id: &RcStr<A>) -> Result<bool, AllocError>
+    /// it answers false and adds nothing. Memory is refused to ids alone that aren't there. The numbers above it are
+    /// moved.
+    pub(crate) fn put(&mut self, alloc: A, number: u64, id: &RcStr<A>) -> Result<bool, AllocError>
         requires { map.get self.old number ≡ None }
         ensures added { IfOk result (λ added. added ≡ not (has_id self.old (rc_str_bytes id.now))) }
         ensures ok { OnOk result (self.new ≡ with_number self.old number (rc_str_bytes id.now)) }
         ensures absent { IfErr result (λ e. has_id self.old (rc_str_bytes id.now) ≡ false) }
         ensures err { OnErr result (self.new ≡ self.old) }
     {
-        let Ok((held, known)) = handles(id) else {
+        let Ok((held, known)) = handles(&mut self.ids, id) else {
             return if self.has_some_id(id.as_str()) {
                 Ok(false)
             } else {
                 Err(AllocError)
             };
         };
-        if !self.known.insert(known)? {
+        if !learn(alloc, &mut self.known, &self.ids, known)? {
             return Ok(false);
         }
-        match self.ids.insert(number, held) {
-            Ok(_) => Ok(true),
-            Err(_) => {
-                self.known.remove(id.as_str());
-                Err(AllocError)
-            }
-        }
+        let at = split_before(&self.ids, number).0.len();
+        self.ids.insert(at, (number, held))?;
+        Ok(true)
     }
 }
 
-/// Makes two handles of an id.
-fn handles<A: Allocator>(id: &RcStr<A>) -> Result<(RcStr<A>, RcStr<A>), AllocError>
-    ensures { IfOk result (λ h. (rc_str_bytes h.0 ≡ rc_str_bytes id.now) × (rc_str_bytes h.1 ≡ rc_str_bytes id.now)) }
+/// Makes two handles of an id, and room for one number more: for no other while there are few.
+fn handles<A: Allocator>(
+    ids: &mut Vec<Numbered<A>, A>,
+    id: &RcStr<A>,
+) -> Result<(RcStr<A>, RcStr<A>), AllocError>
+    ensures ids { ids.new.items ≡ ids.old.items }
+    ensures room { OnOk result (vec_len ids.new < vec_capacity ids.new) }
+    ensures same { IfOk result (λ h. (rc_str_bytes h.0 ≡ rc_str_bytes id.now) × (rc_str_bytes h.1 ≡ rc_str_bytes id.now)) }
 {
+    if ids.len() < FEW {
+        ids.reserve_exact(1)?;
+    } else {
+        ids.reserve(1)?;
+    }
     Ok((id.clone()?, id.clone()?))
+}
+
+/// Adds the id of one number more to those that are known, if there aren't few, and answers true. Where a number has the
+/// id already, it answers false and adds nothing.
+fn learn<A: Allocator + Copy>(
+    alloc: A,
+    known: &mut BTreeSet<RcStr<A>, A>,
+    ids: &[Numbered<A>],
+    id: RcStr<A>,
+) -> Result<bool, AllocError>
+    requires { AreAscending ids.now × AreKnown known.old.keys (numbers_shown ids.now) }
+    ensures added { IfOk result (λ added. added ≡ not (has_id (numbers_shown ids.now) (rc_str_bytes id))) }
+    ensures ok { (n : ℕ) → map.get (numbers_shown ids.now) n ≡ None
+        → OnOk result (AreKnown known.new.keys (with_number (numbers_shown ids.now) n (rc_str_bytes id))) }
+    ensures absent { IfErr result (λ e. has_id (numbers_shown ids.now) (rc_str_bytes id) ≡ false) }
+    ensures err { OnErr result (AreKnown known.new.keys (numbers_shown ids.now)) }
+{
+    if known.is_empty() {
+        if is_among(ids, id.as_str()) {
+            return Ok(false);
+        }
+        if ids.len() < FEW {
+            return Ok(true);
+        }
+        *known = ids_of(alloc, ids)?;
+    }
+    Ok(known.insert(id)?)
+}
+
+/// Tells whether one of the numbers has the id.
+fn is_among<A: Allocator>(ids: &[Numbered<A>], id: &str) -> bool
+    requires { AreAscending ids.now }
+    ensures { result ≡ has_id (numbers_shown ids.now) id.now }
+{
+    ids.iter().any(|numbered| numbered.1.as_str() == id)
+}
+
+/// Returns the ids of numbers.
+fn ids_of<A: Allocator + Copy>(
+    alloc: A,
+    ids: &[Numbered<A>],
+) -> Result<BTreeSet<RcStr<A>, A>, AllocError>
+    requires { AreAscending ids.now }
+    ensures { IfOk result (λ known. AreIdsOf known.keys (numbers_shown ids.now)) }
+{
+    let mut known = BTreeSet::new(alloc);
+    for numbered in ids {
+        known.insert(numbered.1.clone()?)?;
+    }
+    Ok(known)
+}
+
+/// Parts the numbers that are below this one from the others.
+fn split_before<A: Allocator>(ids: &[Numbered<A>], number: u64) -> (&[Numbered<A>], &[Numbered<A>])
+    requires { AreAscending ids.now }
+    ensures { AreParts ids.now (λ n. n < number) (λ n. number ≤ n) result.0.now result.1.now }
+{
+    ids.split_at(ids.partition_point(|numbered| numbered.0 < number))
+}
+
+/// Parts the numbers up to this one from the others.
+fn split_behind<A: Allocator>(ids: &[Numbered<A>], number: u64) -> (&[Numbered<A>], &[Numbered<A>])
+    requires { AreAscending ids.now }
+    ensures { AreParts ids.now (λ n. n ≤ number) (λ n. number < n) result.0.now result.1.now }
+{
+    ids.split_at(ids.partition_point(|numbered| numbered.0 <= number))
 }
 
 impl<A: Allocator> Numbers<A> {
@@ -111,9 +187,11 @@ impl<A: Allocator> Numbers<A> {
     pub(crate) fn id(&self, number: u64) -> Option<&str>
         ensures { option_copied result ≡ map.get self.now number }
     {
-        match self.ids.get(&number) {
-            Some(id) => Some(id.as_str()),
-            None => None,
+        let numbered = split_before(&self.ids, number).1.first()?;
+        if numbered.0 == number {
+            Some(numbered.1.as_str())
+        } else {
+            None
         }
     }
 
@@ -128,8 +206,8 @@ impl<A: Allocator> Numbers<A> {
     pub(crate) fn least(&self) -> Option<u64>
         ensures { IsFirst self.now result }
     {
-        match self.ids.first_key_value() {
-            Some((number, _)) => Some(*number),
+        match self.ids.first() {
+            Some(numbered) => Some(numbered.0),
             None => None,
         }
     }
@@ -138,8 +216,8 @@ impl<A: Allocator> Numbers<A> {
     pub(crate) fn greatest(&self) -> Option<u64>
         ensures { MatchOption result ((m : ℕ) → map.get self.now m ≡ None) (λ n. IsNumber self.now n × ((m : ℕ) → IsNumber self.now m → m ≤ n)) }
     {
-        match self.ids.last_key_value() {
-            Some((number, _)) => Some(*number),
+        match self.ids.last() {
+            Some(numbered) => Some(numbered.0),
             None => None,
         }
     }
@@ -148,12 +226,8 @@ impl<A: Allocator> Numbers<A> {
     pub(crate) fn next_above(&self, number: u64) -> Option<(u64, &str)>
         ensures { MatchOption result (NoneAbove self.now number) (λ next. IsNextAbove self.now number next.0 × (map.get self.now next.0 ≡ Some next.1.now)) }
     {
-        match self
-            .ids
-            .range((Bound::Excluded(number), Bound::Unbounded))
-            .next()
-        {
-            Some((next, id)) => Some((*next, id.as_str())),
+        match split_behind(&self.ids, number).1.first() {
+            Some(numbered) => Some((numbered.0, numbered.1.as_str())),
             None => None,
         }
     }
@@ -162,12 +236,8 @@ impl<A: Allocator> Numbers<A> {
     pub(crate) fn next_below(&self, number: u64) -> Option<(u64, &str)>
         ensures { MatchOption result (NoneBelow self.now number) (λ next. IsNextBelow self.now number next.0 × (map.get self.now next.0 ≡ Some next.1.now)) }
     {
-        match self
-            .ids
-            .range((Bound::Unbounded, Bound::Excluded(number)))
-            .next_back()
-        {
-            Some((next, id)) => Some((*next, id.as_str())),
+        match split_before(&self.ids, number).0.last() {
+            Some(numbered) => Some((numbered.0, numbered.1.as_str())),
             None => None,
         }
     }
@@ -186,6 +256,10 @@ impl<A: Allocator> Numbers<A> {
     pub(crate) fn has_some_id(&self, id: &str) -> bool
         ensures { result ≡ has_id self.now id.now }
     {
-        self.known.contains(id)
+        if self.known.is_empty() {
+            is_among(&self.ids, id)
+        } else {
+            self.known.contains(id)
+        }
     }
 }

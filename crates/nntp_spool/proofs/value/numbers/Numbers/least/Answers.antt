@@ -1,12 +1,12 @@
-use Rattle.std.{proofs.{Common.{◌<◌, length, subst, sym, Some, None, arith}, lemmas.{List.{nil_from_length}, Bool.{true≢false}}}, specs.Rc.{rc_str_bytes}}
+use Rattle.std.{proofs.Common.{Some, None, subst, ap, ◌∙◌}, specs.List.{slice_get}}
 use Rattle.nntp_article.specs.Inner.Spool.{IsFirst}
-use Rattle.nntp_spool.proofs.ShownNumbers.{first_from_bound, first_from_none}
+use Rattle.nntp_spool.proofs.ShownNumbers.{least_is, none_there, nothing}
 use Rattle.nntp_spool.proofs.value.numbers.Numbers.least.Goals as goal
 
 pub returns-in-Some : goal.returns-in-Some
-returns-in-Some g c = subst (λ N. IsFirst N (Some c.in-Some.number.now)) c.self.view_is (first_from_bound (λ v. rc_str_bytes v) c.self.inside.ids _ _ c.in-Some.ensures.value c.in-Some.ensures.least)
+returns-in-Some g c = subst (λ N. IsFirst N (Some c.in-Some.numbered.now.0)) c.self.view_is
+    (least_is c.self.inside.ids.items c.in-Some.numbered.now c.self.invariant.0 (c.in-Some.ensures.value ∙ ap (λ ids. slice_get ids 0) c.deref.ensures.value))
 
 pub returns-in-None : goal.returns-in-None
-returns-in-None g c =
-    let none : 0 < length c.self.inside.ids.entries → ⊥ = λ p. true≢false (sym (c.in-None.ensures.variant.1 p)) in
-    subst (λ N. IsFirst N None) c.self.view_is (first_from_none (λ v. rc_str_bytes v) c.self.inside.ids (nil_from_length _ (omega (arith, none))))
+returns-in-None g c = subst (λ N. IsFirst N None) c.self.view_is
+    (none_there c.self.inside.ids.items (nothing c.self.inside.ids.items (c.in-None.ensures.value ∙ ap (λ ids. slice_get ids 0) c.deref.ensures.value)))

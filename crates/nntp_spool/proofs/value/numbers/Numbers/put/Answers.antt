@@ -1,73 +1,36 @@
-use Rattle.std.{proofs.{Common.{true, not, ap, sym, subst, ◌∙◌}, lemmas.{Bool.{not-false, not-true}, Result.{err_from_is_err_and}}}, specs.Ordering.{nat_cmp}}
-use Rattle.std.specs.{Cmp.{nat_cmp_total}, Rc.{rc_str_bytes}}
-use Rattle.nntp_spool.{specs.{Inner.Numbers.{AreIdsOf}, Numbers.{has_id}}, proofs.NumberIds.{is_added, one_id_more, id_taken_back}}
-use Rattle.nntp_wire.proofs.ShownMaps.{insert-shown, shown}
+use Rattle.std.{proofs.Common.{arith, ◌≡◌, ◌<◌, ◌≤◌, false, if◌then◌else◌, length, ap, sym, subst, ◌∙◌}, specs.{List.{insert}, Rc.{rc_str_bytes}}}
+use Rattle.nntp_spool.{specs.{Inner.Numbers.{AreParts, AreKnown, numbers_shown, with_number}, Numbers.{has_id}}, proofs.ShownNumbers.{one_put}}
 use Rattle.std.specs.FinMap as map
 use Rattle.nntp_spool.proofs.value.numbers.Numbers.put.Goals as goal
 
-pub returns-in_err-insert-clause-absent : goal.returns-in_err-insert-clause-absent
-returns-in_err-insert-clause-absent g c =
-    let N = c.args.self.now in
-    let id = rc_str_bytes c.args.id.now in
-    let p = err_from_is_err_and c.from_residual.result c.from_residual.ensures.1 in
-    let new = is_added c.self.inside.known.keys _ N id c.in-Ok.known true c.self.invariant c.self.view_is c.in-Ok.ensures.1 (sym (ap not c.in_err-insert.ensures.absent)) in
-    rw p.1 (not-true (has_id N id) (sym new))
+pub invariant_of-self-2 : goal.invariant_of-self-2
+invariant_of-self-2 g c =
+    let ids = c.self.inside.ids.items in
+    let N = numbers_shown ids in
+    let n = c.args.number in
+    let held = c.in-Ok.held in
+    let keys = c.learn.new.known.keys in
+    let parts = c.split_before.result in
+    let parted = subst (λ ids. AreParts ids (λ m. m < n) (λ m. n ≤ m) parts.0.now parts.1.now) (c.deref-2.ensures.value ∙ c.in-Ok.ensures.ids) c.split_before.ensures in
+    let absent = ap (λ N. map.get N n) c.self.view_is ∙ c.requires in
+    let new = one_put ids parts.0.now parts.1.now n c.self.invariant.0 c.insert.new.self.items held parted absent
+    (c.in_ok-insert.ensures.items ∙ ap (λ ids. insert ids (length parts.0.now) (n, held)) c.in-Ok.ensures.ids) in
+    let here = c.deref.ensures.value ∙ c.in-Ok.ensures.ids in
+    let same : rc_str_bytes c.in-Ok.known ≡ rc_str_bytes held = c.in-Ok.ensures.same.1 ∙ sym c.in-Ok.ensures.same.0 in
+    let lacks : has_id N (rc_str_bytes held) ≡ false = grind arith in
+    let learnt = c.in_ok-learn.ensures.ok n (ap (λ ids. map.get (numbers_shown ids) n) here ∙ absent) in
+    let known = subst (λ ids. AreKnown keys (with_number (numbers_shown ids) n (rc_str_bytes held))) here
+    (subst (λ id. AreKnown keys (with_number (numbers_shown c.deref.result.now) n id)) same learnt) in
+    (new.0, subst (AreKnown keys) (sym new.1) (subst (λ there. AreKnown keys (if there then N else map.insert N n (rc_str_bytes held))) lacks known))
 
-pub returns-then-not-branch-clause-added : goal.returns-then-not-branch-clause-added
-returns-then-not-branch-clause-added g c =
-    sym c.if-not-branch.true
-    ∙ is_added c.self.inside.known.keys _ c.args.self.now (rc_str_bytes c.args.id.now) c.in-Ok.known c.in_ok-insert.field-0 c.self.invariant c.self.view_is c.in-Ok.ensures.1
-    c.in_ok-insert.ensures.added
-
-pub returns-then-not-branch-clause-ok : goal.returns-then-not-branch-clause-ok
-returns-then-not-branch-clause-ok g c =
-    let taken = sym c.if-not-branch.true
-    ∙ is_added c.self.inside.known.keys _ c.args.self.now (rc_str_bytes c.args.id.now) c.in-Ok.known c.in_ok-insert.field-0 c.self.invariant c.self.view_is c.in-Ok.ensures.1
-    c.in_ok-insert.ensures.added in
-    rw (not-false (has_id c.args.self.now (rc_str_bytes c.args.id.now)) (sym taken)) c.self.view_is
-
-pub invariant_of-self-in-Ok-insert : goal.invariant_of-self-in-Ok-insert
-invariant_of-self-in-Ok-insert g c =
-    let N = c.args.self.now in
-    let are = subst (AreIdsOf c.self.inside.known.keys) c.self.view_is c.self.invariant in
-    let more = one_id_more c.self.inside.known.keys c.insert.new.self.keys N c.args.number (rc_str_bytes c.args.id.now)
-    c.in-Ok.known are c.requires c.in-Ok.ensures.1 c.in_ok-insert.ensures.keys in
-    let is = insert-shown nat_cmp (λ k. k) (λ v. rc_str_bytes v) nat_cmp_total map.nat_cmp-IsAntisymmetric _ _ c.args.number
-    c.in-Ok.held c.in-Ok-insert.ensures.entries ∙ ap (λ m. map.insert m c.args.number (rc_str_bytes c.in-Ok.held)) c.self.view_is
-    ∙ ap (map.insert N c.args.number) c.in-Ok.ensures.0 in
-    subst (AreIdsOf c.insert.new.self.keys) (sym is) more
-
-pub returns-in-Ok-insert-clause-added : goal.returns-in-Ok-insert-clause-added
-returns-in-Ok-insert-clause-added g c =
-    sym c.if-not-branch.false
-    ∙ is_added c.self.inside.known.keys _ c.args.self.now (rc_str_bytes c.args.id.now) c.in-Ok.known c.in_ok-insert.field-0 c.self.invariant c.self.view_is c.in-Ok.ensures.1
-    c.in_ok-insert.ensures.added
-
-pub returns-in-Ok-insert-clause-ok : goal.returns-in-Ok-insert-clause-ok
-returns-in-Ok-insert-clause-ok g c =
-    let new = sym c.if-not-branch.false
-    ∙ is_added c.self.inside.known.keys _ c.args.self.now (rc_str_bytes c.args.id.now) c.in-Ok.known c.in_ok-insert.field-0 c.self.invariant c.self.view_is c.in-Ok.ensures.1
-    c.in_ok-insert.ensures.added in
-    let is = insert-shown nat_cmp (λ k. k) (λ v. rc_str_bytes v) nat_cmp_total map.nat_cmp-IsAntisymmetric _ _ c.args.number c.in-Ok.held c.in-Ok-insert.ensures.entries
-    ∙ ap (λ m. map.insert m c.args.number (rc_str_bytes c.in-Ok.held)) c.self.view_is
-    ∙ ap (map.insert c.args.self.now c.args.number) c.in-Ok.ensures.0 in
-    rw (not-true (has_id c.args.self.now (rc_str_bytes c.args.id.now)) (sym new)) is
-
-pub invariant_of-self-in-Err : goal.invariant_of-self-in-Err
-invariant_of-self-in-Err g c =
-    let N = c.args.self.now in
-    let id = rc_str_bytes c.args.id.now in
-    let new = sym c.if-not-branch.false
-    ∙ is_added c.self.inside.known.keys _ N id c.in-Ok.known c.in_ok-insert.field-0 c.self.invariant c.self.view_is c.in-Ok.ensures.1 c.in_ok-insert.ensures.added in
-    let are = subst (AreIdsOf c.self.inside.known.keys) c.self.view_is c.self.invariant in
-    let same = ap (shown nat_cmp (λ k. k) (λ v. rc_str_bytes v)) c.in-Err.ensures.err ∙ c.self.view_is in
-    id_taken_back c.self.inside.known.keys c.insert.new.self.keys c.remove.new.self.keys N _ c.as_str-in-Err.result.now
-    c.in-Ok.known are (ap (has_id N) c.as_str-in-Err.ensures.value ∙ not-true (has_id N id) (sym new)) (c.in-Ok.ensures.1 ∙ sym c.as_str-in-Err.ensures.value)
-    c.in_ok-insert.ensures.keys c.remove.ensures.keys same
-
-pub returns-clause-absent : goal.returns-clause-absent
-returns-clause-absent g c =
-    let new = sym c.if-not-branch.false
-    ∙ is_added c.self.inside.known.keys _ c.args.self.now (rc_str_bytes c.args.id.now) c.in-Ok.known c.in_ok-insert.field-0 c.self.invariant c.self.view_is c.in-Ok.ensures.1
-    c.in_ok-insert.ensures.added in
-    not-true (has_id c.args.self.now (rc_str_bytes c.args.id.now)) (sym new)
+pub returns-clause-ok : goal.returns-clause-ok
+returns-clause-ok g c =
+    let ids = c.self.inside.ids.items in
+    let n = c.args.number in
+    let held = c.in-Ok.held in
+    let parts = c.split_before.result in
+    let parted = subst (λ ids. AreParts ids (λ m. m < n) (λ m. n ≤ m) parts.0.now parts.1.now) (c.deref-2.ensures.value ∙ c.in-Ok.ensures.ids) c.split_before.ensures in
+    let new = one_put ids parts.0.now parts.1.now n c.self.invariant.0 c.insert.new.self.items held parted (ap (λ N. map.get N n) c.self.view_is ∙ c.requires)
+    (c.in_ok-insert.ensures.items ∙ ap (λ ids. insert ids (length parts.0.now) (n, held)) c.in-Ok.ensures.ids) in
+    let lacks : has_id c.args.self.now (rc_str_bytes c.args.id.now) ≡ false = grind arith in
+    rw lacks (new.1 ∙ ap (λ N. map.insert N n (rc_str_bytes held)) c.self.view_is ∙ ap (map.insert c.args.self.now n) c.in-Ok.ensures.same.0)
