@@ -1,5 +1,6 @@
 //! The numbers of one group, with the id at each.
-ghost use Rattle.std.specs.Prelude.{◌≡◌, ℕ, ◌≤◌, ◌<◌, None, Some, true, false, not, is_some, OnOk, OnErr, IfOk, IfErr, option_copied, MatchOption, vec_len, vec_capacity};
+ghost use Rattle.std.specs.Prelude.{◌≡◌, ℕ, ◌≤◌, ◌<◌, None, Some, true, false, not, is_some, OnOk, OnErr, IfOk, IfErr};
+ghost use Rattle.std.specs.Prelude.{option_copied, MatchOption, vec_len, vec_capacity};
 ghost use Rattle.std.specs.FinMap as map;
 ghost use Rattle.std.specs.Rc.{rc_str_bytes};
 ghost use Rattle.nntp_article.specs.Inner.Spool.{IsFirst};
@@ -92,7 +93,7 @@ impl<A: Allocator + Copy> Numbers<A> {
     }
 }
 
-/// Makes two handles of an id, and room for one number more: for no other while there are few.
+/// Makes two handles of an id, and room for one number more. The first two take no more than they need.
 fn handles<A: Allocator>(
     ids: &mut Vec<Numbered<A>, A>,
     id: &RcStr<A>,
@@ -101,8 +102,8 @@ fn handles<A: Allocator>(
     ensures room { OnOk result (vec_len ids.new < vec_capacity ids.new) }
     ensures same { IfOk result (λ h. (rc_str_bytes h.0 ≡ rc_str_bytes id.now) × (rc_str_bytes h.1 ≡ rc_str_bytes id.now)) }
 {
-    if ids.len() < FEW {
-        ids.reserve_exact(1)?;
+    if ids.is_empty() {
+        ids.reserve_exact(2)?;
     } else {
         ids.reserve(1)?;
     }

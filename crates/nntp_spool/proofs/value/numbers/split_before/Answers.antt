@@ -11,4 +11,5 @@ returns g c =
     let parted = can_be_parted (λ m. nat_lt m n) (λ a b le passes. grind (arith, nat_tests)) ids c.requires in
     let point = IsPartitionPoint-from_clause (λ e. nat_lt e.0 n) ids at c.partition_point.ensures.partitioned parted (λ a r q k. search (rules, tests)) in
     rw (c.split_at.ensures.front, c.split_at.ensures.back)
-    (parts_are (λ m. m < n) (λ m. n ≤ m) ids at c.partition_point.ensures.bound (λ k d from lt. grind (arith, nat_tests, point.0 k d from lt), λ k d from lt. grind (arith, nat_tests, point.1 k d from lt)))
+    (parts_are (λ m. m < n) (λ m. n ≤ m) ids at c.partition_point.ensures.bound
+        (λ k d from lt. grind (arith, nat_tests, point.0 k d from lt), λ k d from lt. grind (arith, nat_tests, point.1 k d from lt)))
