@@ -1,15 +1,15 @@
 //! One thing that an answer says of the numbers of a group, as `explain` prints it.
 ghost use Rattle.std.specs.Prelude.{◌≡◌, ◌==◌, ◌++◌, None, true, OnOk, codes, length};
 ghost use Rattle.std.specs.List.{list_any};
-ghost use Rattle.nntp_wire.specs.Listing.{listed_numbers};
-ghost use Rattle.nntp_article.specs.Session.Machine.{is_in_range};
+ghost use Rattle.nntp_wire.specs.Listing.{listed_numbers, overviews_of};
+ghost use Rattle.nntp_article.specs.Session.Machine.{is_in_range, overview_numbers};
 ghost use Rattle.nntp_theory.specs.Given.{is_end};
 ghost use Rattle.nntp_said.specs.Asks as asks;
-ghost use Rattle.nntp_said.specs.Inner.FactView.{ask_of};
+ghost use Rattle.nntp_said.specs.Inner.FactView.{ask_of, listing_of};
 ghost use Rattle.nntp_explain.specs.Says.{ask_text, ask_word, bears_on, current_place, current_word, listed_text, marks_text, place_text, range_text};
 ghost use Rattle.nntp_explain.specs.Says.{with_or_without};
 
-use nntp_facts::{Ask, Position};
+use nntp_facts::{Ask, Listing, Position};
 use nntp_printing::put_number;
 use nntp_wire::{Block, Marks, Range, WaterMarks};
 use std::alloc::{AllocError, Allocator};
@@ -37,7 +37,7 @@ pub(crate) fn bears_on(ask: &Ask<'_>, number: u64) -> bool
             number < marks.low || marks.high < number || is_end(*how, *marks, number)
         }
         Ask::Bounds { low, high } => number < *low || *high < number,
-        Ask::Lists { range, block } => lists(block, number) || is_in_range(*range, number),
+        Ask::Lists { range, listing } => lists(listing, number) || is_in_range(*range, number),
         Ask::Lacks(missing) => *missing == number,
         Ask::StandsAt(Position::First, first) => *first == number || number < *first,
         Ask::StandsNowhere(Position::First) => true,
@@ -69,9 +69,9 @@ pub(crate) fn put_ask_text<A: Allocator + Copy>(
             put_marks(text, *how, marks.low, marks.high)
         }
         Ask::Bounds { low, high } => put_marks(text, Marks::Lenient, *low, *high),
-        Ask::Lists { range, block } => {
+        Ask::Lists { range, listing } => {
             put_range(text, *range)?;
-            put_number(text, b" are ", count_of(block))
+            put_number(text, b" are ", count_of(listing))
         }
         Ask::Lacks(number) => {
             put_number(text, b" ", *number)?;
@@ -96,8 +96,8 @@ pub(crate) fn put_listed<A: Allocator + Copy>(
     ensures { OnOk result (text.new.items ≡ text.old.items ++ listed_text about (ask_of ask.now)) }
 {
     match (about, ask) {
-        (Some(number), Ask::Lists { block, .. }) => {
-            put_number(text, with_or_without(lists(block, number)), number)
+        (Some(number), Ask::Lists { listing, .. }) => {
+            put_number(text, with_or_without(lists(listing, number)), number)
         }
         _ => Ok(()),
     }
@@ -113,8 +113,19 @@ fn is_end(how: Marks, marks: WaterMarks, number: u64) -> bool
     }
 }
 
-/// Tells whether the number is one of those that the lines list.
-fn lists(block: &Block<'_>, number: u64) -> bool
+/// Tells whether the number is one of those that are listed.
+fn lists(listing: &Listing<'_>, number: u64) -> bool
+    ensures { result ≡ list_any (λ m. number == m) (listing_of listing.now) }
+{
+    match listing {
+        Listing::Nothing => false,
+        Listing::Numbers(block) => has_number(*block, number),
+        Listing::Overviews(block) => has_overview(*block, number),
+    }
+}
+
+/// Tells whether the number is one of those that the lines are.
+fn has_number(block: &Block<'_>, number: u64) -> bool
     ensures { result ≡ list_any (λ m. number == m) (listed_numbers block.now) }
 {
     for listed in block.numbers() {
@@ -125,11 +136,27 @@ fn lists(block: &Block<'_>, number: u64) -> bool
     false
 }
 
-/// Returns how many numbers the lines list.
-fn count_of(block: &Block<'_>) -> u64
-    ensures { result ≡ length (listed_numbers block.now) }
+/// Tells whether one of the overviews that the lines are is that of the number.
+fn has_overview(block: &Block<'_>, number: u64) -> bool
+    ensures { result ≡ list_any (λ m. number == m) (overview_numbers (overviews_of block.now)) }
 {
-    block.numbers().count() as u64
+    for overview in block.overviews() {
+        if number == overview.number {
+            return true;
+        }
+    }
+    false
+}
+
+/// Returns how many numbers are listed.
+fn count_of(listing: &Listing<'_>) -> u64
+    ensures { result ≡ length (listing_of listing.now) }
+{
+    match listing {
+        Listing::Nothing => 0,
+        Listing::Numbers(block) => block.numbers().count() as u64,
+        Listing::Overviews(block) => block.overviews().count() as u64,
+    }
 }
 
 /// Tells whether the range has the number.

@@ -16,6 +16,11 @@ small_items : (ns : List ℕ) → ((i : ℕ) → get_or ns i 0 < 2 ^ 64) → (n 
 small_items [] fits n t = cc
 small_items (k ∷ ns) fits n t = grind (arith, or_cases, eqb-true, fits 0, small_items ns (λ i. fits (suc i)))
 
+-- the list says this
+pub says_listed : (r : Range) (ns : List ℕ) → ((i : ℕ) → get_or ns i 0 < 2 ^ 64) → IsSmall (part_with ns (ListsIn r ns) nothing_said) → AreListable r ns
+    → Says (part_with ns (ListsIn r ns) nothing_said) (ListsIn r ns ∷ [])
+says_listed r ns fits small may = grind (arith, and_from, all_pass (is_in_range r) ns, or-false, in_range, and-true, and_parts, small_items, leb-true)
+
 -- the marks and the list say this
 pub says_range : (how : Marks) (m : WaterMarks) (r : Range) (ns : List ℕ) → ((i : ℕ) → get_or ns i 0 < 2 ^ 64) → IsSmall (part_with ns (ListsIn r ns) (part_with ns (Estimates how m) nothing_said))
     → AreListable r ns

@@ -1,10 +1,12 @@
 -- A spool permits a session exactly if each answer fits and all that the answers say holds of it.
-use Rattle.nntp_wire.specs.{declared.marks.Marks.{Marks}, Answer.{Asked, Response, greeting, to, sends, plain}, Command.{Request, by_id, by_number, current}}
-use Rattle.nntp_wire.specs.Command.{group, list_group, next, last, retrieve}
+use Rattle.nntp_wire.specs.{declared.marks.Marks.{Marks}, Answer.{Asked, Response, greeting, to, sends, overviews_are, plain}, Command.{Request, by_id, by_number, current}}
+use Rattle.nntp_wire.specs.{Command.{group, list_group, next, last, retrieve, over, the_id, in_range, the_current}, declared.command.OverviewKeyword.TheVariants.{Over, Xover}}
 use Rattle.std.proofs.Common.{◌≡◌, ℕ, Bool, true, false, cond, ◌==◌, ◌&&◌, ◌||◌, ◌↔◌, ◌⊎◌, inl, inr, IsTrue, List, [], ◌∷◌, ◌++◌, None, Some, is_some, refl}
-use Rattle.std.proofs.{Common.{sym, subst, ◌∙◌, arith}, lemmas.Bool.{and_parts, or_cases, eqb-true, true≢false, false≢true, Decides.{nat_tests}}}
+use Rattle.std.proofs.{Common.{sym, subst, ◌∙◌, arith}, lemmas.Bool.{and_parts, eqb-true, true≢false}}
 use Rattle.std.specs.{Prelude.{IsFalse, is_none, ⊤}, List.{AllByRecursion}}
 use Rattle.nntp_article.specs.Session.{Spool.{Spool}, Machine.{Visible, State, Agrees, MayAnswer, visible_after, CodeAgrees, is_generic, is_one_of, code_fits}}
+use Rattle.nntp_article.specs.Session.Machine.{none_in_range}
+use Rattle.nntp_said.proofs.Rows.{one_of_one, one_of_two}
 use Rattle.nntp_article.specs.{Session.Machine.{fits}, declared.session.profile.Profile.{Profile}}
 use Rattle.nntp_said.specs.{Inner.{Asks.{state_at, RunsAt}, Facts.{FitsAll}}, Asks.{position_after}, declared.position.Position.{Position}, Facts.{Fact, Holds}}
 use Rattle.nntp_said.specs.Facts.{facts_of, facts_of_code, facts_from, on}
@@ -39,16 +41,6 @@ off_to S false fact h t = h.0
 
 -- ---- codes, a row each
 
--- one of two codes
-same_code : (a b : ℕ) → IsTrue (a == b) → IsTrue (b == a)
-same_code a b t = grind (arith, nat_tests)
-
-one_of_two : (a b code : ℕ) → IsTrue (is_one_of (a ∷ b ∷ []) code) → IsTrue (code == a) ⊎ IsTrue (code == b)
-one_of_two a b code t = elim (or_cases (a == code) ((b == code) || false) t) [
-  | inl e ↦ inl (same_code a code e)
-  | inr r ↦ elim (or_cases (b == code) false r) [ inl e ↦ inr (same_code b code e) | inr f ↦ absurd (false≢true f) ]
-]
-
 -- what an answer of the expected code agrees with
 at_code : (how : Marks) (S : Spool) (s : State) (command : Request) (code expected : ℕ) → Agrees how S s (to command) (plain code)
     → IsTrue (code == expected) → Agrees how S s (to command) (plain expected)
@@ -67,6 +59,14 @@ code_holds how S v at last code h =
 code_holds how S v at (retrieve what (by_id word)) code h = on_from S (code == 430) _ (at_code how S (state_at S v at) (retrieve what (by_id word)) code 430 h)
 code_holds how S v at (retrieve what (by_number (Some n))) code h = on_from S (code == 423) _ (at_code how S (state_at S v at) (retrieve what (by_number (Some n))) code 423 h)
 code_holds how S v at (retrieve what current) code h = on_from S (code == 420) _ (at_code how S (state_at S v at) (retrieve what current) code 420 h)
+code_holds how S v at (over keyword (the_id word)) code h = on_from S (code == 430) _ (at_code how S (state_at S v at) (over keyword (the_id word)) code 430 h)
+code_holds how S v at (over Over (in_range range)) code h =
+    on_from S (is_one_of (423 ∷ []) code) _ (λ t. at_code how S (state_at S v at) (over Over (in_range range)) code 423 h (one_of_one 423 code t))
+code_holds how S v at (over Xover (in_range range)) code h = on_from S (is_one_of (420 ∷ 423 ∷ []) code) _ (λ t. elim (one_of_two 420 423 code t) [
+  | inl e ↦ at_code how S (state_at S v at) (over Xover (in_range range)) code 420 h e
+  | inr e ↦ at_code how S (state_at S v at) (over Xover (in_range range)) code 423 h e
+])
+code_holds how S v at (over keyword the_current) code h = on_from S (code == 420) _ (at_code how S (state_at S v at) (over keyword the_current) code 420 h)
 code_holds how S v at command code h = tt
 
 -- the condition of a code that is no generic failure
@@ -102,6 +102,9 @@ row_from S v at (retrieve what (by_id word)) code f h = on_to S (code == 430) _ 
 row_from S v at (retrieve what (by_number None)) code f h = in_group v (code == 412) (code == 423) f (λ _. tt)
 row_from S v at (retrieve what (by_number (Some n))) code f h = in_group v (code == 412) (code == 423) f (on_to S (code == 423) _ h)
 row_from S v at (retrieve what current) code f h = in_group v (code == 412) (code == 420) f (on_to S (code == 420) _ h)
+row_from S v at (over keyword (the_id word)) code f h = on_to S (code == 430) _ h f
+row_from S v at (over keyword (in_range range)) code f h = in_group v (code == 412) (is_one_of (none_in_range keyword) code) f (on_to S (is_one_of (none_in_range keyword) code) _ h)
+row_from S v at (over keyword the_current) code f h = in_group v (code == 412) (code == 420) f (on_to S (code == 420) _ h)
 row_from S v at command code f h = first_of (assumption, cc)
 
 -- ---- what an answer says
@@ -110,6 +113,7 @@ row_from S v at command code f h = first_of (assumption, cc)
 facts_hold : (how : Marks) (S : Spool) (v : Visible) (at : Position) (p : Asked) (a : Response) → Agrees how S (state_at S v at) p a → AllByRecursion (Holds S) (facts_of how v at p a)
 facts_hold how S v at (to (retrieve what (by_id word))) (sends sent) h = (h.0, off_from S (sent.number == 0) _ h.1)
 facts_hold how S v at (to command) (plain code) h = code_holds how S v at command code h
+facts_hold how S v at (to (over keyword (in_range range))) (overviews_are lines) h = (h, tt)
 facts_hold how S v at p a h = assumption
 
 -- and back, where it fits
@@ -119,6 +123,7 @@ agrees_from : (profile : Profile) (S : Spool) (v : Visible) (at : Position) (p :
 agrees_from profile S v at greeting (plain code) f h = tt
 agrees_from profile S v at (to (retrieve what (by_id word))) (sends sent) f h = (h.0, off_to S (sent.number == 0) _ h.1)
 agrees_from profile S v at (to command) (plain code) f h = but_generic (is_generic code) (code_fits v command code) f (λ c. row_from S v at command code c h)
+agrees_from profile S v at (to (over keyword (in_range range))) (overviews_are lines) f h = h.0
 agrees_from profile S v at p a f h = first_of (assumption, cc)
 
 -- an answer that fits, where the connection is open, is permitted exactly if what it says holds

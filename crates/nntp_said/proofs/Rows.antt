@@ -1,15 +1,32 @@
 -- The table of what an answer says, by its rows: a list of facts each, with what is known of them where the answer fits.
-use Rattle.std.proofs.Common.{◌≡◌, ℕ, Bool, true, false, cond, ◌==◌, ◌&&◌, IsTrue, List, [], ◌∷◌, ◌++◌, Option, None, Some, is_some, inl, inr, refl, sym, subst}
-use Rattle.std.{proofs.{Common.{◌∙◌, arith}, lemmas.Bool.{and_parts, or_cases, eqb-true, true≢false}}, specs.{Prelude.{⊤}, List.{list_all}}}
+use Rattle.std.proofs.Common.{◌≡◌, ℕ, Bool, true, false, cond, ◌==◌, ◌&&◌, ◌||◌, ◌⊎◌, IsTrue, List, [], ◌∷◌, ◌++◌, Option, None, Some, is_some, inl, inr, refl, sym, subst}
+use Rattle.std.{proofs.{Common.{◌∙◌, arith}, lemmas.Bool.{and_parts, or_cases, eqb-true, true≢false, false≢true, Decides.{nat_tests}}}, specs.{Prelude.{⊤}, List.{list_all}}}
 use Rattle.std.specs.Option.{option_map_or, option_or}
 use Rattle.nntp_article.specs.{Article.Parts.{Id}, Session.{Spool.{Name}, Machine.{Visible, fits, marks_fit, is_ascending, is_same, is_article_number}}}
 use Rattle.nntp_article.specs.{Session.Machine.{is_in_range, number_fits, head_fits, active_fits, names_differ}, declared.session.profile.Profile.{Profile}}
+use Rattle.nntp_article.specs.Session.Machine.{is_one_of, none_in_range, may_list, overview_numbers, overview_ids, all_differ}
 use Rattle.nntp_said.specs.Asks.{Estimates, ListsIn, Lacks, StandsAt, StandsNowhere, StepsUp, StepsDown, IsTop, IsBottom}
 use Rattle.nntp_said.specs.{declared.position.Position.{Position}, Facts.{Fact, ThereIs, ThereIsNo, Asks, IdAt, TextIs, NoArticle, GroupsAre, here}}
 use Rattle.nntp_said.specs.Facts.{facts_of_code, facts_of}
-use Rattle.nntp_wire.specs.{Listing.{listed_numbers, active_groups}, Answer.{Asked, Response, Success, success_code, to, group_is, numbers_are, sends}}
-use Rattle.nntp_wire.specs.{Answer.{active_are, plain}, Command.{Request, Target, by_id, by_number, current, group, list_group, next, last, retrieve}}
+use Rattle.nntp_wire.specs.{Listing.{listed_numbers, active_groups, overviews_of}, Answer.{Asked, Response, Success, success_code, to, group_is, numbers_are, sends}}
+use Rattle.nntp_wire.specs.{Answer.{active_are, overviews_are, plain}, Command.{Request, Target, by_id, by_number, current, group, list_group, next, last, retrieve}}
+use Rattle.nntp_wire.specs.{Command.{over, the_id, in_range, the_current}, declared.command.OverviewKeyword.{OverviewKeyword, TheVariants.{Over, Xover}}}
 use Rattle.nntp_wire.specs.{Command.{list_active}, declared.{command.What.{What}, range.Range.{Range}, water_marks.WaterMarks.{WaterMarks}}}
+
+-- ---- codes of a list
+
+same_code : (a b : ℕ) → IsTrue (a == b) → IsTrue (b == a)
+same_code a b t = grind (arith, nat_tests)
+
+-- the only one
+pub one_of_one : (a code : ℕ) → IsTrue (is_one_of (a ∷ []) code) → IsTrue (code == a)
+one_of_one a code t = elim (or_cases (a == code) false t) [ inl e ↦ same_code a code e | inr f ↦ absurd (false≢true f) ]
+
+-- one of two
+pub one_of_two : (a b code : ℕ) → IsTrue (is_one_of (a ∷ b ∷ []) code) → IsTrue (code == a) ⊎ IsTrue (code == b)
+one_of_two a b code t = elim (or_cases (a == code) ((b == code) || false) t) [ inl e ↦ inl (same_code a code e) | inr r ↦ inr (one_of_one b code r) ]
+
+-- ---- rows
 
 -- numbers that are listed ascend, and each is an article number in the range
 abbrev pub AreListed : Profile → Range → List ℕ → Type 0
@@ -27,6 +44,9 @@ pub data Row (profile : Profile) (v : Visible) (at : Position) (Fits : Type 0) :
   nowhere : (code : ℕ) → (Fits → IsTrue (is_some v.selected)) → Row profile v at Fits (plain code) (Asks (here v) (StandsNowhere at) ∷ [])
   top : (code : ℕ) → (Fits → IsTrue (is_some v.selected)) → Row profile v at Fits (plain code) (Asks (here v) (IsTop at) ∷ [])
   bottom : (code : ℕ) → (Fits → IsTrue (is_some v.selected)) → Row profile v at Fits (plain code) (Asks (here v) (IsBottom at) ∷ [])
+  none_within : (code : ℕ) (range : Range) → (Fits → IsTrue (is_some v.selected)) → Row profile v at Fits (plain code) (Asks (here v) (ListsIn range []) ∷ [])
+  within : (range : Range) (lines : List (List ℕ)) → (Fits → IsTrue (is_some v.selected) × AreListed profile range (overview_numbers (overviews_of lines)))
+      → Row profile v at Fits (overviews_are lines) (Asks (here v) (ListsIn range (overview_numbers (overviews_of lines))) ∷ [])
   lacks : (code n : ℕ) → (Fits → IsTrue (is_some v.selected)) → Row profile v at Fits (plain code) (Asks (here v) (Lacks n) ∷ [])
   marks : (m : WaterMarks) (name : Name) → (Fits → IsTrue (marks_fit profile v name m))
       → Row profile v at Fits (group_is m name) (ThereIs name ∷ Asks name (Estimates profile.marks m) ∷ [])
@@ -66,6 +86,16 @@ module _ (profile : Profile) (v : Visible) (at : Position) where
       → IsTrue (code == expected) → IsTrue (fits profile v (to command) (plain code)) → IsTrue (is_some v.selected)
   selected_by command code expected only t f = only (subst (λ c. IsTrue (fits profile v (to command) (plain c))) (eqb-true code expected t) f)
 
+  -- so that a range has no article is told of the selected group
+  none_selected : (keyword : OverviewKeyword) (range : Range) (code : ℕ) → IsTrue (is_one_of (none_in_range keyword) code)
+      → IsTrue (fits profile v (to (over keyword (in_range range))) (plain code)) → IsTrue (is_some v.selected)
+  none_selected Over range code t = selected_by (over Over (in_range range)) code 423 (λ h. h) (one_of_one 423 code t)
+  none_selected Xover range code t =
+      elim (one_of_two 420 423 code t) [
+        | inl e ↦ selected_by (over Xover (in_range range)) code 420 (λ h. h) e
+        | inr e ↦ selected_by (over Xover (in_range range)) code 423 (λ h. h) e
+      ]
+
   code_row : (command : Request) (code : ℕ) → RowOf (to command) (plain code) (facts_of_code v at command code)
   code_row (group word) code = on_row code (code == 411) _ (λ _. no_group code word)
   code_row (list_group (Some word) range) code = on_row code (code == 411) _ (λ _. no_group code word)
@@ -78,6 +108,9 @@ module _ (profile : Profile) (v : Visible) (at : Position) where
   code_row (retrieve what (by_id word)) code = on_row code (code == 430) _ (λ _. no_article code word)
   code_row (retrieve what (by_number (Some n))) code = on_row code (code == 423) _ (λ t. lacks code n (selected_by (retrieve what (by_number (Some n))) code 423 (λ h. h) t))
   code_row (retrieve what current) code = on_row code (code == 420) _ (λ t. nowhere code (selected_by (retrieve what current) code 420 (λ h. h) t))
+  code_row (over keyword (the_id word)) code = on_row code (code == 430) _ (λ _. no_article code word)
+  code_row (over keyword (in_range range)) code = on_row code (is_one_of (none_in_range keyword) code) _ (λ t. none_within code range (none_selected keyword range code t))
+  code_row (over keyword the_current) code = on_row code (code == 420) _ (λ t. nowhere code (selected_by (over keyword the_current) code 420 (λ h. h) t))
   code_row command code = nothing (plain code)
 
   -- ---- successes
@@ -127,6 +160,18 @@ module _ (profile : Profile) (v : Visible) (at : Position) where
       let ascending = and_parts (named && marks_fit profile v name m) _ each.0 in
       ((and_parts named _ ascending.0).1, (ascending.1, each.1))
 
+  -- the overviews of a range that fit
+  overviews_fit : (keyword : OverviewKeyword) (range : Range) (lines : List (List ℕ)) → IsTrue (fits profile v (to (over keyword (in_range range))) (overviews_are lines))
+      → IsTrue (is_some v.selected) × AreListed profile range (overview_numbers (overviews_of lines))
+  overviews_fit keyword range lines f =
+      let ns = overview_numbers (overviews_of lines) in
+      let chosen = is_some v.selected && may_list keyword (overviews_of lines) in
+      let each : ℕ → Bool = λ n. is_article_number profile.limit n && is_in_range range n in
+      let within = and_parts (chosen && is_ascending ns && list_all each ns) (all_differ (overview_ids (overviews_of lines))) f in
+      let ascending = and_parts (chosen && is_ascending ns) _ within.0 in
+      let here = and_parts chosen _ ascending.0 in
+      ((and_parts (is_some v.selected) _ here.0).0, (here.1, ascending.1))
+
   pub row : (p : Asked) (a : Response) → RowOf p a (facts_of profile.marks v at p a)
   row (to command) (plain code) = code_row command code
   row (to (group word)) (group_is m name) = marks m name (λ f. (and_parts (is_same name word) _ f).1)
@@ -137,4 +182,5 @@ module _ (profile : Profile) (v : Visible) (at : Position) where
   row (to (retrieve what (by_number n))) (sends s) = text_at what s (success_placed what (by_number n) s tt)
   row (to (retrieve what current)) (sends s) = text_here what s (success_placed what current s tt)
   row (to (list_active p)) (active_are lines) = active p lines (and_parts _ _)
+  row (to (over keyword (in_range range))) (overviews_are lines) = within range lines (overviews_fit keyword range lines)
   row p a = nothing a

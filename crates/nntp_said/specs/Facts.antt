@@ -1,12 +1,14 @@
 -- What each answer of a session says of the spool, with the current article read off the session.
 use Rattle.std.specs.{Prelude.{◌≡◌, ℕ, ◌==◌, if◌then◌else◌, List, [], ◌∷◌, ◌++◌, Option, None, Some, unwrap_or}, FinMap.{get}}
 use Rattle.nntp_article.specs.{Session.{Spool.{Spool, IsGroup, numbers, HasText, Name}, Machine.{Visible, visible_after, ActivesAgree}}, Article.Parts.{Id}}
+use Rattle.nntp_article.specs.Session.Machine.{is_one_of, none_in_range, overview_numbers}
 use Rattle.nntp_article.specs.Article.Parts.{Line}
 use Rattle.nntp_said.specs.Asks.{position_after, Ask, Meets, Estimates, ListsIn, Lacks, StandsAt, StandsNowhere, StepsUp, StepsDown, IsTop, IsBottom}
 use Rattle.nntp_said.specs.declared.position.Position.{Position}
-use Rattle.nntp_wire.specs.{Listing.{ActiveValue, listed_numbers, active_groups}, declared.{marks.Marks.{Marks}, command.What.{What}}, Command.{Request, by_id}}
-use Rattle.nntp_wire.specs.{Command.{by_number, current, group, next, last, retrieve, list_group, list_active}, Answer.{Asked, Response, to, group_is}}
-use Rattle.nntp_wire.specs.Answer.{numbers_are, sends, active_are, plain}
+use Rattle.nntp_wire.specs.{Listing.{ActiveValue, listed_numbers, active_groups, overviews_of}, declared.{marks.Marks.{Marks}, command.What.{What}}, Command.{Request, by_id}}
+use Rattle.nntp_wire.specs.{Command.{by_number, current, group, next, last, retrieve, list_group, list_active, over}, Answer.{Asked, Response, to, group_is}}
+use Rattle.nntp_wire.specs.Command.{the_id, in_range, the_current}
+use Rattle.nntp_wire.specs.Answer.{numbers_are, sends, active_are, overviews_are, plain}
 
 -- one thing that an answer says of the spool
 pub data Fact : Type 0 where
@@ -45,6 +47,9 @@ facts_of_code v at last code = on code 420 (Asks (here v) (StandsNowhere at)) ++
 facts_of_code v at (retrieve what (by_id word)) code = on code 430 (NoArticle word)
 facts_of_code v at (retrieve what (by_number (Some n))) code = on code 423 (Asks (here v) (Lacks n))
 facts_of_code v at (retrieve what current) code = on code 420 (Asks (here v) (StandsNowhere at))
+facts_of_code v at (over keyword (the_id word)) code = on code 430 (NoArticle word)
+facts_of_code v at (over keyword (in_range range)) code = if is_one_of (none_in_range keyword) code then Asks (here v) (ListsIn range []) ∷ [] else []
+facts_of_code v at (over keyword the_current) code = on code 420 (Asks (here v) (StandsNowhere at))
 facts_of_code v at command code = []
 
 -- what an answer says of the spool, where marks are read so
@@ -58,6 +63,7 @@ facts_of how v at (to (retrieve what (by_id word))) (sends sent) = TextIs what s
 facts_of how v at (to (retrieve what (by_number n))) (sends sent) = TextIs what sent.id sent.block ∷ IdAt (here v) sent.number sent.id ∷ []
 facts_of how v at (to (retrieve what current)) (sends sent) = TextIs what sent.id sent.block ∷ Asks (here v) (StandsAt at sent.number) ∷ IdAt (here v) sent.number sent.id ∷ []
 facts_of how v at (to (list_active p)) (active_are lines) = GroupsAre p (active_groups lines) ∷ []
+facts_of how v at (to (over keyword (in_range range))) (overviews_are lines) = Asks (here v) (ListsIn range (overview_numbers (overviews_of lines))) ∷ []
 facts_of how v at asked response = []
 
 -- the group of whose numbers facts speak, if they do: all facts of one answer speak of one

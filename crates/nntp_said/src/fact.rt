@@ -54,8 +54,8 @@ pub enum Ask<'s> {
     Lists {
         /// The range that was asked for.
         range: Range,
-        /// The lines, each of which is a number.
-        block: &'s Block<'s>,
+        /// The numbers.
+        listing: Listing<'s>,
     },
     /// The number isn't there.
     Lacks(u64),
@@ -71,4 +71,15 @@ pub enum Ask<'s> {
     IsTop(Position),
     /// No number is below the current article.
     IsBottom(Position),
+}
+
+/// The numbers that an answer lists.
+#[derive(Clone, Copy)]
+pub enum Listing<'s> {
+    /// None: a code alone tells that there is none.
+    Nothing,
+    /// The lines, each of which is a number (RFC 3977, section 6.1.2).
+    Numbers(&'s Block<'s>),
+    /// The lines, each of which is an overview with a number (RFC 3977, section 8.3).
+    Overviews(&'s Block<'s>),
 }

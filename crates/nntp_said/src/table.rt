@@ -1,21 +1,22 @@
 //! What each kind of answer says of the spool (RFC 3977, sections 6 and 7.6.3).
 ghost use Rattle.std.specs.Prelude.{◌≡◌, ℕ, [], ◌∷◌};
 ghost use Rattle.nntp_wire.specs.declared.marks.Marks.{Marks};
-ghost use Rattle.nntp_wire.specs.Inner.View.{asked, request, target};
+ghost use Rattle.nntp_wire.specs.Inner.View.{asked, overviewed, request, target};
 ghost use Rattle.nntp_wire.specs.Inner.AnswerView.{response};
 ghost use Rattle.nntp_wire.specs.Answer.{to, sends};
-ghost use Rattle.nntp_wire.specs.Command.{retrieve};
+ghost use Rattle.nntp_wire.specs.Command.{over, retrieve};
 ghost use Rattle.nntp_wire.specs.Listing.{listed_numbers};
 ghost use Rattle.nntp_article.specs.Session.Machine.{Visible};
 ghost use Rattle.nntp_said.specs.Asks.{Estimates, ListsIn};
 ghost use Rattle.nntp_said.specs.Facts.{Asks, IdAt, ThereIs, here, facts_of, facts_of_code};
-ghost use Rattle.nntp_said.specs.Inner.FactView.{ask_of, fact_of};
+ghost use Rattle.nntp_said.specs.Inner.FactView.{ask_of, fact_of, listing_of};
 
-use crate::fact::{Ask, Fact};
+use crate::fact::{Ask, Fact, Listing};
 use crate::position::Position;
 use crate::said_facts::SaidFacts;
 use nntp_wire::{
-    Answer, Block, Command, GroupName, Marks, MessageId, Prompt, Range, WaterMarks, What, Which,
+    Answer, Block, Command, GroupName, Marks, MessageId, OverviewKeyword, Prompt, Range, WaterMarks,
+    What, Which, WhichArticles,
 };
 
 /// Returns what an answer says where marks are read so, this group is selected, and the session
@@ -57,6 +58,15 @@ pub fn facts_of<'s>(
         (Prompt::To(Command::ListActive(wildmat)), Answer::Active(block)) => {
             SaidFacts::one(Fact::GroupsAre { wildmat, block })
         }
+        (
+            Prompt::To(
+                Command::Over {
+                    which: WhichArticles::Range(range),
+                    ..
+                },
+            ),
+            Answer::Overviews(block),
+        ) => lists(selected, *range, Listing::Overviews(block)),
         _ => SaidFacts::none(),
     }
 }
@@ -81,7 +91,13 @@ fn facts_of_numbers<'s>(
     SaidFacts::three(
         Fact::ThereIs(name),
         of_marks(how, name, marks),
-        Fact::Asks(name.as_slice(), Ask::Lists { range, block }),
+        Fact::Asks(
+            name.as_slice(),
+            Ask::Lists {
+                range,
+                listing: Listing::Numbers(block),
+            },
+        ),
     )
 }
 
@@ -126,6 +142,9 @@ fn facts_of_code<'s>(
         (Command::Next, 421) => asks(selected, Ask::IsTop(at)),
         (Command::Last, 422) => asks(selected, Ask::IsBottom(at)),
         (Command::Retrieve { which, .. }, code) => facts_of_failure(selected, at, which, code),
+        (Command::Over { keyword, which }, code) => {
+            facts_of_no_overview(selected, at, *keyword, which, code)
+        }
         _ => SaidFacts::none(),
     }
 }
@@ -135,6 +154,34 @@ fn asks<'s>(selected: &'s [u8], ask: Ask<'s>) -> SaidFacts<'s>
     ensures { result ≡ Asks selected.now (ask_of ask.entry) ∷ [] }
 {
     SaidFacts::one(Fact::Asks(selected, ask))
+}
+
+/// Returns that these are the numbers of the selected group in the range, and nothing else.
+fn lists<'s>(selected: &'s [u8], range: Range, listing: Listing<'s>) -> SaidFacts<'s>
+    ensures { result ≡ Asks selected.now (ListsIn range (listing_of listing.entry)) ∷ [] }
+{
+    asks(selected, Ask::Lists { range, listing })
+}
+
+/// Returns what a failure of OVER or XOVER says.
+fn facts_of_no_overview<'s>(
+    selected: &'s [u8],
+    at: Position,
+    keyword: OverviewKeyword,
+    which: &'s WhichArticles<'s>,
+    code: u64,
+) -> SaidFacts<'s>
+    ensures { (v : Visible) → selected.now ≡ here v → result ≡ facts_of_code v at (over keyword (overviewed which.now)) code }
+{
+    match (which, keyword, code) {
+        (WhichArticles::Id(word), _, 430) => SaidFacts::one(Fact::NoArticle(*word)),
+        (WhichArticles::Range(range), _, 423)
+        | (WhichArticles::Range(range), OverviewKeyword::Xover, 420) => {
+            lists(selected, *range, Listing::Nothing)
+        }
+        (WhichArticles::Current, _, 420) => asks(selected, Ask::StandsNowhere(at)),
+        _ => SaidFacts::none(),
+    }
 }
 
 /// Returns what a failure of ARTICLE, HEAD, BODY or STAT says.

@@ -15,7 +15,7 @@ use Rattle.nntp_article.specs.Session.Misfit.{wrong_code, wrong_name, wrong_numb
 use Rattle.nntp_article.specs.Session.Misfit.{unmatched, listed_twice, wrong_lines, no_head, other_id, name_misfit, marks_misfit, step_misfit, order_misfit}
 use Rattle.nntp_article.specs.Session.Misfit.{listed_misfit, selected_misfit, target_misfit, said_misfit, head_misfit, active_misfit, twice_misfit}
 use Rattle.nntp_article.specs.{Session.Misfit.{step_sent_misfit, code_misfit, misfit, allowed_codes, overview_misfit, answered_code}, Inner.Misfit.{marked_by}}
-use Rattle.nntp_article.specs.Inner.Misfit.{numbers_in, is_outside, is_unmatched, AreNeighbours, IsAbove, asked_group, asked_number, asked_id, answered_number}
+use Rattle.nntp_article.specs.Inner.Misfit.{numbers_of, is_outside, is_unmatched, AreNeighbours, IsAbove, asked_group, asked_number, asked_id, answered_number}
 use Rattle.nntp_article.specs.Inner.Misfit.{answered_id, sent_by, sent_head, listed_words, IsTwice, are_out_of_order, have_no_room, is_out_of_order}
 use Rattle.nntp_article.specs.{Inner.Misfit.{has_wrong_marks, has_wrong_lines, has_parts, lacks_parts}, declared.session.profile.Profile.{Profile}}
 
@@ -59,7 +59,7 @@ abbrev pub Tells : Profile → Visible → Asked → Response → Misfit → Typ
 Tells profile v asked response (wrong_code code allowed) = (code ≡ answered_code response) × (allowed ≡ allowed_codes v asked)
 Tells profile v asked response (below_low low) = MatchOption (marked_by response) ⊥ (IsAbove v low)
 Tells profile v asked response (beyond_limit n) = is_article_number profile.limit n ≡ false
-Tells profile v asked response (not_above before n) = AreNeighbours (numbers_in response) before n × (n ≤ before)
+Tells profile v asked response (not_above before n) = AreNeighbours (numbers_of response) before n × (n ≤ before)
 Tells profile v asked response (beyond_range n) = is_outside asked n ≡ true
 Tells profile v asked response (unmatched name) = is_unmatched asked name ≡ true
 Tells profile v asked response (wrong_name name) =
@@ -204,9 +204,9 @@ so_words profile v asked response = IfSome_then (twice_misfit [] (listed_words r
 
 -- ---- numbers that are listed
 
-so_ascending : (profile : Profile) (v : Visible) (asked : Asked) (response : Response) → IfSome (order_misfit None (numbers_in response)) (Tells profile v asked response)
+so_ascending : (profile : Profile) (v : Visible) (asked : Asked) (response : Response) → IfSome (order_misfit None (numbers_of response)) (Tells profile v asked response)
 so_ascending profile v asked response =
-    IfSome_then (order_misfit None (numbers_in response)) (so_numbers (numbers_in response)) (λ why f. subst (Tells profile v asked response) (sym f.is) (f.neighbours, f.falls))
+    IfSome_then (order_misfit None (numbers_of response)) (so_numbers (numbers_of response)) (λ why f. subst (Tells profile v asked response) (sym f.is) (f.neighbours, f.falls))
 
 so_within : (profile : Profile) (v : Visible) (asked : Asked) (response : Response) (range : Range) → ((n : ℕ) → is_outside asked n ≡ not (is_in_range range n))
     → (ns : List ℕ) → IfSome (first (map (listed_misfit profile.limit range) ns)) (Tells profile v asked response)

@@ -75,20 +75,16 @@ abbrev pub groups_of : Response → List ActiveValue
 groups_of (active_are lines) = active_groups lines
 groups_of response = []
 
--- the numbers that the answer lists (section 6.1.2)
+-- the numbers that the answer lists, by themselves or with overviews (sections 6.1.2 and 8.3)
 abbrev pub numbers_of : Response → List ℕ
 numbers_of (numbers_are m name lines) = listed_numbers lines
+numbers_of (overviews_are lines) = overview_numbers (overviews_of lines)
 numbers_of response = []
 
 -- the overviews that the answer lists (section 8.3)
 abbrev pub overviews_in : Response → List OverviewValue
 overviews_in (overviews_are lines) = overviews_of lines
 overviews_in response = []
-
--- the numbers that the answer lists, by themselves or with overviews (sections 6.1.2 and 8.3)
-abbrev pub numbers_in : Response → List ℕ
-numbers_in (overviews_are lines) = overview_numbers (overviews_of lines)
-numbers_in response = numbers_of response
 
 -- the names of the groups, or the ids, that the answer lists (sections 7.6.3 and 8.3)
 abbrev pub listed_words : Response → List (List ℕ)

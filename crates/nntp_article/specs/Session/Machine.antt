@@ -208,7 +208,9 @@ CodeAgrees S s last code =
 CodeAgrees S s (retrieve what (by_id word)) code = get S.articles word ≡ None
 CodeAgrees S s (retrieve what (by_number n)) code = cond (code == 412) ⊤ (IfSome n (λ n. get (selected_numbers S s.visible) n ≡ None))
 CodeAgrees S s (retrieve what current) code = cond (code == 412) ⊤ (s.current ≡ None)
-CodeAgrees S s (over keyword which) code = ⊤
+CodeAgrees S s (over keyword (the_id word)) code = get S.articles word ≡ None
+CodeAgrees S s (over keyword (in_range range)) code = cond (code == 412) ⊤ (Lists (selected_numbers S s.visible) range [])
+CodeAgrees S s (over keyword the_current) code = cond (code == 412) ⊤ (s.current ≡ None)
 CodeAgrees S s opaque code = ⊤
 CodeAgrees S s command code = ⊥
 
@@ -224,6 +226,11 @@ ActivesAgree S p lines =
     ((name : Name) → Contains (map (λ line. line.name) lines) name ↔ (IsGroup S name × IfSome p (λ w. MatchesName w name)))
     × All (λ line. (n : ℕ) → IsNumber (numbers S line.name) n → (line.low ≤ n) × (n ≤ line.high)) lines
 
+-- the overviews of a range are of the numbers that the selected group has in it
+abbrev pub OverviewsAgree : Spool → State → Overviewed → List OverviewValue → Type 0
+OverviewsAgree S s (in_range range) overviews = Lists (selected_numbers S s.visible) range (overview_numbers overviews)
+OverviewsAgree S s which overviews = ⊤
+
 -- the condition over the spool of an answer that fits, a row each: what no row names agrees with no spool
 abbrev pub Agrees : Marks → Spool → State → Asked → Response → Type 0
 Agrees marks S s greeting (plain code) = ⊤
@@ -236,7 +243,7 @@ Agrees marks S s (to last) (sends sent) =
     MatchOption s.current ⊥ (λ c. IsNextBelow (selected_numbers S s.visible) c sent.number) × (get (selected_numbers S s.visible) sent.number ≡ Some sent.id)
 Agrees marks S s (to (retrieve what which)) (sends sent) = HasText S what sent.id sent.block × NumberAgrees S s which sent
 Agrees marks S s (to (list_active p)) (active_are lines) = ActivesAgree S p (active_groups lines)
-Agrees marks S s (to (over keyword which)) (overviews_are lines) = ⊤
+Agrees marks S s (to (over keyword which)) (overviews_are lines) = OverviewsAgree S s which (overviews_of lines)
 Agrees marks S s asked response = ⊥
 
 -- ---- the new state

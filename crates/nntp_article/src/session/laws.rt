@@ -10,7 +10,7 @@ ghost use Rattle.nntp_article.specs.Session.Misfit.{beyond_range, unmatched, lis
 ghost use Rattle.nntp_article.specs.Inner.Misfit.{has_wrong_marks, has_wrong_lines, lacks_parts};
 ghost use Rattle.nntp_article.specs.Inner.Misfit.{asked_group, asked_number, asked_id, answered_number, answered_id, sent_by, sent_head, listed_words, IsTwice};
 ghost use Rattle.nntp_article.specs.Session.Misfit.{allowed_codes, answered_code};
-ghost use Rattle.nntp_article.specs.Inner.Misfit.{is_success, marked_by, numbers_in, is_outside, is_unmatched, AreNeighbours, IsAbove};
+ghost use Rattle.nntp_article.specs.Inner.Misfit.{is_success, marked_by, numbers_of, is_outside, is_unmatched, AreNeighbours, IsAbove};
 ghost use Rattle.nntp_wire.specs.Answer.{Asked, Response, plain};
 
 /// An answer that some spool permits meets the visible condition, and the visible state after it is
@@ -67,7 +67,7 @@ pub fn reasons_are_so()
     ensures limit { (profile : Profile) (v : Visible) (asked : Asked) (response : Response) (number : ℕ)
         → misfit profile v asked response ≡ Some (beyond_limit number) → IsFalse (is_article_number profile.limit number) }
     ensures order { (profile : Profile) (v : Visible) (asked : Asked) (response : Response) (before number : ℕ)
-        → misfit profile v asked response ≡ Some (not_above before number) → AreNeighbours (numbers_in response) before number × (number ≤ before) }
+        → misfit profile v asked response ≡ Some (not_above before number) → AreNeighbours (numbers_of response) before number × (number ≤ before) }
     ensures range { (profile : Profile) (v : Visible) (asked : Asked) (response : Response) (number : ℕ)
         → misfit profile v asked response ≡ Some (beyond_range number) → IsTrue (is_outside asked number) }
     ensures matched { (profile : Profile) (v : Visible) (asked : Asked) (response : Response) (name : Name)

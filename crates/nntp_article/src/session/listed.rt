@@ -1,8 +1,10 @@
 //! What an answer lists (RFC 3977, sections 6.1.2, 7.6.3 and 8.3).
 ghost use Rattle.std.specs.Prelude.{◌≡◌, IfOk, map};
+ghost use Rattle.nntp_wire.specs.Answer.{overviews_are};
 ghost use Rattle.nntp_wire.specs.Listing.{active_groups, listed_numbers, overviews_of};
 ghost use Rattle.nntp_wire.specs.Inner.View.{active_value, overview_value};
 ghost use Rattle.nntp_wire.specs.Inner.AnswerView.{response};
+ghost use Rattle.nntp_article.specs.Session.Machine.{overview_numbers};
 ghost use Rattle.nntp_article.specs.Inner.Listed.{lists, lists_of};
 
 use nntp_wire::{ActiveLine, Answer, Block, OverviewLine};
@@ -18,7 +20,12 @@ pub enum Listed<'a, A: Allocator = Global> {
     /// The groups of a 215 to LIST ACTIVE (RFC 3977, section 7.6.3).
     Groups(Vec<ActiveLine<'a>, A>),
     /// The overviews of a 224 to OVER or XOVER (RFC 3977, section 8.3).
-    Overviews(Vec<OverviewLine<'a>, A>),
+    Overviews {
+        /// The number of each.
+        numbers: Vec<u64, A>,
+        /// The overviews, in the order of their lines.
+        overviews: Vec<OverviewLine<'a>, A>,
+    },
 }
 
 impl<'a, A: Allocator + Copy> Listed<'a, A> {
@@ -33,19 +40,29 @@ impl<'a, A: Allocator + Copy> Listed<'a, A> {
         match answer {
             Answer::Numbers { block, .. } => Ok(Listed::Numbers(numbers_in(alloc, block)?)),
             Answer::Active(block) => Ok(Listed::Groups(groups_in(alloc, block)?)),
-            Answer::Overviews(block) => Ok(Listed::Overviews(overviews_in(alloc, block)?)),
+            Answer::Overviews(block) => Listed::of_overviews(alloc, block),
             _ => Ok(Listed::Nothing),
         }
+    }
+
+    /// Reads the overviews that the lines are.
+    fn of_overviews(alloc: A, block: &Block<'a>) -> Result<Listed<'a, A>, AllocError>
+        ensures { IfOk result (λ listed. lists listed ≡ lists_of (overviews_are block.now)) }
+    {
+        let overviews = overviews_in(alloc, block)?;
+        let numbers = numbers_of_overviews(alloc, &overviews)?;
+        Ok(Listed::Overviews { numbers, overviews })
     }
 }
 
 impl<'a, A: Allocator> Listed<'a, A> {
-    /// The numbers that are listed by themselves. None where overviews are.
+    /// The numbers that are listed, by themselves or with overviews.
     pub fn numbers(&self) -> &[u64]
         ensures { result.now ≡ (lists self.now).numbers }
     {
         match self {
             Listed::Numbers(numbers) => numbers,
+            Listed::Overviews { numbers, .. } => numbers,
             _ => &[],
         }
     }
@@ -65,7 +82,7 @@ impl<'a, A: Allocator> Listed<'a, A> {
         ensures { map overview_value result.now ≡ (lists self.now).overviews }
     {
         match self {
-            Listed::Overviews(overviews) => overviews,
+            Listed::Overviews { overviews, .. } => overviews,
             _ => &[],
         }
     }
@@ -108,4 +125,18 @@ fn overviews_in<'a, A: Allocator + Copy>(
         overviews.push(overview)?;
     }
     Ok(overviews)
+}
+
+/// Collects the numbers of overviews.
+fn numbers_of_overviews<A: Allocator + Copy>(
+    alloc: A,
+    overviews: &[OverviewLine<'_>],
+) -> Result<Vec<u64, A>, AllocError>
+    ensures { IfOk result (λ numbers. numbers.items ≡ overview_numbers (map overview_value overviews.now)) }
+{
+    let mut numbers = Vec::new(alloc);
+    for overview in overviews {
+        numbers.push(overview.number)?;
+    }
+    Ok(numbers)
 }

@@ -3,13 +3,14 @@ use Rattle.std.proofs.Common.{◌≡◌, ℕ, ◌<◌, ◌^◌, get_or, true, Is
 use Rattle.std.{proofs.lemmas.Bool.{true≢false}, specs.Prelude.{IfSome, option_map, unwrap_or}}
 use Rattle.nntp_article.specs.{Article.Parts.{Id}, Session.{Spool.{Name}, Machine.{Visible, fits}}, declared.session.profile.Profile.{Profile}}
 use Rattle.nntp_article.specs.Inner.Misfit.{groups_of, numbers_of}
-use Rattle.nntp_wire.specs.{Answer.{Asked, Response}, Listing.{ActiveValue, active_groups, listed_numbers}, declared.{marks.Marks.{Marks}, range.Range.{Range}}}
+use Rattle.nntp_article.specs.Session.Machine.{overview_numbers}
+use Rattle.nntp_wire.specs.{Answer.{Asked, Response}, Listing.{ActiveValue, active_groups, listed_numbers, overviews_of}, declared.{marks.Marks.{Marks}, range.Range.{Range}}}
 use Rattle.nntp_wire.specs.declared.water_marks.WaterMarks.{WaterMarks}
 use Rattle.nntp_said.specs.{declared.position.Position.{Position}, Asks.{Ask, Estimates, ListsIn, Has, Lacks, StandsAt, StandsNowhere, StepsUp, StepsDown}}
 use Rattle.nntp_said.specs.{Asks.{IsTop, IsBottom}, Facts.{Fact, ThereIs, Asks, IdAt, here, facts_of, group_of}}
 use Rattle.nntp_theory.specs.Given.{is_shown_group}
 use Rattle.nntp_numbers.specs.Inner.{Part.{Said, Says, AreListable}, PartOf.{IsSmall, nothing_said, part_with}, Summary.{AreBounded}}
-use Rattle.nntp_numbers.proofs.{SaidInARange.{says_range}, SaidOfAsks.{said_small, says_marks, marks_bounded, says_has, says_lacks, says_stands, says_nowhere}}
+use Rattle.nntp_numbers.proofs.{SaidInARange.{says_range, says_listed}, SaidOfAsks.{said_small, says_marks, marks_bounded, says_has, says_lacks, says_stands, says_nowhere}}
 use Rattle.nntp_numbers.proofs.SaidOfAsks.{says_up, says_down, says_top, says_bottom}
 use Rattle.nntp_facts.specs.Inner.Saying.{AreListed, Saying, TellsHere, IsSelectedShown, IsShownThen, nothing, numbers_shown, saying_by}
 use Rattle.nntp_facts.{specs.declared.saying.GroupPart.{GroupPart}, proofs.Keeping.FittingAnswers.{listable, may_list, numbered}}
@@ -94,6 +95,11 @@ module _ (v : Visible) (facts : List Fact) (is_shown : IsSelectedShown v facts) 
   said_row {at = at} fit (rows.nowhere code known) f small = ask_row [] (StandsNowhere at) (known f) (λ _. says_nowhere [] at) small
   said_row {at = at} fit (rows.top code known) f small = ask_row [] (IsTop at) (known f) (λ small. says_top [] at small.high) small
   said_row {at = at} fit (rows.bottom code known) f small = ask_row [] (IsBottom at) (known f) (λ _. says_bottom [] at) small
+  said_row {profile} fit (rows.none_within code range known) f small =
+      ask_row [] (ListsIn range []) (known f) (λ small. says_listed range [] fit small (listable profile range [] (refl, refl))) small
+  said_row {profile} fit (rows.within range lines known) f small =
+      let ns = overview_numbers (overviews_of lines) in
+      ask_row ns (ListsIn range ns) (known f).0 (λ small. says_listed range ns fit small (listable profile range ns (known f).1)) small
   said_row fit (rows.lacks code n known) f small = ask_row [] (Lacks n) (known f) (λ small. says_lacks [] n small.last) small
   said_row {profile} fit (rows.marks m name known) f small =
       tells_marks facts name _ profile.marks m _ _ (says_marks [] profile.marks m small.high) (marks_bounded profile.marks m small.high) refl refl

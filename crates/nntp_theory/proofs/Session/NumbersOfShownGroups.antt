@@ -3,7 +3,7 @@ use Rattle.nntp_wire.specs.{declared.{marks.Marks.{Marks}, water_marks.WaterMark
 use Rattle.std.{proofs.Common.{◌≡◌, IsTrue, List, [], ◌∷◌, Some, is_some, arith}, specs.{Prelude.{⊤}, List.{AllByRecursion}}}
 use Rattle.nntp_article.specs.{Session.{Spool.{Name}, Machine.{Visible, visible_after, start, fits}}, declared.session.profile.Profile.{Profile}}
 use Rattle.nntp_said.specs.{Asks.{position_after, Estimates}, declared.position.Position.{Position, TheVariants.{Nowhere}}, Facts.{Fact, ThereIs, Asks, IdAt}}
-use Rattle.nntp_said.{specs.{Facts.{here, facts_of, facts_from}, Inner.Facts.{FitsAll}}, proofs.Rows.{Row, row, nowhere, top, bottom, lacks, marks, listing}}
+use Rattle.nntp_said.{specs.{Facts.{here, facts_of, facts_from}, Inner.Facts.{FitsAll}}, proofs.Rows.{Row, row, nowhere, top, bottom, none_within, within, lacks, marks, listing}}
 use Rattle.nntp_said.proofs.Rows.{up, down, text_at, text_here}
 use Rattle.nntp_theory.{specs.Given.{facts_of_session}, proofs.Members.{In, all_both, all_front, all_back, all_from}}
 
@@ -42,6 +42,8 @@ row_placed : {profile : Profile} {v : Visible} {at : Position} {Fits : Type 0} {
 row_placed {profile} {v} all (nowhere code known) f stands h = (here_stands profile.marks all v stands (known f), tt)
 row_placed {profile} {v} all (top code known) f stands h = (here_stands profile.marks all v stands (known f), tt)
 row_placed {profile} {v} all (bottom code known) f stands h = (here_stands profile.marks all v stands (known f), tt)
+row_placed {profile} {v} all (none_within code range known) f stands h = (here_stands profile.marks all v stands (known f), tt)
+row_placed {profile} {v} all (within range lines known) f stands h = (here_stands profile.marks all v stands (known f).0, tt)
 row_placed {profile} {v} all (lacks code n known) f stands h = (here_stands profile.marks all v stands (known f), tt)
 row_placed {profile} all (marks m name known) f stands h = let g = selectable profile.marks all name m h in (g, (g, tt))
 row_placed {profile} all (listing m name range lines known) f stands h = let g = selectable profile.marks all name m (h.0, (h.1.0, tt)) in (g, (g, (g, tt)))

@@ -59,8 +59,7 @@ impl<A: Allocator + Copy> Visible<A> {
     }
 
     /// Why the answer can't follow the prompt, as [`misfit`](Visible::misfit) tells, where what it lists
-    /// was read before. Only the names of these groups, and the numbers and ids of these overviews, need
-    /// memory.
+    /// was read before. Only the names of these groups, and the ids of these overviews, need memory.
     ///
     /// # Errors
     ///
@@ -91,7 +90,7 @@ impl<A: Allocator + Copy> Visible<A> {
                 block,
             } => Ok(self.sent_misfit(profile, prompt, *code, *number, id.as_slice(), block)),
             Answer::Active(_) => self.active_misfit(profile, prompt, listed.groups()),
-            Answer::Overviews(_) => { self.overviews_misfit(profile, prompt, listed.overviews()) }
+            Answer::Overviews(_) => self.overviews_misfit(profile, prompt, listed),
         }
     }
 

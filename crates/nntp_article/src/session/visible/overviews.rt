@@ -2,12 +2,13 @@
 ghost use Rattle.std.specs.Prelude.{◌≡◌, IfOk, List, ℕ, map, []};
 ghost use Rattle.nntp_wire.specs.Answer.{overviews_are};
 ghost use Rattle.nntp_wire.specs.Command.{in_range};
-ghost use Rattle.nntp_wire.specs.Listing.{overviews_of};
 ghost use Rattle.nntp_wire.specs.Inner.View.{asked, overview_value, overviewed, target};
 ghost use Rattle.nntp_article.specs.Session.Machine.{overview_numbers, overview_ids, only, may_list};
 ghost use Rattle.nntp_article.specs.Session.Misfit.{misfit, overview_misfit, overviews_misfit, twice_misfit};
+ghost use Rattle.nntp_article.specs.Inner.Listed.{lists, lists_of};
 ghost use Rattle.nntp_article.specs.Inner.MisfitView.{why, why_if};
 
+use crate::session::listed::Listed;
 use crate::session::misfit::Misfit;
 use crate::session::profile::Profile;
 use crate::session::visible::Visible;
@@ -15,20 +16,6 @@ use crate::session::visible::numbers::numbers_misfit;
 use nntp_wire::{Command, OverviewKeyword, OverviewLine, Prompt, Range, Which, WhichArticles};
 use std::alloc::{AllocError, Allocator};
 use std::collections::BTreeSet;
-
-/// Collects the numbers of overviews.
-fn overview_numbers<A: Allocator + Copy>(
-    alloc: A,
-    overviews: &[OverviewLine<'_>],
-) -> Result<Vec<u64, A>, AllocError>
-    ensures { IfOk result (λ numbers. numbers.items ≡ overview_numbers (map overview_value overviews.now)) }
-{
-    let mut numbers = Vec::new(alloc);
-    for overview in overviews {
-        numbers.push(overview.number)?;
-    }
-    Ok(numbers)
-}
 
 /// Why the ids don't fit, if they don't: the first that an earlier line has too.
 fn ids_misfit<'a, A: Allocator + Copy>(
@@ -82,56 +69,58 @@ impl<A: Allocator> Visible<A> {
 }
 
 impl<A: Allocator + Copy> Visible<A> {
-    /// Why the overviews don't fit the range that was asked for, if they don't.
+    /// Why the overviews that are listed don't fit the range that was asked for, if they don't.
     fn range_misfit<'a>(
         &self,
         profile: Profile,
         wrong_code: Misfit<'a>,
         keyword: OverviewKeyword,
         range: Range,
-        overviews: &[OverviewLine<'a>],
+        listed: &Listed<'a, A>,
     ) -> Result<Option<Misfit<'a>>, AllocError>
-        ensures { IfOk result (λ reason. why_if reason
-            ≡ overviews_misfit profile self.now (why wrong_code.entry) keyword (in_range range) (map overview_value overviews.now)) }
+        ensures { IfOk result (λ reason. (lists listed.now).numbers ≡ overview_numbers (lists listed.now).overviews
+            → why_if reason ≡ overviews_misfit profile self.now (why wrong_code.entry) keyword (in_range range) (lists listed.now).overviews) }
     {
         if !self.is_selected() {
             return Ok(Some(wrong_code));
         }
+        let overviews = listed.overviews();
         if !may_list(keyword, overviews) {
             return Ok(Some(Misfit::WrongLines));
         }
-        let numbers = overview_numbers(self.alloc, overviews)?;
-        if let Some(why) = numbers_misfit(profile.limit, range, &numbers) {
+        if let Some(why) = numbers_misfit(profile.limit, range, listed.numbers()) {
             return Ok(Some(why));
         }
         ids_misfit(self.alloc, overviews)
     }
 
-    /// Why the overviews don't fit what was asked for, if they don't. The code is at fault where no
-    /// group is selected, unless an id was asked for.
+    /// Why the overviews that are listed don't fit what was asked for, if they don't. The code is at
+    /// fault where no group is selected, unless an id was asked for.
     fn asked_overviews_misfit<'a>(
         &self,
         profile: Profile,
         wrong_code: Misfit<'a>,
         keyword: OverviewKeyword,
         which: &WhichArticles<'_>,
-        overviews: &[OverviewLine<'a>],
+        listed: &Listed<'a, A>,
     ) -> Result<Option<Misfit<'a>>, AllocError>
-        ensures { IfOk result (λ reason. why_if reason
-            ≡ overviews_misfit profile self.now (why wrong_code.entry) keyword (overviewed which.now) (map overview_value overviews.now)) }
+        ensures { IfOk result (λ reason. (lists listed.now).numbers ≡ overview_numbers (lists listed.now).overviews
+            → why_if reason ≡ overviews_misfit profile self.now (why wrong_code.entry) keyword (overviewed which.now) (lists listed.now).overviews) }
     {
         match which {
             WhichArticles::Range(range) => {
-                self.range_misfit(profile, wrong_code, keyword, *range, overviews)
+                self.range_misfit(profile, wrong_code, keyword, *range, listed)
             }
             WhichArticles::Id(word) => {
-                Ok(self.overview_misfit(profile, wrong_code, &Which::Id(*word), overviews))
+                let which = Which::Id(*word);
+                Ok(self.overview_misfit(profile, wrong_code, &which, listed.overviews()))
             }
             WhichArticles::Current => {
                 if !self.is_selected() {
                     return Ok(Some(wrong_code));
                 }
-                Ok(self.overview_misfit(profile, wrong_code, &Which::Current, overviews))
+                let which = Which::Current;
+                Ok(self.overview_misfit(profile, wrong_code, &which, listed.overviews()))
             }
         }
     }
@@ -141,15 +130,15 @@ impl<A: Allocator + Copy> Visible<A> {
         &self,
         profile: Profile,
         prompt: &Prompt<'_>,
-        overviews: &[OverviewLine<'a>],
+        listed: &Listed<'a, A>,
     ) -> Result<Option<Misfit<'a>>, AllocError>
-        ensures { IfOk result (λ reason. (lines : List (List ℕ)) → map overview_value overviews.now ≡ overviews_of lines
+        ensures { IfOk result (λ reason. (lines : List (List ℕ)) → lists listed.now ≡ lists_of (overviews_are lines)
             → why_if reason ≡ misfit profile self.now (asked prompt.now) (overviews_are lines)) }
     {
         let wrong_code = self.code_misfit(prompt, 224);
         match prompt {
             Prompt::To(Command::Over { keyword, which }) => {
-                self.asked_overviews_misfit(profile, wrong_code, *keyword, which, overviews)
+                self.asked_overviews_misfit(profile, wrong_code, *keyword, which, listed)
             }
             _ => Ok(Some(wrong_code)),
         }

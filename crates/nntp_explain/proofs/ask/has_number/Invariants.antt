@@ -1,6 +1,6 @@
 use Rattle.std.{proofs.Common.{◌≡◌, ◌==◌}, specs.List.{list_any}}
 use Rattle.nntp_wire.specs.Listing.{listed_numbers}
-use Rattle.nntp_explain.proofs.ask.lists.Given as goal
+use Rattle.nntp_explain.proofs.ask.has_number.Given as goal
 
 -- the number is among those that are left, if it is listed at all
 abbrev pub invariant-loop-listed : goal.invariant-loop-listed
