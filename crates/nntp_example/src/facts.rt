@@ -20,7 +20,7 @@ fn is_asked(place: u64, ask: &Ask<'_>) -> bool {
 }
 
 /// Whether the lines of the head are sent.
-fn is_head(what: What, block: &Option<Block<'_>>) -> bool {
+fn is_head(what: What, block: Option<&Block<'_>>) -> bool {
     match block {
         Some(block) => what == What::Head && are_head_lines(block.lines()),
         None => false,
@@ -46,7 +46,7 @@ fn says_group(fact: &Fact<'_>) -> bool {
 /// Whether this is that the group has the id at the number 2.
 fn says_id(fact: &Fact<'_>) -> bool {
     match fact {
-        Fact::IdAt(name, number, id) => *name == NAME && *number == 2 && id.as_slice() == ID,
+        Fact::IdAt(name, number, id) => *name == NAME && *number == 2 && id.as_bytes() == ID,
         _ => false,
     }
 }
@@ -54,7 +54,7 @@ fn says_id(fact: &Fact<'_>) -> bool {
 /// Whether this is that the id has this head.
 fn says_head(fact: &Fact<'_>) -> bool {
     match fact {
-        Fact::TextIs { what, id, block } => id.as_slice() == ID && is_head(*what, *block),
+        Fact::TextIs { what, id, block } => id.as_bytes() == ID && is_head(*what, *block),
         _ => false,
     }
 }

@@ -1,5 +1,5 @@
 //! What an answer sends of heads and bodies, as `explain` prints it.
-ghost use Rattle.std.specs.Prelude.{◌≡◌, ◌++◌, ◌<◌, ◌-◌, ◌^◌, [], Some, IfSome, OnOk, codes, decimal, length, slice_get};
+ghost use Rattle.std.specs.Prelude.{◌≡◌, ◌++◌, ◌<◌, ◌-◌, ◌^◌, [], Some, IfSome, OnOk, codes, decimal, length, option_map, slice_get};
 ghost use Rattle.std.specs.Option.{option_copied, option_map_or};
 ghost use Rattle.nntp_article.specs.Article.Parts.{head_part, body_part};
 ghost use Rattle.nntp_facts.specs.Inner.Articles.{head_sent, body_sent};
@@ -12,8 +12,8 @@ use nntp_wire::{Block, What};
 use std::alloc::{AllocError, Allocator};
 
 /// The head that is sent, if one is.
-pub(crate) fn head_of<'a>(what: What, block: &Option<Block<'a>>) -> Option<Block<'a>>
-    ensures { result ≡ head_sent what block.now }
+pub(crate) fn head_of<'a>(what: What, block: Option<&Block<'a>>) -> Option<Block<'a>>
+    ensures { result ≡ head_sent what (option_map (λ b. b.now) block.entry) }
 {
     match (what, block) {
         (What::Article, Some(lines)) => {
@@ -26,8 +26,8 @@ pub(crate) fn head_of<'a>(what: What, block: &Option<Block<'a>>) -> Option<Block
 }
 
 /// The body that is sent, if one is.
-pub(crate) fn body_of<'a>(what: What, block: &Option<Block<'a>>) -> Option<Block<'a>>
-    ensures { result ≡ body_sent what block.now }
+pub(crate) fn body_of<'a>(what: What, block: Option<&Block<'a>>) -> Option<Block<'a>>
+    ensures { result ≡ body_sent what (option_map (λ b. b.now) block.entry) }
 {
     match (what, block) {
         (What::Article, Some(lines)) => {

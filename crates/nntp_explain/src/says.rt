@@ -1,5 +1,5 @@
 //! What an answer says about the point of a conflict, as `explain` prints it.
-ghost use Rattle.std.specs.Prelude.{◌≡◌, ◌++◌, ◌<◌, ◌-◌, ◌^◌, None, IfSome, OnOk, length};
+ghost use Rattle.std.specs.Prelude.{◌≡◌, ◌++◌, ◌<◌, ◌-◌, ◌^◌, None, IfSome, OnOk, length, option_map};
 ghost use Rattle.std.specs.List.{list_any};
 ghost use Rattle.nntp_wire.specs.Listing.{active_groups};
 ghost use Rattle.nntp_article.specs.Session.Machine.{is_same};
@@ -56,9 +56,9 @@ fn put_fact<A: Allocator + Copy>(
         Fact::ThereIs(name) => put_there_is(text, about, name.as_slice()),
         Fact::ThereIsNo(name) => put_there_is_no(text, about, *name),
         Fact::Asks(name, ask) => put_ask(text, about, *name, ask),
-        Fact::IdAt(name, number, id) => put_id_at(text, about, *name, *number, id.as_slice()),
+        Fact::IdAt(name, number, id) => put_id_at(text, about, *name, *number, id.as_bytes()),
         Fact::TextIs { what, id, block } => {
-            put_text_is(text, about, *what, id.as_slice(), *block)
+            put_text_is(text, about, *what, id.as_bytes(), *block)
         }
         Fact::NoArticle(id) => put_no_article(text, about, *id),
         Fact::GroupsAre { wildmat, block } => put_groups(text, about, *wildmat, *block),
@@ -155,10 +155,10 @@ fn put_text_is<A: Allocator + Copy>(
     about: &About<'_>,
     what: What,
     id: &[u8],
-    block: &Option<Block<'_>>,
+    block: Option<&Block<'_>>,
 ) -> Result<(), AllocError>
     requires { IfSome about.now.line (λ place. place < 2 ^ 64 - 1) }
-    ensures { OnOk result (text.new.items ≡ text.old.items ++ says about.now.line (point_of about.now.point) (TextIs what id.now block.now)) }
+    ensures { OnOk result (text.new.items ≡ text.old.items ++ says about.now.line (point_of about.now.point) (TextIs what id.now (option_map (λ b. b.now) block.entry))) }
 {
     match &about.point {
         Point::Article(other) if is_same(id, *other) => {

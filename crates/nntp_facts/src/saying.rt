@@ -19,7 +19,7 @@ ghost use Rattle.nntp_numbers.specs.Inner.Summary.{AreBounded};
 
 use nntp_numbers::NumbersPart;
 use nntp_said::{Ask, Fact, Position, SaidFacts, facts_of};
-use nntp_wire::{ActiveLine, Answer, Block, GroupName, Marks, MessageId, Prompt, What, Wildmat};
+use nntp_wire::{ActiveLine, Answer, Block, GroupName, Marks, Prompt, What, Wildmat};
 use std::slice;
 
 /// A number of a group, and the message-id that it has.
@@ -92,7 +92,7 @@ pub(crate) enum ArticlePart<'s> {
         /// The parts of the article that the command asks for.
         what: What,
         /// The lines that are sent, if any are.
-        block: &'s Option<Block<'s>>,
+        block: Option<&'s Block<'s>>,
     },
 }
 
@@ -176,7 +176,7 @@ impl<'s> Saying<'s> {
             Fact::IdAt(name, number, id) => self.add_id(*name, *number, *id, shown),
             Fact::TextIs { what, id, block } => {
                 self.article = Some(ArticlePart::Sends {
-                    id: id.as_str(),
+                    id: *id,
                     what: *what,
                     block: *block,
                 });
@@ -200,10 +200,9 @@ impl<'s> Saying<'s> {
     }
 
     /// Says too that the number of the group has the id, and that this has an article.
-    fn add_id(&mut self, name: &'s [u8], number: u64, id: &'s MessageId<'s>, shown: &'s [u64])
+    fn add_id(&mut self, name: &'s [u8], number: u64, id: &'s str, shown: &'s [u64])
         ensures { saying_of self.new ≡ saying_with shown.now (IdIs name.now number id.now) (saying_of self.old) }
     {
-        let id = id.as_str();
         let group = self
             .group
             .get_or_insert_with(|| GroupPart::of_number(name, number, shown));

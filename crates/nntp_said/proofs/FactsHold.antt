@@ -1,15 +1,16 @@
 -- A spool permits a session exactly if each answer fits and all that the answers say holds of it.
-use Rattle.nntp_wire.specs.{declared.marks.Marks.{Marks}, Answer.{Asked, Response, greeting, to, sends, overviews_are, plain}, Command.{Request, by_id, by_number, current}}
+use Rattle.nntp_wire.specs.{declared.marks.Marks.{Marks}, Answer.{Asked, Response, Success, greeting, to, sends, overviews_are, plain}, Command.{Request, Target, by_id, by_number, current}}
 use Rattle.nntp_wire.specs.{Command.{group, list_group, next, last, retrieve, over, the_id, in_range, the_current}, declared.command.OverviewKeyword.TheVariants.{Over, Xover}}
+use Rattle.nntp_wire.specs.{Listing.{OverviewValue, overviews_of}, declared.command.What.{What, TheVariants.{Stat}}}
 use Rattle.std.proofs.Common.{◌≡◌, ℕ, Bool, true, false, cond, ◌==◌, ◌&&◌, ◌||◌, ◌↔◌, ◌⊎◌, inl, inr, IsTrue, List, [], ◌∷◌, ◌++◌, None, Some, is_some, refl}
-use Rattle.std.proofs.{Common.{sym, subst, ◌∙◌, arith}, lemmas.Bool.{and_parts, eqb-true, true≢false}}
-use Rattle.std.specs.{Prelude.{IsFalse, is_none, ⊤}, List.{AllByRecursion}}
+use Rattle.std.proofs.{Common.{sym, subst, ◌∙◌, arith}, lemmas.Bool.{and_parts, eqb-true, true≢false, false≢true}}
+use Rattle.std.specs.{Prelude.{IsFalse, is_none, ⊤, Option, MatchOption}, Option.{option_map_or}, List.{AllByRecursion}}
 use Rattle.nntp_article.specs.Session.{Spool.{Spool}, Machine.{Visible, State, Agrees, MayAnswer, visible_after, CodeAgrees, is_generic, is_one_of, code_fits}}
-use Rattle.nntp_article.specs.Session.Machine.{none_in_range}
+use Rattle.nntp_article.specs.Session.Machine.{none_in_range, ArticleAgrees, found, only, number_fits}
 use Rattle.nntp_said.proofs.Rows.{one_of_one, one_of_two}
 use Rattle.nntp_article.specs.{Session.Machine.{fits}, declared.session.profile.Profile.{Profile}}
 use Rattle.nntp_said.specs.{Inner.{Asks.{state_at, RunsAt}, Facts.{FitsAll}}, Asks.{position_after}, declared.position.Position.{Position}, Facts.{Fact, Holds}}
-use Rattle.nntp_said.specs.Facts.{facts_of, facts_of_code, facts_from, on}
+use Rattle.nntp_said.specs.Facts.{facts_of, facts_of_article, facts_of_code, facts_from, on}
 
 both : (S : Spool) (xs ys : List Fact) → AllByRecursion (Holds S) xs → AllByRecursion (Holds S) ys → AllByRecursion (Holds S) (xs ++ ys)
 both S [] ys h g = g
@@ -109,11 +110,39 @@ row_from S v at command code f h = first_of (assumption, cc)
 
 -- ---- what an answer says
 
+-- an article
+article_holds : (S : Spool) (v : Visible) (at : Position) (what : What) (which : Target) (sent : Success) → ArticleAgrees S (state_at S v at) what which sent
+    → AllByRecursion (Holds S) (facts_of_article v at what which sent)
+article_holds S v at what (by_id word) sent h = (h.0, off_from S (sent.number == 0) _ h.1)
+article_holds S v at what (by_number n) sent h = (h.0, (h.1, tt))
+article_holds S v at what current sent h = (h.0, (h.1.0, (h.1.1, tt)))
+
+article_agrees : (S : Spool) (v : Visible) (at : Position) (what : What) (which : Target) (sent : Success) → AllByRecursion (Holds S) (facts_of_article v at what which sent)
+    → ArticleAgrees S (state_at S v at) what which sent
+article_agrees S v at what (by_id word) sent h = (h.0, off_to S (sent.number == 0) _ h.1)
+article_agrees S v at what (by_number n) sent h = (h.0, h.1.0)
+article_agrees S v at what current sent h = (h.0, (h.1.0, h.1.1.0))
+
+-- the article of the only overview
+one_holds : (S : Spool) (v : Visible) (at : Position) (which : Target) (o : Option OverviewValue) → MatchOption o ⊥ (λ o. ArticleAgrees S (state_at S v at) Stat which (found o))
+    → AllByRecursion (Holds S) (option_map_or (λ o. facts_of_article v at Stat which (found o)) o [])
+one_holds S v at which None h = absurd h
+one_holds S v at which (Some o) h = article_holds S v at Stat which (found o) h
+
+one_agrees : (limit : Profile) (S : Spool) (v : Visible) (at : Position) (which : Target) (o : Option OverviewValue)
+    → IsTrue (option_map_or (λ o. number_fits limit v which o.number o.id) o false)
+    → AllByRecursion (Holds S) (option_map_or (λ o. facts_of_article v at Stat which (found o)) o [])
+    → MatchOption o ⊥ (λ o. ArticleAgrees S (state_at S v at) Stat which (found o))
+one_agrees limit S v at which None f h = absurd (false≢true f)
+one_agrees limit S v at which (Some o) f h = article_agrees S v at Stat which (found o) h
+
 -- from that it agrees
 facts_hold : (how : Marks) (S : Spool) (v : Visible) (at : Position) (p : Asked) (a : Response) → Agrees how S (state_at S v at) p a → AllByRecursion (Holds S) (facts_of how v at p a)
-facts_hold how S v at (to (retrieve what (by_id word))) (sends sent) h = (h.0, off_from S (sent.number == 0) _ h.1)
+facts_hold how S v at (to (retrieve what which)) (sends sent) h = article_holds S v at what which sent h
 facts_hold how S v at (to command) (plain code) h = code_holds how S v at command code h
 facts_hold how S v at (to (over keyword (in_range range))) (overviews_are lines) h = (h, tt)
+facts_hold how S v at (to (over keyword (the_id word))) (overviews_are lines) h = one_holds S v at (by_id word) (only (overviews_of lines)) h
+facts_hold how S v at (to (over keyword the_current)) (overviews_are lines) h = one_holds S v at current (only (overviews_of lines)) h
 facts_hold how S v at p a h = assumption
 
 -- and back, where it fits
@@ -121,9 +150,11 @@ agrees_from : (profile : Profile) (S : Spool) (v : Visible) (at : Position) (p :
     → IsTrue (fits profile v p a) → AllByRecursion (Holds S) (facts_of profile.marks v at p a)
     → Agrees profile.marks S (state_at S v at) p a
 agrees_from profile S v at greeting (plain code) f h = tt
-agrees_from profile S v at (to (retrieve what (by_id word))) (sends sent) f h = (h.0, off_to S (sent.number == 0) _ h.1)
+agrees_from profile S v at (to (retrieve what which)) (sends sent) f h = article_agrees S v at what which sent h
 agrees_from profile S v at (to command) (plain code) f h = but_generic (is_generic code) (code_fits v command code) f (λ c. row_from S v at command code c h)
 agrees_from profile S v at (to (over keyword (in_range range))) (overviews_are lines) f h = h.0
+agrees_from profile S v at (to (over keyword (the_id word))) (overviews_are lines) f h = one_agrees profile S v at (by_id word) (only (overviews_of lines)) f h
+agrees_from profile S v at (to (over keyword the_current)) (overviews_are lines) f h = one_agrees profile S v at current (only (overviews_of lines)) f h
 agrees_from profile S v at p a f h = first_of (assumption, cc)
 
 -- an answer that fits, where the connection is open, is permitted exactly if what it says holds

@@ -4,14 +4,14 @@ use Rattle.std.{proofs.{Common.{◌∙◌, arith}, lemmas.Bool.{and_parts, or_ca
 use Rattle.std.specs.Option.{option_map_or, option_or}
 use Rattle.nntp_article.specs.{Article.Parts.{Id}, Session.{Spool.{Name}, Machine.{Visible, fits, marks_fit, is_ascending, is_same, is_article_number}}}
 use Rattle.nntp_article.specs.{Session.Machine.{is_in_range, number_fits, head_fits, active_fits, names_differ}, declared.session.profile.Profile.{Profile}}
-use Rattle.nntp_article.specs.Session.Machine.{is_one_of, none_in_range, may_list, overview_numbers, overview_ids, all_differ}
+use Rattle.nntp_article.specs.Session.Machine.{is_one_of, none_in_range, may_list, overview_numbers, overview_ids, all_differ, only, found}
 use Rattle.nntp_said.specs.Asks.{Estimates, ListsIn, Lacks, StandsAt, StandsNowhere, StepsUp, StepsDown, IsTop, IsBottom}
 use Rattle.nntp_said.specs.{declared.position.Position.{Position}, Facts.{Fact, ThereIs, ThereIsNo, Asks, IdAt, TextIs, NoArticle, GroupsAre, here}}
-use Rattle.nntp_said.specs.Facts.{facts_of_code, facts_of}
-use Rattle.nntp_wire.specs.{Listing.{listed_numbers, active_groups, overviews_of}, Answer.{Asked, Response, Success, success_code, to, group_is, numbers_are, sends}}
+use Rattle.nntp_said.specs.Facts.{facts_of_code, facts_of_article, facts_of}
+use Rattle.nntp_wire.specs.{Listing.{OverviewValue, listed_numbers, active_groups, overviews_of}, Answer.{Asked, Response, Success, success_code, to, group_is, numbers_are, sends}}
 use Rattle.nntp_wire.specs.{Answer.{active_are, overviews_are, plain}, Command.{Request, Target, by_id, by_number, current, group, list_group, next, last, retrieve}}
 use Rattle.nntp_wire.specs.{Command.{over, the_id, in_range, the_current}, declared.command.OverviewKeyword.{OverviewKeyword, TheVariants.{Over, Xover}}}
-use Rattle.nntp_wire.specs.{Command.{list_active}, declared.{command.What.{What}, range.Range.{Range}, water_marks.WaterMarks.{WaterMarks}}}
+use Rattle.nntp_wire.specs.{Command.{list_active}, declared.{command.What.{What, TheVariants.{Stat}}, range.Range.{Range}, water_marks.WaterMarks.{WaterMarks}}}
 
 -- ---- codes of a list
 
@@ -36,6 +36,11 @@ AreListed profile range ns = IsTrue (is_ascending ns) × IsTrue (list_all (λ n.
 abbrev pub IsInSelected : Profile → Visible → ℕ → Type 0
 IsInSelected profile v n = IsTrue (is_some v.selected) × IsTrue (is_article_number profile.limit n)
 
+-- the response gives the article: it sends it, or has its overview alone
+pub data Gives : Response → Success → Type 0 where
+  sends_it : (s : Success) → Gives (sends s) s
+  lists_it : (lines : List (List ℕ)) (o : OverviewValue) → only (overviews_of lines) ≡ Some o → Gives (overviews_are lines) (found o)
+
 -- a row: the response, the facts, and what is known of them if the answer fits
 pub data Row (profile : Profile) (v : Visible) (at : Position) (Fits : Type 0) : Response → List Fact → Type 0 where
   nothing : (a : Response) → Row profile v at Fits a []
@@ -54,11 +59,11 @@ pub data Row (profile : Profile) (v : Visible) (at : Position) (Fits : Type 0) :
       → Row profile v at Fits (numbers_are m name lines) (ThereIs name ∷ Asks name (Estimates profile.marks m) ∷ Asks name (ListsIn range (listed_numbers lines)) ∷ [])
   up : (s : Success) → (Fits → IsInSelected profile v s.number) → Row profile v at Fits (sends s) (Asks (here v) (StepsUp at s.number) ∷ IdAt (here v) s.number s.id ∷ [])
   down : (s : Success) → (Fits → IsInSelected profile v s.number) → Row profile v at Fits (sends s) (Asks (here v) (StepsDown at s.number) ∷ IdAt (here v) s.number s.id ∷ [])
-  text : (what : What) (s : Success) → (Fits → IsTrue (head_fits what s.id s.block)) → Row profile v at Fits (sends s) (TextIs what s.id s.block ∷ [])
-  text_at : (what : What) (s : Success) → (Fits → IsTrue (head_fits what s.id s.block) × IsInSelected profile v s.number)
-      → Row profile v at Fits (sends s) (TextIs what s.id s.block ∷ IdAt (here v) s.number s.id ∷ [])
-  text_here : (what : What) (s : Success) → (Fits → IsTrue (head_fits what s.id s.block) × IsInSelected profile v s.number)
-      → Row profile v at Fits (sends s) (TextIs what s.id s.block ∷ Asks (here v) (StandsAt at s.number) ∷ IdAt (here v) s.number s.id ∷ [])
+  text : (a : Response) (what : What) (s : Success) → Gives a s → (Fits → IsTrue (head_fits what s.id s.block)) → Row profile v at Fits a (TextIs what s.id s.block ∷ [])
+  text_at : (a : Response) (what : What) (s : Success) → Gives a s → (Fits → IsTrue (head_fits what s.id s.block) × IsInSelected profile v s.number)
+      → Row profile v at Fits a (TextIs what s.id s.block ∷ IdAt (here v) s.number s.id ∷ [])
+  text_here : (a : Response) (what : What) (s : Success) → Gives a s → (Fits → IsTrue (head_fits what s.id s.block) × IsInSelected profile v s.number)
+      → Row profile v at Fits a (TextIs what s.id s.block ∷ Asks (here v) (StandsAt at s.number) ∷ IdAt (here v) s.number s.id ∷ [])
   active : (p : Option (List ℕ)) (lines : List (List ℕ)) → (Fits → IsTrue (list_all (active_fits profile p) (active_groups lines)) × IsTrue (names_differ (active_groups lines)))
       → Row profile v at Fits (active_are lines) (GroupsAre p (active_groups lines) ∷ [])
 
@@ -137,15 +142,31 @@ module _ (profile : Profile) (v : Visible) (at : Position) where
       (q.0, subst (λ k. IsTrue (is_article_number profile.limit k)) (sym (eqb-true n m q.1)) p.1)
   number_placed current n id f gives = and_parts (is_some v.selected) _ f
 
-  success_placed : (what : What) (which : Target) (s : Success) → GivesNumber which s.number → IsTrue (fits profile v (to (retrieve what which)) (sends s))
-      → IsTrue (head_fits what s.id s.block) × IsInSelected profile v s.number
-  success_placed what which s gives f = let p = success_fits what which s f in (p.1, number_placed which s.number s.id p.0 gives)
+  -- an article that fits what was asked for
+  abbrev ArticleFits : What → Target → Success → Type 0
+  ArticleFits what which s = IsTrue (number_fits profile v which s.number s.id) × IsTrue (head_fits what s.id s.block)
 
-  -- by an id, with a number or none
-  id_row : (what : What) (word : List ℕ) (s : Success) (b : Bool) → (s.number == 0) ≡ b
-      → RowOf (to (retrieve what (by_id word))) (sends s) (TextIs what s.id s.block ∷ cond b [] (IdAt (here v) s.number s.id ∷ []))
-  id_row what word s true e = text what s (λ f. (success_fits what (by_id word) s f).1)
-  id_row what word s false e = text_at what s (success_placed what (by_id word) s e)
+  article_placed : (what : What) (which : Target) (s : Success) → GivesNumber which s.number → ArticleFits what which s → IsTrue (head_fits what s.id s.block) × IsInSelected profile v s.number
+  article_placed what which s gives f = (f.1, number_placed which s.number s.id f.0 gives)
+
+  module _ {Fits : Type 0} (a : Response) (what : What) (s : Success) (gives : Gives a s) where
+    -- by an id, with a number or none
+    id_row : (word : List ℕ) → (Fits → ArticleFits what (by_id word) s) → (b : Bool) → (s.number == 0) ≡ b
+        → Row profile v at Fits a (TextIs what s.id s.block ∷ cond b [] (IdAt (here v) s.number s.id ∷ []))
+    id_row word fit true e = text a what s gives (λ f. (fit f).1)
+    id_row word fit false e = text_at a what s gives (λ f. article_placed what (by_id word) s e (fit f))
+
+    article_row : (which : Target) → (Fits → ArticleFits what which s) → Row profile v at Fits a (facts_of_article v at what which s)
+    article_row (by_id word) fit = id_row word fit (s.number == 0) refl
+    article_row (by_number n) fit = text_at a what s gives (λ f. article_placed what (by_number n) s tt (fit f))
+    article_row current fit = text_here a what s gives (λ f. article_placed what current s tt (fit f))
+
+  -- the only overview, if there is one
+  one_row : (lines : List (List ℕ)) (which : Target) (o : Option OverviewValue) → only (overviews_of lines) ≡ o
+      → Row profile v at (IsTrue (option_map_or (λ o. number_fits profile v which o.number o.id) o false)) (overviews_are lines)
+      (option_map_or (λ o. facts_of_article v at Stat which (found o)) o [])
+  one_row lines which None e = nothing (overviews_are lines)
+  one_row lines which (Some o) e = article_row (overviews_are lines) Stat (found o) (lists_it lines o e) which (λ f. (f, refl))
 
   step_placed : (code n : ℕ) → IsTrue (code == 223 && is_some v.selected && is_article_number profile.limit n) → IsInSelected profile v n
   step_placed code n f = let p = and_parts (code == 223 && is_some v.selected) _ f in ((and_parts (code == 223) _ p.0).1, p.1)
@@ -178,9 +199,9 @@ module _ (profile : Profile) (v : Visible) (at : Position) where
   row (to (list_group word range)) (numbers_are m name lines) = listing m name range lines (numbers_fit word range m name lines)
   row (to next) (sends s) = up s (step_placed s.code s.number)
   row (to last) (sends s) = down s (step_placed s.code s.number)
-  row (to (retrieve what (by_id word))) (sends s) = id_row what word s (s.number == 0) refl
-  row (to (retrieve what (by_number n))) (sends s) = text_at what s (success_placed what (by_number n) s tt)
-  row (to (retrieve what current)) (sends s) = text_here what s (success_placed what current s tt)
+  row (to (retrieve what which)) (sends s) = article_row (sends s) what s (sends_it s) which (success_fits what which s)
   row (to (list_active p)) (active_are lines) = active p lines (and_parts _ _)
   row (to (over keyword (in_range range))) (overviews_are lines) = within range lines (overviews_fit keyword range lines)
+  row (to (over keyword (the_id word))) (overviews_are lines) = one_row lines (by_id word) (only (overviews_of lines)) refl
+  row (to (over keyword the_current)) (overviews_are lines) = one_row lines current (only (overviews_of lines)) refl
   row p a = nothing a

@@ -1,12 +1,13 @@
 -- What each answer of a session says of the spool, with the current article read off the session.
-use Rattle.std.specs.{Prelude.{◌≡◌, ℕ, ◌==◌, if◌then◌else◌, List, [], ◌∷◌, ◌++◌, Option, None, Some, unwrap_or}, FinMap.{get}}
+use Rattle.std.specs.{Prelude.{◌≡◌, ℕ, ◌==◌, if◌then◌else◌, List, [], ◌∷◌, ◌++◌, Option, None, Some, unwrap_or}, Option.{option_map_or}, FinMap.{get}}
 use Rattle.nntp_article.specs.{Session.{Spool.{Spool, IsGroup, numbers, HasText, Name}, Machine.{Visible, visible_after, ActivesAgree}}, Article.Parts.{Id}}
-use Rattle.nntp_article.specs.Session.Machine.{is_one_of, none_in_range, overview_numbers}
+use Rattle.nntp_article.specs.Session.Machine.{is_one_of, none_in_range, overview_numbers, only, found}
 use Rattle.nntp_article.specs.Article.Parts.{Line}
 use Rattle.nntp_said.specs.Asks.{position_after, Ask, Meets, Estimates, ListsIn, Lacks, StandsAt, StandsNowhere, StepsUp, StepsDown, IsTop, IsBottom}
 use Rattle.nntp_said.specs.declared.position.Position.{Position}
-use Rattle.nntp_wire.specs.{Listing.{ActiveValue, listed_numbers, active_groups, overviews_of}, declared.{marks.Marks.{Marks}, command.What.{What}}, Command.{Request, by_id}}
-use Rattle.nntp_wire.specs.{Command.{by_number, current, group, next, last, retrieve, list_group, list_active, over}, Answer.{Asked, Response, to, group_is}}
+use Rattle.nntp_wire.specs.{Listing.{ActiveValue, OverviewValue, listed_numbers, active_groups, overviews_of}, declared.marks.Marks.{Marks}}
+use Rattle.nntp_wire.specs.{declared.command.What.{What, TheVariants.{Stat}}, Command.{Request, Target, Overviewed, by_id}}
+use Rattle.nntp_wire.specs.{Command.{by_number, current, group, next, last, retrieve, list_group, list_active, over}, Answer.{Asked, Response, Success, to, group_is}}
 use Rattle.nntp_wire.specs.Command.{the_id, in_range, the_current}
 use Rattle.nntp_wire.specs.Answer.{numbers_are, sends, active_are, overviews_are, plain}
 
@@ -52,6 +53,18 @@ facts_of_code v at (over keyword (in_range range)) code = if is_one_of (none_in_
 facts_of_code v at (over keyword the_current) code = on code 420 (Asks (here v) (StandsNowhere at))
 facts_of_code v at command code = []
 
+-- what a success of ARTICLE, HEAD, BODY or STAT says
+abbrev pub facts_of_article : Visible → Position → What → Target → Success → List Fact
+facts_of_article v at what (by_id word) sent = TextIs what sent.id sent.block ∷ (if sent.number == 0 then [] else IdAt (here v) sent.number sent.id ∷ [])
+facts_of_article v at what (by_number n) sent = TextIs what sent.id sent.block ∷ IdAt (here v) sent.number sent.id ∷ []
+facts_of_article v at what current sent = TextIs what sent.id sent.block ∷ Asks (here v) (StandsAt at sent.number) ∷ IdAt (here v) sent.number sent.id ∷ []
+
+-- what overviews say: those of a range which numbers are there, and the only one of another command what STAT would say
+abbrev pub facts_of_overviews : Visible → Position → Overviewed → List OverviewValue → List Fact
+facts_of_overviews v at (in_range range) overviews = Asks (here v) (ListsIn range (overview_numbers overviews)) ∷ []
+facts_of_overviews v at (the_id word) overviews = option_map_or (λ o. facts_of_article v at Stat (by_id word) (found o)) (only overviews) []
+facts_of_overviews v at the_current overviews = option_map_or (λ o. facts_of_article v at Stat current (found o)) (only overviews) []
+
 -- what an answer says of the spool, where marks are read so
 abbrev pub facts_of : Marks → Visible → Position → Asked → Response → List Fact
 facts_of how v at (to command) (plain code) = facts_of_code v at command code
@@ -59,11 +72,9 @@ facts_of how v at (to (group word)) (group_is m name) = ThereIs name ∷ Asks na
 facts_of how v at (to (list_group word range)) (numbers_are m name lines) = ThereIs name ∷ Asks name (Estimates how m) ∷ Asks name (ListsIn range (listed_numbers lines)) ∷ []
 facts_of how v at (to next) (sends sent) = Asks (here v) (StepsUp at sent.number) ∷ IdAt (here v) sent.number sent.id ∷ []
 facts_of how v at (to last) (sends sent) = Asks (here v) (StepsDown at sent.number) ∷ IdAt (here v) sent.number sent.id ∷ []
-facts_of how v at (to (retrieve what (by_id word))) (sends sent) = TextIs what sent.id sent.block ∷ (if sent.number == 0 then [] else IdAt (here v) sent.number sent.id ∷ [])
-facts_of how v at (to (retrieve what (by_number n))) (sends sent) = TextIs what sent.id sent.block ∷ IdAt (here v) sent.number sent.id ∷ []
-facts_of how v at (to (retrieve what current)) (sends sent) = TextIs what sent.id sent.block ∷ Asks (here v) (StandsAt at sent.number) ∷ IdAt (here v) sent.number sent.id ∷ []
+facts_of how v at (to (retrieve what which)) (sends sent) = facts_of_article v at what which sent
 facts_of how v at (to (list_active p)) (active_are lines) = GroupsAre p (active_groups lines) ∷ []
-facts_of how v at (to (over keyword (in_range range))) (overviews_are lines) = Asks (here v) (ListsIn range (overview_numbers (overviews_of lines))) ∷ []
+facts_of how v at (to (over keyword which)) (overviews_are lines) = facts_of_overviews v at which (overviews_of lines)
 facts_of how v at asked response = []
 
 -- the group of whose numbers facts speak, if they do: all facts of one answer speak of one

@@ -1,6 +1,6 @@
 //! What an answer says of the spool, one thing at a time (RFC 3977, sections 6 and 7.6.3).
 use crate::position::Position;
-use nntp_wire::{Block, GroupName, Marks, MessageId, Range, WaterMarks, What, Wildmat};
+use nntp_wire::{Block, GroupName, Marks, Range, WaterMarks, What, Wildmat};
 
 /// One thing that an answer says of the spool.
 #[derive(Clone, Copy)]
@@ -12,15 +12,15 @@ pub enum Fact<'s> {
     /// Of the numbers of the group of this name this is asked.
     Asks(&'s [u8], Ask<'s>),
     /// The group of this name gives the message-id at the number.
-    IdAt(&'s [u8], u64, &'s MessageId<'s>),
+    IdAt(&'s [u8], u64, &'s str),
     /// The message-id has an article.
     TextIs {
         /// The parts of the article that the command asks for.
         what: What,
         /// The message-id.
-        id: &'s MessageId<'s>,
+        id: &'s str,
         /// The lines that are sent, if any are.
-        block: &'s Option<Block<'s>>,
+        block: Option<&'s Block<'s>>,
     },
     /// This has no article. Its octets need be no message-id.
     NoArticle(&'s [u8]),

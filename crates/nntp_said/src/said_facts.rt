@@ -5,7 +5,6 @@ ghost use Rattle.nntp_said.specs.Inner.FactView.{fact_of, facts_at};
 ghost use Rattle.nntp_said.specs.Inner.Places.{Place};
 
 use crate::fact::Fact;
-use nntp_wire::MessageId;
 use std::marker::Model;
 
 /// An iterator over what an answer says of the spool, which is at most three things.
@@ -87,7 +86,7 @@ impl<'s> SaidFacts<'s> {
     }
 
     /// Tells whether one of the facts that are left gives the message-id at a number.
-    pub fn place(&self, id: &MessageId<'_>) -> bool
+    pub fn place(&self, id: &str) -> bool
         ensures { IsTrue result ↔ Place id.now self.now }
     {
         one_places(self.places.split_at(self.passed).1, id)
@@ -95,7 +94,7 @@ impl<'s> SaidFacts<'s> {
 }
 
 /// Tells whether one of the facts, up to the first place that has none, gives the message-id at a number.
-fn one_places(places: &[Option<Fact<'_>>], id: &MessageId<'_>) -> bool
+fn one_places(places: &[Option<Fact<'_>>], id: &str) -> bool
     ensures { IsTrue result ↔ Place id.now (facts_at places.now) }
 {
     for place in places {
@@ -110,11 +109,11 @@ fn one_places(places: &[Option<Fact<'_>>], id: &MessageId<'_>) -> bool
 }
 
 /// Tells whether the fact gives the message-id at a number.
-fn gives(fact: &Fact<'_>, id: &MessageId<'_>) -> bool
+fn gives(fact: &Fact<'_>, id: &str) -> bool
     ensures { IsTrue result ↔ Place id.now (fact_of fact.now ∷ []) }
 {
     match fact {
-        Fact::IdAt(_, _, other) => other.as_slice() == id.as_slice(),
+        Fact::IdAt(_, _, other) => *other == id,
         _ => false,
     }
 }

@@ -1,22 +1,23 @@
 //! What each kind of answer says of the spool (RFC 3977, sections 6 and 7.6.3).
-ghost use Rattle.std.specs.Prelude.{◌≡◌, ℕ, [], ◌∷◌};
+ghost use Rattle.std.specs.Prelude.{◌≡◌, ℕ, [], ◌∷◌, option_map};
+ghost use Rattle.std.specs.Option.{option_map_or};
 ghost use Rattle.nntp_wire.specs.declared.marks.Marks.{Marks};
-ghost use Rattle.nntp_wire.specs.Inner.View.{asked, overviewed, request, target};
+ghost use Rattle.nntp_wire.specs.Inner.View.{asked, overview_value, overviewed, request, target};
 ghost use Rattle.nntp_wire.specs.Inner.AnswerView.{response};
-ghost use Rattle.nntp_wire.specs.Answer.{to, sends};
+ghost use Rattle.nntp_wire.specs.declared.command.What.TheVariants.{Stat};
 ghost use Rattle.nntp_wire.specs.Command.{over, retrieve};
-ghost use Rattle.nntp_wire.specs.Listing.{listed_numbers};
-ghost use Rattle.nntp_article.specs.Session.Machine.{Visible};
+ghost use Rattle.nntp_wire.specs.Listing.{listed_numbers, overviews_of};
+ghost use Rattle.nntp_article.specs.Session.Machine.{Visible, found, only};
 ghost use Rattle.nntp_said.specs.Asks.{Estimates, ListsIn};
-ghost use Rattle.nntp_said.specs.Facts.{Asks, IdAt, ThereIs, here, facts_of, facts_of_code};
+ghost use Rattle.nntp_said.specs.Facts.{Asks, IdAt, ThereIs, here, facts_of, facts_of_article, facts_of_code, facts_of_overviews};
 ghost use Rattle.nntp_said.specs.Inner.FactView.{ask_of, fact_of, listing_of};
 
 use crate::fact::{Ask, Fact, Listing};
 use crate::position::Position;
 use crate::said_facts::SaidFacts;
 use nntp_wire::{
-    Answer, Block, Command, GroupName, Marks, MessageId, OverviewKeyword, Prompt, Range, WaterMarks,
-    What, Which, WhichArticles,
+    Answer, Block, Command, GroupName, Marks, OverviewKeyword, OverviewLine, Prompt, Range,
+    WaterMarks, What, Which, WhichArticles,
 };
 
 /// Returns what an answer says where marks are read so, this group is selected, and the session
@@ -41,10 +42,10 @@ pub fn facts_of<'s>(
             facts_of_numbers(how, *marks, name, *range, block)
         }
         (Prompt::To(Command::Next), Answer::Sent { number, id, .. }) => {
-            facts_of_step(selected, Ask::StepsUp(at, *number), *number, id)
+            facts_of_step(selected, Ask::StepsUp(at, *number), *number, id.as_str())
         }
         (Prompt::To(Command::Last), Answer::Sent { number, id, .. }) => {
-            facts_of_step(selected, Ask::StepsDown(at, *number), *number, id)
+            facts_of_step(selected, Ask::StepsDown(at, *number), *number, id.as_str())
         }
         (
             Prompt::To(Command::Retrieve { what, which }),
@@ -54,19 +55,13 @@ pub fn facts_of<'s>(
                 id,
                 block,
             },
-        ) => facts_of_success(selected, at, *what, which, *number, id, block),
+        ) => facts_of_article(selected, at, *what, which, *number, id.as_str(), block.as_ref()),
         (Prompt::To(Command::ListActive(wildmat)), Answer::Active(block)) => {
             SaidFacts::one(Fact::GroupsAre { wildmat, block })
         }
-        (
-            Prompt::To(
-                Command::Over {
-                    which: WhichArticles::Range(range),
-                    ..
-                },
-            ),
-            Answer::Overviews(block),
-        ) => lists(selected, *range, Listing::Overviews(block)),
+        (Prompt::To(Command::Over { which, .. }), Answer::Overviews(block)) => {
+            facts_of_overviews(selected, at, which, block)
+        }
         _ => SaidFacts::none(),
     }
 }
@@ -106,7 +101,7 @@ fn facts_of_step<'s>(
     selected: &'s [u8],
     ask: Ask<'s>,
     number: u64,
-    id: &'s MessageId<'s>,
+    id: &'s str,
 ) -> SaidFacts<'s>
     ensures { result ≡ Asks selected.now (ask_of ask.entry) ∷ IdAt selected.now number id.now ∷ [] }
 {
@@ -202,17 +197,17 @@ fn facts_of_failure<'s>(
 }
 
 /// Returns what a success of ARTICLE, HEAD, BODY or STAT says.
-fn facts_of_success<'s>(
+fn facts_of_article<'s>(
     selected: &'s [u8],
     at: Position,
     what: What,
-    which: &'s Which<'s>,
+    which: &Which<'_>,
     number: u64,
-    id: &'s MessageId<'s>,
-    block: &'s Option<Block<'s>>,
+    id: &'s str,
+    block: Option<&'s Block<'s>>,
 ) -> SaidFacts<'s>
-    ensures { (how : Marks) (v : Visible) (code : ℕ) → selected.now ≡ here v → result
-        ≡ facts_of how v at (to (retrieve what (target which.now))) (sends (record { code = code; number = number; id = id.now; block = block.now })) }
+    ensures { (v : Visible) (code : ℕ) → selected.now ≡ here v → result
+        ≡ facts_of_article v at what (target which.now) (record { code = code; number = number; id = id.now; block = option_map (λ b. b.now) block.entry }) }
 {
     let text = Fact::TextIs { what, id, block };
     let id = Fact::IdAt(selected, number, id);
@@ -222,5 +217,56 @@ fn facts_of_success<'s>(
             SaidFacts::three(text, Fact::Asks(selected, Ask::StandsAt(at, number)), id)
         }
         _ => SaidFacts::two(text, id),
+    }
+}
+
+/// Returns what the overviews say that the lines are.
+fn facts_of_overviews<'s>(
+    selected: &'s [u8],
+    at: Position,
+    which: &WhichArticles<'_>,
+    block: &'s Block<'s>,
+) -> SaidFacts<'s>
+    ensures { (v : Visible) → selected.now ≡ here v → result ≡ facts_of_overviews v at (overviewed which.now) (overviews_of block.now) }
+{
+    match which {
+        WhichArticles::Range(range) => lists(selected, *range, Listing::Overviews(block)),
+        WhichArticles::Id(word) => facts_of_overview(selected, at, &Which::Id(*word), block),
+        WhichArticles::Current => facts_of_overview(selected, at, &Which::Current, block),
+    }
+}
+
+/// Returns what the only overview says that the lines are: what STAT would say of its article.
+fn facts_of_overview<'s>(
+    selected: &'s [u8],
+    at: Position,
+    which: &Which<'_>,
+    block: &'s Block<'s>,
+) -> SaidFacts<'s>
+    ensures { (v : Visible) → selected.now ≡ here v → result
+        ≡ option_map_or (λ o. facts_of_article v at Stat (target which.now) (found o)) (only (overviews_of block.now)) [] }
+{
+    match only(block) {
+        Some(overview) => facts_of_article(
+            selected,
+            at,
+            What::Stat,
+            which,
+            overview.number,
+            overview.id.as_str(),
+            None,
+        ),
+        None => SaidFacts::none(),
+    }
+}
+
+/// Returns the overview that the lines are, if they are just one.
+fn only<'s>(block: &Block<'s>) -> Option<OverviewLine<'s>>
+    ensures { option_map overview_value result ≡ only (overviews_of block.now) }
+{
+    let mut overviews = block.overviews();
+    match (overviews.next(), overviews.next()) {
+        (Some(overview), None) => Some(overview),
+        _ => None,
     }
 }

@@ -1,6 +1,6 @@
 //! What answers say, fact by fact: each is looked at where it stands, and passed.
 use nntp_said::{Fact, Position, SaidFacts, facts_of};
-use nntp_wire::{Answer, Command, Marks, Prompt, frame};
+use nntp_wire::{Answer, Command, Marks, Overviews, Prompt, frame};
 use std::process::Abort;
 
 /// A line, the answer to it, and of what the facts speak that it says, first to last.
@@ -14,6 +14,27 @@ const ROWS: &[Row] = &[
     (b"STAT <a@b>", b"223 0 <a@b>\r\n", &["article"]),
     (b"STAT 2", b"223 2 <a@b>\r\n", &["article", "id"]),
     (b"STAT", b"223 2 <a@b>\r\n", &["article", "numbers", "id"]),
+    (b"OVER 1-3", b"423 no\r\n", &["numbers"]),
+    (b"XOVER 1-3", b"420 no\r\n", &["numbers"]),
+    (b"OVER 1-3", b"420 no\r\n", &[]),
+    (b"OVER <a@b>", b"430 no\r\n", &["no article"]),
+    (b"OVER", b"420 no\r\n", &["numbers"]),
+    (
+        b"XOVER 1-3",
+        b"224 x\r\n1\ts\tf\td\t<a@b>\r\n3\ts\tf\td\t<c@d>\r\n.\r\n",
+        &["numbers"],
+    ),
+    (
+        b"OVER <a@b>",
+        b"224 x\r\n0\ts\tf\td\t<a@b>\r\n.\r\n",
+        &["article"],
+    ),
+    (
+        b"OVER",
+        b"224 x\r\n2\ts\tf\td\t<a@b>\r\n.\r\n",
+        &["article", "numbers", "id"],
+    ),
+    (b"OVER", b"224 x\r\n.\r\n", &[]),
     (
         b"LISTGROUP g",
         b"211 0 1 0 g\r\n.\r\n",
@@ -49,7 +70,7 @@ fn expect(rt: &impl Abort, facts: &mut SaidFacts<'_>, wanted: &[&'static str]) {
 #[test]
 fn facts_are_passed(rt: HostRuntime) {
     for &(line, sent, wanted) in ROWS {
-        let prompt = Prompt::To(Command::parse(line));
+        let prompt = Prompt::To(Command::parse_as(Overviews::Judged, line));
         let Some(frame) = frame(&prompt, sent) else {
             panic!(rt; "no response");
         };

@@ -220,16 +220,25 @@ NumberAgrees S s (by_id word) sent = IsFalse (sent.number == 0) → get (selecte
 NumberAgrees S s (by_number n) sent = get (selected_numbers S s.visible) sent.number ≡ Some sent.id
 NumberAgrees S s current sent = (s.current ≡ Some sent.number) × (get (selected_numbers S s.visible) sent.number ≡ Some sent.id)
 
+-- of the article this is sent, and its number has the id
+abbrev pub ArticleAgrees : Spool → State → What → Target → Success → Type 0
+ArticleAgrees S s what which sent = HasText S what sent.id sent.block × NumberAgrees S s which sent
+
 -- exactly the matching groups are listed, and the marks bound their numbers
 abbrev pub ActivesAgree : Spool → Option (List ℕ) → List ActiveValue → Type 0
 ActivesAgree S p lines =
     ((name : Name) → Contains (map (λ line. line.name) lines) name ↔ (IsGroup S name × IfSome p (λ w. MatchesName w name)))
     × All (λ line. (n : ℕ) → IsNumber (numbers S line.name) n → (line.low ≤ n) × (n ≤ line.high)) lines
 
--- the overviews of a range are of the numbers that the selected group has in it
+-- what finds the article of an overview, as STAT does
+abbrev pub found : OverviewValue → Success
+found o = record { code = 223; number = o.number; id = o.id; block = None }
+
+-- the overviews of a range are of the numbers that the selected group has in it; the only one of another command finds its article
 abbrev pub OverviewsAgree : Spool → State → Overviewed → List OverviewValue → Type 0
 OverviewsAgree S s (in_range range) overviews = Lists (selected_numbers S s.visible) range (overview_numbers overviews)
-OverviewsAgree S s which overviews = ⊤
+OverviewsAgree S s (the_id word) overviews = MatchOption (only overviews) ⊥ (λ o. ArticleAgrees S s Stat (by_id word) (found o))
+OverviewsAgree S s the_current overviews = MatchOption (only overviews) ⊥ (λ o. ArticleAgrees S s Stat current (found o))
 
 -- the condition over the spool of an answer that fits, a row each: what no row names agrees with no spool
 abbrev pub Agrees : Marks → Spool → State → Asked → Response → Type 0
@@ -241,7 +250,7 @@ Agrees marks S s (to next) (sends sent) =
     MatchOption s.current ⊥ (λ c. IsNextAbove (selected_numbers S s.visible) c sent.number) × (get (selected_numbers S s.visible) sent.number ≡ Some sent.id)
 Agrees marks S s (to last) (sends sent) =
     MatchOption s.current ⊥ (λ c. IsNextBelow (selected_numbers S s.visible) c sent.number) × (get (selected_numbers S s.visible) sent.number ≡ Some sent.id)
-Agrees marks S s (to (retrieve what which)) (sends sent) = HasText S what sent.id sent.block × NumberAgrees S s which sent
+Agrees marks S s (to (retrieve what which)) (sends sent) = ArticleAgrees S s what which sent
 Agrees marks S s (to (list_active p)) (active_are lines) = ActivesAgree S p (active_groups lines)
 Agrees marks S s (to (over keyword which)) (overviews_are lines) = OverviewsAgree S s which (overviews_of lines)
 Agrees marks S s asked response = ⊥

@@ -1,13 +1,13 @@
 -- What each kind of answer that fits tells.
-use Rattle.std.proofs.Common.{◌≡◌, ℕ, ◌<◌, ◌^◌, get_or, true, IsTrue, List, [], ◌∷◌, Option, None, Some, is_some, inl, inr, refl, sym, ap, subst, ◌∙◌, arith}
+use Rattle.std.proofs.Common.{◌≡◌, ℕ, ◌<◌, ◌≤◌, ◌^◌, get_or, true, IsTrue, List, [], ◌∷◌, Option, None, Some, is_some, inl, inr, refl, sym, ap, subst, ◌∙◌, arith}
 use Rattle.std.{proofs.lemmas.Bool.{true≢false}, specs.Prelude.{IfSome, option_map, unwrap_or}}
 use Rattle.nntp_article.specs.{Article.Parts.{Id}, Session.{Spool.{Name}, Machine.{Visible, fits}}, declared.session.profile.Profile.{Profile}}
 use Rattle.nntp_article.specs.Inner.Misfit.{groups_of, numbers_of}
-use Rattle.nntp_article.specs.Session.Machine.{overview_numbers}
-use Rattle.nntp_wire.specs.{Answer.{Asked, Response}, Listing.{ActiveValue, active_groups, listed_numbers, overviews_of}, declared.{marks.Marks.{Marks}, range.Range.{Range}}}
+use Rattle.nntp_article.specs.Session.Machine.{head_fits, overview_numbers, only}
+use Rattle.nntp_wire.specs.{Answer.{Asked, Response, Success}, declared.command.What.{What}, Listing.{ActiveValue, OverviewValue, active_groups, listed_numbers, overviews_of}, declared.{marks.Marks.{Marks}, range.Range.{Range}}}
 use Rattle.nntp_wire.specs.declared.water_marks.WaterMarks.{WaterMarks}
 use Rattle.nntp_said.specs.{declared.position.Position.{Position}, Asks.{Ask, Estimates, ListsIn, Has, Lacks, StandsAt, StandsNowhere, StepsUp, StepsDown}}
-use Rattle.nntp_said.specs.{Asks.{IsTop, IsBottom}, Facts.{Fact, ThereIs, Asks, IdAt, here, facts_of, group_of}}
+use Rattle.nntp_said.specs.{Asks.{IsTop, IsBottom}, Facts.{Fact, ThereIs, Asks, IdAt, TextIs, here, facts_of, group_of}}
 use Rattle.nntp_theory.specs.Given.{is_shown_group}
 use Rattle.nntp_numbers.specs.Inner.{Part.{Said, Says, AreListable}, PartOf.{IsSmall, nothing_said, part_with}, Summary.{AreBounded}}
 use Rattle.nntp_numbers.proofs.{SaidInARange.{says_range, says_listed}, SaidOfAsks.{said_small, says_marks, marks_bounded, says_has, says_lacks, says_stands, says_nowhere}}
@@ -54,6 +54,15 @@ pub groups_said : (profile : Profile) (v : Visible) (at : Position) (asked : Ask
     → AreListed (saying_by shown nothing (facts_of profile.marks v at asked response)) groups
 groups_said profile v at asked response shown groups e = grind (arith, rows.row)
 
+-- the only overview is all that there are
+only_is : (os : List OverviewValue) (o : OverviewValue) → only os ≡ Some o → os ≡ o ∷ []
+only_is os o e = grind arith
+
+-- the number that an answer shows which gives an article is that of the article
+number_given : {a : Response} {s : Success} → rows.Gives a s → numbers_shown (numbers_of a) a ≡ s.number ∷ []
+number_given (rows.sends_it s) = refl
+number_given (rows.lists_it lines o e) = ap overview_numbers (only_is (overviews_of lines) o e)
+
 module _ (v : Visible) (facts : List Fact) (is_shown : IsSelectedShown v facts) where
   -- what is said by facts of an answer that shows these numbers, if all numbers are below 2^64, tells them
   abbrev Row : List ℕ → List Fact → Type 0
@@ -89,6 +98,19 @@ module _ (v : Visible) (facts : List Fact) (is_shown : IsSelectedShown v facts) 
     there = inl refl;
   }
 
+  -- an article at a number
+  at_row : (what : What) (s : Success) → IsTrue (head_fits what s.id s.block) → IsTrue (is_some v.selected) → s.number < 2 ^ 64 → 1 ≤ s.number
+      → Row (s.number ∷ []) (TextIs what s.id s.block ∷ IdAt (here v) s.number s.id ∷ [])
+  at_row what s fits there few some small = grind (arith, says_has s.number few some)
+
+  -- the article at the position
+  here_row : (at : Position) (what : What) (s : Success) → IsTrue (head_fits what s.id s.block) → IsTrue (is_some v.selected) → 1 ≤ s.number
+      → Row (s.number ∷ []) (TextIs what s.id s.block ∷ Asks (here v) (StandsAt at s.number) ∷ IdAt (here v) s.number s.id ∷ [])
+  here_row at what s fits there some small =
+      let asks : List Ask = StandsAt at s.number ∷ [] in
+      let stands = says_stands at s.number small some in
+      record { tells = record { asks = asks; same = refl; may = assumption (stands, here_shown asks there, fits) }; group = refl; there = inr refl }
+
   -- a row of the table whose condition holds
   said_row : {profile : Profile} {at : Position} {Fits : Type 0} {a : Response} {more : List Fact} → ((i : ℕ) → get_or (numbers_of a) i 0 < 2 ^ 64)
       → rows.Row profile v at Fits a more → Fits → Row (numbers_shown (numbers_of a) a) more
@@ -109,12 +131,13 @@ module _ (v : Visible) (facts : List Fact) (is_shown : IsSelectedShown v facts) 
       step_row (StepsUp at s.number) s.number s.id (known f).0 (λ small. says_up at s.number small (numbered profile s.number (known f).1)) small
   said_row {profile} {at} fit (rows.down s known) f small =
       step_row (StepsDown at s.number) s.number s.id (known f).0 (λ small. says_down at s.number small (numbered profile s.number (known f).1)) small
-  said_row fit (rows.text what s known) f small = record { tells = record { asks = []; same = refl; may = assumption (known f) }; group = refl; there = tt }
-  said_row {profile} fit (rows.text_at what s known) f small = grind (arith, numbered, says_has s.number small.last (numbered profile s.number (known f).1.1))
-  said_row {profile} {at} fit (rows.text_here what s known) f small =
-      let asks : List Ask = StandsAt at s.number ∷ [] in
-      let stands = says_stands at s.number small (numbered profile s.number (known f).1.1) in
-      record { tells = record { asks = asks; same = refl; may = assumption (stands, here_shown asks (known f).1.0, (known f).0) }; group = refl; there = inr refl }
+  said_row fit (rows.text a what s gives known) f small = record { tells = record { asks = []; same = refl; may = assumption (known f) }; group = refl; there = tt }
+  said_row {profile} fit (rows.text_at a what s gives known) f small =
+      subst (λ shown. Row shown (TextIs what s.id s.block ∷ IdAt (here v) s.number s.id ∷ [])) (sym (number_given gives))
+      (λ small. at_row what s (known f).0 (known f).1.0 small.last (numbered profile s.number (known f).1.1) small) small
+  said_row {profile} {at} fit (rows.text_here a what s gives known) f small =
+      subst (λ shown. Row shown (TextIs what s.id s.block ∷ Asks (here v) (StandsAt at s.number) ∷ IdAt (here v) s.number s.id ∷ [])) (sym (number_given gives))
+      (here_row at what s (known f).0 (known f).1.0 (numbered profile s.number (known f).1.1)) small
   said_row {profile} fit (rows.active p lines known) f small =
       record { tells = record { asks = []; same = refl; may = assumption (may_list profile p (active_groups lines) (known f).0 (known f).1) }; group = refl; there = tt }
   said_row fit r f small = record { tells = record { asks = []; same = refl; may = assumption }; group = refl; there = tt }

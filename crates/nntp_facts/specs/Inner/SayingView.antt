@@ -19,7 +19,7 @@ of_group g = record { name = g.name.now; numbers = said g.numbers; id = id_at g.
 abbrev pub article_said : ArticlePart → Id × said_of.OfArticle
 article_said (Lacks id) = (id.now, said_of.Lacks)
 article_said (Exists id) = (id.now, said_of.Exists)
-article_said (Sends id what block) = (id.now, said_of.Sends what block.now)
+article_said (Sends id what block) = (id.now, said_of.Sends what (option_map (λ b. b.now) block))
 
 -- the groups that match
 abbrev pub active_said : ActivePart → Option (List ℕ) × List ActiveValue

@@ -49,9 +49,11 @@ pub(crate) struct Sent<'a> {
 
 impl<'a> Sent<'a> {
     /// Returns the parts that a success sends in its block.
-    pub(crate) fn of(what: What, block: &Option<Block<'a>>) -> Sent<'a>
-        ensures head { (id : Id) → IsTrue (head_fits what id block.now) → result.head ≡ head_sent what block.now }
-        ensures body { (id : Id) → IsTrue (head_fits what id block.now) → result.body ≡ body_sent what block.now }
+    pub(crate) fn of(what: What, block: Option<&Block<'a>>) -> Sent<'a>
+        ensures head { (id : Id) → IsTrue (head_fits what id (option_map (λ b. b.now) block.entry))
+            → result.head ≡ head_sent what (option_map (λ b. b.now) block.entry) }
+        ensures body { (id : Id) → IsTrue (head_fits what id (option_map (λ b. b.now) block.entry))
+            → result.body ≡ body_sent what (option_map (λ b. b.now) block.entry) }
     {
         match (what, block) {
             (What::Article, Some(lines)) => Sent::parts(Parts::split(lines)),

@@ -1,5 +1,5 @@
 -- What the values of src/fact.rt mean.
-use Rattle.std.specs.Prelude.{ℕ, List, [], ◌∷◌, Option, None, Some}
+use Rattle.std.specs.Prelude.{ℕ, List, [], ◌∷◌, Option, None, Some, option_map}
 use Rattle.nntp_wire.specs.Listing.{active_groups, listed_numbers, overviews_of}
 use Rattle.nntp_article.specs.Session.Machine.{overview_numbers}
 use Rattle.nntp_said.specs.declared.fact.Ask.{Ask, TheVariants.{Estimates, Bounds, Lists, Lacks, StandsAt, StandsNowhere, StepsUp, StepsDown, IsTop, IsBottom}}
@@ -33,7 +33,7 @@ fact_of (ThereIs name) = facts.ThereIs name.now
 fact_of (ThereIsNo name) = facts.ThereIsNo name.now
 fact_of (Asks name ask) = facts.Asks name.now (ask_of ask)
 fact_of (IdAt name number id) = facts.IdAt name.now number id.now
-fact_of (TextIs what id block) = facts.TextIs what id.now block.now
+fact_of (TextIs what id block) = facts.TextIs what id.now (option_map (λ b. b.now) block)
 fact_of (NoArticle id) = facts.NoArticle id.now
 fact_of (GroupsAre wildmat block) = facts.GroupsAre wildmat.now (active_groups block.now)
 

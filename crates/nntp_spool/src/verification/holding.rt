@@ -1,5 +1,5 @@
 //! Whether what an answer says holds of a spool, a fact at a time.
-ghost use Rattle.std.specs.Prelude.{◌≡◌, ◌↔◌, IsTrue, IfOk, None, drop, map};
+ghost use Rattle.std.specs.Prelude.{◌≡◌, ◌↔◌, IsTrue, IfOk, None, drop, map, option_map};
 ghost use Rattle.std.specs.List.{AllByRecursion};
 ghost use Rattle.nntp_wire.specs.Name.{IsGroupName};
 ghost use Rattle.nntp_wire.specs.declared.command.What.TheVariants.{Stat};
@@ -58,8 +58,8 @@ fn is_implied(facts: &SaidFacts<'_>) -> bool
 }
 
 /// Tells whether nothing is sent of an article.
-fn sends_nothing(what: What, block: &Option<Block<'_>>) -> bool
-    ensures { IsTrue result ↔ ((what ≡ Stat) × (block.now ≡ None)) }
+fn sends_nothing(what: What, block: Option<&Block<'_>>) -> bool
+    ensures { IsTrue result ↔ ((what ≡ Stat) × (option_map (λ b. b.now) block.entry ≡ None)) }
 {
     what == What::Stat && block.is_none()
 }
@@ -83,16 +83,21 @@ fn holds<A: Allocator + Copy, S: Allocator>(
         Fact::ThereIs(name) => Ok(group.is_group(name.as_slice())),
         Fact::ThereIsNo(word) => Ok(!group.is_group(*word)),
         Fact::Asks(name, ask) => Ok(group.meets(*name, ask, numbers)),
-        Fact::IdAt(name, number, id) => Ok(group.has_id(*name, *number, id.as_str())),
-        Fact::TextIs { what, id, block } => Ok(sends(group.spool(), *what, id.as_str(), *block)),
+        Fact::IdAt(name, number, id) => Ok(group.has_id(*name, *number, *id)),
+        Fact::TextIs { what, id, block } => Ok(sends(group.spool(), *what, *id, *block)),
         Fact::NoArticle(word) => Ok(!group.spool().knows(*word)),
         Fact::GroupsAre { wildmat, .. } => lists_groups(group.spool(), counts, *wildmat, groups),
     }
 }
 
 /// Tells whether the id has an article, and this is what is sent of it.
-fn sends<A: Allocator>(spool: &Content<A>, what: What, id: &str, block: &Option<Block<'_>>) -> bool
-    ensures { IsTrue result ↔ HasText spool.now what id.now block.now }
+fn sends<A: Allocator>(
+    spool: &Content<A>,
+    what: What,
+    id: &str,
+    block: Option<&Block<'_>>,
+) -> bool
+    ensures { IsTrue result ↔ HasText spool.now what id.now (option_map (λ b. b.now) block.entry) }
 {
     match spool.article(id) {
         Some(article) => has_text(article, what, block),

@@ -1,5 +1,5 @@
 //! The comparison of what is sent of an article with the article's text.
-ghost use Rattle.std.specs.Prelude.{◌≡◌, ◌↔◌, IsTrue};
+ghost use Rattle.std.specs.Prelude.{◌≡◌, ◌↔◌, IsTrue, option_map};
 ghost use Rattle.nntp_article.specs.Session.Spool.{text_of};
 ghost use Rattle.nntp_spool.specs.Inner.ArticleLines.{text_stored};
 
@@ -11,9 +11,9 @@ use std::alloc::Allocator;
 pub(crate) fn has_text<A: Allocator>(
     article: &StoredArticle<A>,
     what: What,
-    block: &Option<Block<'_>>,
+    block: Option<&Block<'_>>,
 ) -> bool
-    ensures { IsTrue result ↔ (text_of what (text_stored article.now) ≡ block.now) }
+    ensures { IsTrue result ↔ (text_of what (text_stored article.now) ≡ option_map (λ b. b.now) block.entry) }
 {
     let (head, body) = (
         article.head.as_ref().as_block(),

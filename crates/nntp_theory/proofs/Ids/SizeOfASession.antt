@@ -1,5 +1,6 @@
 -- What a session says is bounded by its answers.
 use Rattle.nntp_wire.{specs.{declared.marks.Marks.{Marks}, Answer.{Asked, Response}}, proofs.ListingLemmas.{listed_numbers-few, overviews_of-few, active_groups-few}}
+use Rattle.std.proofs.lemmas.List.{length-map}
 use Rattle.std.{proofs.Common.{◌+◌, ◌*◌, ◌<◌, ◌≤◌, ◌^◌, List, [], ◌∷◌, length, arith}, specs.List.{AllByRecursion}}
 use Rattle.nntp_article.specs.Session.Machine.{Visible, visible_after, start}
 use Rattle.nntp_said.specs.{Asks.{position_after}, declared.position.Position.{Position, TheVariants.{Nowhere}}, Facts.{facts_of, facts_from}}
@@ -8,7 +9,7 @@ use Rattle.nntp_pair.specs.{Pairing.{Paired, responses_of}, Inner.Pairing.{lines
 
 -- what an answer says is bounded by its lines
 pub answer_size : (how : Marks) (v : Visible) (at : Position) (p : Asked) (a : Response) → size (facts_of how v at p a) ≤ lines_in a + 3
-answer_size how v at p a = grind (arith, listed_numbers-few, overviews_of-few, active_groups-few)
+answer_size how v at p a = grind (arith, listed_numbers-few, overviews_of-few, length-map, active_groups-few)
 
 -- and so a session, from any state on
 from_size : (how : Marks) (v : Visible) (at : Position) (ps : List Asked) (answers : List Response) → size (facts_from how v at ps answers) ≤ weight answers

@@ -49,8 +49,8 @@ row_placed {profile} all (marks m name known) f stands h = let g = selectable pr
 row_placed {profile} all (listing m name range lines known) f stands h = let g = selectable profile.marks all name m (h.0, (h.1.0, tt)) in (g, (g, (g, tt)))
 row_placed {profile} {v} all (up s known) f stands h = let g = here_stands profile.marks all v stands (known f).0 in (g, (g, tt))
 row_placed {profile} {v} all (down s known) f stands h = let g = here_stands profile.marks all v stands (known f).0 in (g, (g, tt))
-row_placed {profile} {v} all (text_at what s known) f stands h = (tt, (here_stands profile.marks all v stands (known f).1.0, tt))
-row_placed {profile} {v} all (text_here what s known) f stands h = let g = here_stands profile.marks all v stands (known f).1.0 in (tt, (g, (g, tt)))
+row_placed {profile} {v} all (text_at a what s gives known) f stands h = (tt, (here_stands profile.marks all v stands (known f).1.0, tt))
+row_placed {profile} {v} all (text_here a what s gives known) f stands h = let g = here_stands profile.marks all v stands (known f).1.0 in (tt, (g, (g, tt)))
 row_placed all r f stands h = assumption
 
 -- the group that is selected afterwards is there

@@ -1,12 +1,13 @@
 -- What octets spell is well formed.
 use Rattle.nntp_wire.specs.{declared.marks.Marks.{Marks}, Octets.{crlf}, Inner.Octets.{are_octets}, Name.{IsGroupName, IsMessageId}, Block.{stuffed, sent}}
-use Rattle.nntp_wire.specs.{Block.{AreClean}, Listing.{active_groups}, Answer.{Asked, Response, group_is, numbers_are, sends, active_are, plain, Spells}}
+use Rattle.nntp_wire.specs.{Block.{AreClean}, Listing.{OverviewValue, active_groups, overviews_of}, Answer.{Asked, Response, Success, group_is, numbers_are, sends, active_are, plain, Spells}}
 use Rattle.nntp_wire.specs.Answer.{SaysByLines, SaysGroup, SaysNumbers, SaysArticle, SaysActive, SaysOverviews, SaysCapabilities, SaysCode, block_octets}
 use Rattle.nntp_wire.{specs.Answer.{IsCleanBlock, overviews_are}, proofs.{AnswerLemmas.{says-ways}, OctetLemmas.{octets-parts, unstuffed-octets}}}
-use Rattle.nntp_wire.proofs.ListingLemmas.{active_groups-named}
-use Rattle.std.{proofs.Common.{◌≡◌, ℕ, true, IsTrue, List, [], ◌∷◌, ◌++◌, ◌⊎◌, Option, arith}, specs.{Prelude.{IfSome, ⊤}, List.{AllByRecursion}}}
+use Rattle.nntp_wire.proofs.ListingLemmas.{active_groups-named, overviews_of-named}
+use Rattle.std.{proofs.Common.{◌≡◌, ℕ, true, IsTrue, List, [], ◌∷◌, ◌++◌, ◌⊎◌, Option, Some, arith}, specs.{Prelude.{IfSome, ⊤}, List.{AllByRecursion}}}
 use Rattle.nntp_article.specs.{Session.{Spool.{is_line}, Machine.{Visible}}, declared.session.profile.Profile.{Profile}}
-use Rattle.nntp_said.{specs.{declared.position.Position.{Position}, Facts.{Fact, facts_of}}, proofs.Rows.{Row, row}}
+use Rattle.nntp_said.{specs.{declared.position.Position.{Position}, Facts.{Fact, facts_of}}, proofs.Rows.{Row, Gives, sends_it, lists_it, row}}
+use Rattle.nntp_article.specs.Session.Machine.{only}
 use Rattle.nntp_theory.specs.Inner.Together.{IsWellFormed}
 
 -- the lines of octets that send them are lines
@@ -24,7 +25,7 @@ IsProper (group_is m name) = IsGroupName name
 IsProper (numbers_are m name lines) = IsGroupName name
 IsProper (sends s) = IsMessageId s.id × IfSome s.block (λ lines. AllByRecursion (λ line. IsTrue (is_line line)) lines)
 IsProper (active_are lines) = AllByRecursion (λ line. IsGroupName line.name) (active_groups lines)
-IsProper (overviews_are lines) = ⊤
+IsProper (overviews_are lines) = AllByRecursion (λ o. IsMessageId o.id) (overviews_of lines)
 IsProper (plain code) = ⊤
 
 -- so are those of one that octets and a block say, in whatever way
@@ -35,15 +36,24 @@ said_proper : (code : ℕ) (bytes : List ℕ) (block : Option (List (List ℕ)))
     ⊎ (SaysByLines SaysOverviews block response
     ⊎ (SaysByLines (SaysCapabilities code) block response ⊎ SaysCode code response)))))
     → IsProper response
-said_proper code bytes block response lines h = grind (arith, active_groups-named)
+said_proper code bytes block response lines h = grind (arith, active_groups-named, overviews_of-named)
 
 -- and of one that they spell
 spelled_proper : (asked : Asked) (response : Response) (bytes : List ℕ) → Spells asked response bytes → are_octets bytes ≡ true → IsProper response
 spelled_proper asked response bytes s h = grind (arith, said_proper, block_lines, octets-parts, says-ways)
 
+-- the only one is among them
+only_named : (os : List OverviewValue) (o : OverviewValue) → only os ≡ Some o → AllByRecursion (λ o. IsMessageId o.id) os → IsMessageId o.id
+only_named os o e named = grind arith
+
+-- the article that such a response gives has a proper id and proper lines
+gives_proper : {a : Response} {s : Success} → Gives a s → IsProper a → IsMessageId s.id × IfSome s.block (λ lines. AllByRecursion (λ line. IsTrue (is_line line)) lines)
+gives_proper (sends_it s) proper = proper
+gives_proper (lists_it lines o e) proper = (only_named (overviews_of lines) o e proper, tt)
+
 -- a row of such a response is well formed
 row_formed : {profile : Profile} {v : Visible} {at : Position} {Fits : Type 0} {a : Response} {facts : List Fact} → Row profile v at Fits a facts → IsProper a → AllByRecursion IsWellFormed facts
-row_formed r h = grind arith
+row_formed r h = grind (arith, gives_proper)
 
 -- what octets spell says well-formed facts
 pub spelled_formed : (how : Marks) (v : Visible) (at : Position) (asked : Asked) (response : Response) (bytes : List ℕ)

@@ -1,4 +1,4 @@
-use Rattle.std.{proofs.Common.{◌∙◌, ◌||◌, false, ap, sym}, specs.Prelude.{codes}}
+use Rattle.std.{proofs.Common.{◌∙◌, ◌||◌, false, ap, sym}, specs.Prelude.{codes, option_map}}
 use Rattle.nntp_said.specs.Facts.{TextIs}
 use Rattle.nntp_facts.specs.Inner.PointView.{point_of}
 use Rattle.nntp_explain.proofs.SaysLemmas.{on_ok, line_told, told_article}
@@ -8,6 +8,6 @@ pub returns-in-Article : goal.returns-in-Article
 returns-in-Article g c =
     on_ok c.put_escaped_line.result
     (λ put. line_told c.args.text.now.items (codes "says article ") c.args.id.now _ c.put_escaped_line.new.text.items put
-    (sym (told_article c.args.about.now.line (point_of c.args.about.now.point) c.in-Article.other.now (TextIs c.args.what c.args.id.now c.args.block.now)
+    (sym (told_article c.args.about.now.line (point_of c.args.about.now.point) c.in-Article.other.now (TextIs c.args.what c.args.id.now (option_map (λ b. b.now) c.args.block))
     (ap point_of c.in-Article.is) (ap (λ b. b || false) (sym c.is_same.ensures ∙ c.if-is_same.true)))))
     c.put_escaped_line.ensures

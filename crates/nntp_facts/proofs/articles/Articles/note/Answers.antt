@@ -1,4 +1,4 @@
-use Rattle.std.proofs.Common.{◌≡◌, Some, sym, subst, arith}
+use Rattle.std.{proofs.Common.{◌≡◌, Some, sym, subst, arith}, specs.Prelude.{option_map}}
 use Rattle.nntp_facts.specs.{declared.joins.Joins.TheVariants.{Again}, Inner.{Saying.{Lacks, IsToExist}, ArticleView.{is_added}, KeptSaying.{IsThereAlready}}}
 use Rattle.nntp_facts.specs.Inner.{KeptSaying.{MayBeSaid, IsArticleAdded}, SayingView.{article_said}}
 use Rattle.nntp_theory.proofs.OkResults.{if_ok}
@@ -16,7 +16,7 @@ returns-in-Sends-clause-added g c =
     if_ok c.note_sent.result (λ added adds facts kept may already.
     let fits = subst (λ p. MayBeSaid (article_said p)) s.is may in
     subst (λ p. IsArticleAdded facts (Some (article_said p)) c.args.self.now c.note_sent.new.self (is_added added)) (sym s.is)
-    (adds facts s.what s.block.now kept (c.of.ensures.head s.id.now fits) (c.of.ensures.body s.id.now fits))) c.note_sent.ensures.added
+    (adds facts s.what (option_map (λ b. b.now) s.block) kept (c.of.ensures.head s.id.now fits) (c.of.ensures.body s.id.now fits))) c.note_sent.ensures.added
 
 pub returns-in_ok-note_lack-in-Lacks-clause-added : goal.returns-in_ok-note_lack-in-Lacks-clause-added
 returns-in_ok-note_lack-in-Lacks-clause-added g c facts kept may already =

@@ -21,6 +21,7 @@ pub returns-in-Some-Sends : goal.returns-in-Some-Sends
 returns-in-Some-Sends g c profile facts more h =
     let w = c.in-Some-Sends in
     let id = w.id.now in
-    let said : option_map article_said c.args.told.now.saying.article ≡ Some (id, Sends w.what w.block.now) = search rules in
-    part_point profile facts c.args.self.now (statement_of c.args.told.now) more h Body id w.what w.block.now said c.of.result.body (c.of.ensures.body id)
+    let lines = option_map (λ b. b.now) w.block in
+    let said : option_map article_said c.args.told.now.saying.article ≡ Some (id, Sends w.what lines) = search rules in
+    part_point profile facts c.args.self.now (statement_of c.args.told.now) more h Body id w.what lines said c.of.result.body (c.of.ensures.body id)
     (option_map point_of c.other_body_sent.result) (c.other_body_sent.ensures facts h.kept)
