@@ -15,7 +15,7 @@ mod verdicts;
 pub use choices::{check_by, checker_by};
 pub use expectations::{expect_front, expect_octets, expect_verified};
 pub use known::group_lines;
-pub use notes::{Stop, Whole, bad_of, beginning, note_all};
+pub use notes::{Stop, Whole, bad_of, beginning, note_all, note_taking};
 pub use pieces::{checked_split, feed_split, finished};
 pub use several::{
     check_sessions_by, checked_by_octets, checked_in_turn, checked_sessions, feed_sessions,

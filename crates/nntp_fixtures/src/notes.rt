@@ -5,7 +5,7 @@ ghost use Rattle.nntp_witness.specs.Inner.Witness.{HaveNotedSome};
 use nntp_facts::{Facts, FactsError, Noted};
 use nntp_pair::{Class, Exchange, Pairs, Step};
 use nntp_sessions::Outcome;
-use nntp_wire::{Limit, Marks};
+use nntp_wire::{Limit, Marks, Overviews};
 use std::alloc::{AllocError, Allocator, Global};
 
 /// What stops the noting of a session's exchanges.
@@ -51,9 +51,23 @@ pub fn note_all<A: Allocator + Copy>(
 ) -> Result<Whole<A>, Stop>
     ensures { IfOk result (λ whole. HaveNotedSome whole.facts) }
 {
+    note_taking(alloc, limit, marks, Overviews::Opaque, client, server)
+}
+
+/// Notes the exchanges of a session one after the other, where OVER and XOVER are taken so.
+pub fn note_taking<A: Allocator + Copy>(
+    alloc: A,
+    limit: Limit,
+    marks: Marks,
+    overviews: Overviews,
+    client: &[u8],
+    server: &[u8],
+) -> Result<Whole<A>, Stop>
+    ensures { IfOk result (λ whole. HaveNotedSome whole.facts) }
+{
     let mut facts = Facts::new(alloc, limit, marks);
     let mut answers = 0u64;
-    let mut pairs = Pairs::new(client, server);
+    let mut pairs = Pairs::taking(overviews, client, server);
     loop {
         let exchange = match pairs.next() {
             Step::Exchange(exchange) => exchange,

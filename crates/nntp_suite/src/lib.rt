@@ -8,6 +8,8 @@ mod cuts;
 #[cfg(test)]
 mod marks;
 #[cfg(test)]
+mod overviews;
+#[cfg(test)]
 mod several;
 #[cfg(test)]
 mod verdicts;

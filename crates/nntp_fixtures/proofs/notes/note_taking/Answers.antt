@@ -2,8 +2,8 @@ use Rattle.std.proofs.Common.{refl, sym, [], ap}
 use Rattle.nntp_article.specs.Session.Limit.{profile_of}
 use Rattle.nntp_witness.proofs.Aims.{noted_as_kept}
 use Rattle.nntp_verdict.{specs.Inner.Judging.{class_noted}, proofs.JudgeLemmas.{is-due, one-more}}
-use Rattle.nntp_wire.specs.{Session.{taken}, declared.overviews.Overviews.TheVariants.{Opaque}}
-use Rattle.nntp_fixtures.proofs.notes.note_all.Goals as goal
+use Rattle.nntp_wire.specs.Session.{taken}
+use Rattle.nntp_fixtures.proofs.notes.note_taking.Goals as goal
 
 pub loop-exchange-init : goal.loop-exchange-init
 loop-exchange-init g c = record {
@@ -23,7 +23,7 @@ returns-in-End g c =
 
 pub note-requires : goal.note-requires
 note-requires g c =
-    λ whole. is-due (profile_of c.args.limit c.args.marks) [] (record { client = taken Opaque c.args.client.now; server = c.args.server.now }) c.loop-exchange.facts []
+    λ whole. is-due (profile_of c.args.limit c.args.marks) [] (record { client = taken c.args.overviews c.args.client.now; server = c.args.server.now }) c.loop-exchange.facts []
     c.loop-exchange.pairs c.next.new.self c.in-Exchange.exchange c.loop-exchange.invariant
     c.in-Exchange.ensures.step
 
@@ -32,7 +32,7 @@ loop-exchange-smaller g c = c.in-Exchange.ensures.progress
 
 pub loop-exchange-preserved : goal.loop-exchange-preserved
 loop-exchange-preserved g c =
-    (one-more (profile_of c.args.limit c.args.marks) [] (record { client = taken Opaque c.args.client.now; server = c.args.server.now }) c.loop-exchange.facts c.note.new.self []
+    (one-more (profile_of c.args.limit c.args.marks) [] (record { client = taken c.args.overviews c.args.client.now; server = c.args.server.now }) c.loop-exchange.facts c.note.new.self []
     c.loop-exchange.pairs c.next.new.self c.in-Exchange.exchange c.in-Ok-Consistent.field-0
     c.loop-exchange.invariant c.in-Exchange.ensures.step
     (c.in-Ok-Consistent.ensures.noted (profile_of c.args.limit c.args.marks))
