@@ -13,18 +13,20 @@ use Rattle.nntp_facts.proofs.Keeping.ToldAnswers.{group_said, none_said, selecte
 shown_by : (profile : Profile) (selected : Option Name) → IfSome selected (λ name. is_shown_group (the_group profile selected) name ≡ true)
 shown_by profile selected = grind (arith, or_left, same_itself)
 
+-- the group of which facts speak that are told is one
+group_formed : (profile : Profile) (selected : Option Name) (s : Saying) (more : List Fact) → TellsThere selected s more → AllByRecursion IsWellFormed more
+    → IfSome selected IsGroupName → IfSome (group_of more) IsGroupName
+group_formed profile selected s more t formed name =
+    grind (arith, all_at, t (the_group profile selected) (shown_by profile selected), in_back, in_front, group_said selected s more t, selected_spoken selected s more t, none_said selected s more t)
+
 module _ (profile : Profile) (a : Placed) (s : Saying) (t : TellsThere a.selected s (said profile.marks a)) where
   h : TellsHere (unwrap_or a.selected []) (the_group profile a.selected) s (said profile.marks a)
   h = t (the_group profile a.selected) (shown_by profile a.selected)
 
-  -- the group of which it speaks is one
-  group_formed : AllByRecursion IsWellFormed (said profile.marks a) → IfSome a.selected IsGroupName → IfSome (group_of (said profile.marks a)) IsGroupName
-  group_formed formed name = grind (arith, all_at, h, in_back, in_front, group_said, selected_spoken, none_said)
-
   -- by itself the answer tells its facts
   pub told_alone : (group : Option Name) → group ≡ group_of (said profile.marks a) → AllByRecursion IsWellFormed (said profile.marks a) → IfSome a.selected IsGroupName
       → TellsAlone profile (record { group = group; saying = s }) (told profile a)
-  told_alone group is formed name = grind (arith, h, all_both, group_formed, answer_agrees)
+  told_alone group is formed name = grind (arith, h, all_both, group_formed profile a.selected s (said profile.marks a) t, answer_agrees)
 
 -- what it says tells its facts, where marks are read so
 pub there_told_so : (profile : Profile) (a : Placed) (asked : Asked) (response : Response) (at : Position) (name : Name) (numbers : List ℕ) (s : Saying) (how : Marks) → profile.marks ≡ how

@@ -25,7 +25,7 @@ pub returns-in-Some-Sends : goal.returns-in-Some-Sends
 returns-in-Some-Sends g c profile facts more h =
     let w = c.in-Some-Sends in
     let id = w.id.now in
-    let a = Sends w.field-0-1 w.field-0-2.now in
+    let a = Sends w.field-0-1 (option_map (λ b. b.now) w.field-0-2) in
     let said : option_map article_said c.args.told.now.saying.article ≡ Some (id, a) = search rules in
     has profile facts c.args.self.now (statement_of c.args.told.now) more h id a said refl (option_map point_of c.lacked_article-in-Some-Sends.result)
     (c.lacked_article-in-Some-Sends.ensures ∙ ap (λ b. cond b (Some (Article id)) None) (sym (denied_kept facts c.args.self.now.articles id h.kept.articles)))
