@@ -1,5 +1,5 @@
 -- The report on one session, by itself and as the only one of several.
-use Rattle.std.{proofs.Common.{◌≡◌, ◌∙◌, refl, sym, ap, ℕ, ◌+◌, ◌==◌, Bool, List, [], ◌∷◌, ◌++◌, append-nil, arith}, specs.Prelude.{codes, decimal}}
+use Rattle.std.{proofs.Common.{◌≡◌, ◌∙◌, refl, sym, ap, ℕ, ◌==◌, Bool, List, [], ◌∷◌, ◌++◌, append-nil, arith}, specs.Prelude.{codes, decimal}}
 use Rattle.nntp_wire.specs.declared.{limit.Limit.{Limit}, marks.Marks.{Marks}}
 use Rattle.nntp_article.specs.Session.Limit.{profile_of}
 use Rattle.nntp_several.specs.{Reading.{ReadSession, AreReadings}, Sessions.{Named}}

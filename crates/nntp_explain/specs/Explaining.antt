@@ -1,6 +1,6 @@
 -- What `explain` prints of sessions: each bad answer, where its session stands there, and why it is bad.
 use Rattle.std.specs.Prelude.{◌≡◌, ℕ, zero, suc, ◌+◌, ◌-◌, ◌*◌, ◌≤◌, ◌==◌, ◌||◌, ◌⊎◌, nat_lt, if◌then◌else◌, cond, Bool, List, [], ◌∷◌, ◌++◌, length, drop}
-use Rattle.std.specs.{Prelude.{count_by, is_some, map, Option, Some, MatchOption, codes, decimal}, Option.{option_map, option_map_or}}
+use Rattle.std.specs.{Prelude.{count_by, map, Option, Some, MatchOption, codes, decimal}, Option.{option_map, option_map_or}}
 use Rattle.nntp_wire.specs.{Lines.{lines_of_stream}, declared.{limit.Limit.{Limit}, marks.Marks.{Marks}}, Misspelling.{misspelling}, Session.{ClientStream}}
 use Rattle.nntp_article.specs.{Session.{Machine.{Visible, start}, Limit.{profile_of}, Misfit.{misfit}}, declared.session.profile.Profile.{Profile}}
 use Rattle.nntp_said.specs.Facts.{Fact}

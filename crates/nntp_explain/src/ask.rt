@@ -155,8 +155,15 @@ fn count_of(listing: &Listing<'_>) -> u64
     match listing {
         Listing::Nothing => 0,
         Listing::Numbers(block) => block.numbers().count() as u64,
-        Listing::Overviews(block) => block.overviews().count() as u64,
+        Listing::Overviews(block) => count_overviews(*block),
     }
+}
+
+/// Returns how many overviews the lines are.
+fn count_overviews(block: &Block<'_>) -> u64
+    ensures { result ≡ length (overviews_of block.now) }
+{
+    block.overviews().count() as u64
 }
 
 /// Tells whether the range has the number.

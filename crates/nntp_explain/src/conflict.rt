@@ -146,8 +146,14 @@ fn part_sent<'a>(point: &Point<'_>, answer: &Placed<'a>) -> Option<Block<'a>>
                 block,
             },
         ) => match point {
-            Point::HeadOf(other) if is_same(id.as_slice(), *other) => head_of(*what, block.as_ref()),
-            Point::BodyOf(other) if is_same(id.as_slice(), *other) => body_of(*what, block.as_ref()),
+            Point::HeadOf(other) if is_same(id.as_slice(), *other) => head_of(
+                *what,
+                block.as_ref(),
+            ),
+            Point::BodyOf(other) if is_same(id.as_slice(), *other) => body_of(
+                *what,
+                block.as_ref(),
+            ),
             _ => None,
         },
         _ => None,

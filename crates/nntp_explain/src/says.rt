@@ -158,7 +158,8 @@ fn put_text_is<A: Allocator + Copy>(
     block: Option<&Block<'_>>,
 ) -> Result<(), AllocError>
     requires { IfSome about.now.line (λ place. place < 2 ^ 64 - 1) }
-    ensures { OnOk result (text.new.items ≡ text.old.items ++ says about.now.line (point_of about.now.point) (TextIs what id.now (option_map (λ b. b.now) block.entry))) }
+    ensures { OnOk result (text.new.items
+        ≡ text.old.items ++ says about.now.line (point_of about.now.point) (TextIs what id.now (option_map (λ b. b.now) block.entry))) }
 {
     match &about.point {
         Point::Article(other) if is_same(id, *other) => {

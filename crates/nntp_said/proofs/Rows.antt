@@ -1,17 +1,18 @@
 -- The table of what an answer says, by its rows: a list of facts each, with what is known of them where the answer fits.
-use Rattle.std.proofs.Common.{◌≡◌, ℕ, Bool, true, false, cond, ◌==◌, ◌&&◌, ◌||◌, ◌⊎◌, IsTrue, List, [], ◌∷◌, ◌++◌, Option, None, Some, is_some, inl, inr, refl, sym, subst}
-use Rattle.std.{proofs.{Common.{◌∙◌, arith}, lemmas.Bool.{and_parts, or_cases, eqb-true, true≢false, false≢true, Decides.{nat_tests}}}, specs.{Prelude.{⊤}, List.{list_all}}}
-use Rattle.std.specs.Option.{option_map_or, option_or}
+use Rattle.std.proofs.Common.{◌≡◌, ℕ, Bool, true, false, cond, ◌==◌, ◌&&◌, ◌||◌, ◌⊎◌, IsTrue, List, [], ◌∷◌, ◌++◌, Option, None, Some, is_some, inl, inr, refl}
+use Rattle.std.proofs.{Common.{sym, subst, ◌∙◌, arith}, lemmas.Bool.{and_parts, or_cases, eqb-true, true≢false, false≢true, Decides.{nat_tests}}}
+use Rattle.std.specs.{Prelude.{⊤}, List.{list_all}, Option.{option_map_or, option_or}}
 use Rattle.nntp_article.specs.{Article.Parts.{Id}, Session.{Spool.{Name}, Machine.{Visible, fits, marks_fit, is_ascending, is_same, is_article_number}}}
-use Rattle.nntp_article.specs.{Session.Machine.{is_in_range, number_fits, head_fits, active_fits, names_differ}, declared.session.profile.Profile.{Profile}}
-use Rattle.nntp_article.specs.Session.Machine.{is_one_of, none_in_range, may_list, overview_numbers, overview_ids, all_differ, only, found}
+use Rattle.nntp_article.specs.Session.Machine.{is_in_range, number_fits, head_fits, active_fits, names_differ, is_one_of, none_in_range, may_list}
+use Rattle.nntp_article.specs.{Session.Machine.{overview_numbers, overview_ids, all_differ, only, found}, declared.session.profile.Profile.{Profile}}
 use Rattle.nntp_said.specs.Asks.{Estimates, ListsIn, Lacks, StandsAt, StandsNowhere, StepsUp, StepsDown, IsTop, IsBottom}
 use Rattle.nntp_said.specs.{declared.position.Position.{Position}, Facts.{Fact, ThereIs, ThereIsNo, Asks, IdAt, TextIs, NoArticle, GroupsAre, here}}
 use Rattle.nntp_said.specs.Facts.{facts_of_code, facts_of_article, facts_of}
-use Rattle.nntp_wire.specs.{Listing.{OverviewValue, listed_numbers, active_groups, overviews_of}, Answer.{Asked, Response, Success, success_code, to, group_is, numbers_are, sends}}
-use Rattle.nntp_wire.specs.{Answer.{active_are, overviews_are, plain}, Command.{Request, Target, by_id, by_number, current, group, list_group, next, last, retrieve}}
-use Rattle.nntp_wire.specs.{Command.{over, the_id, in_range, the_current}, declared.command.OverviewKeyword.{OverviewKeyword, TheVariants.{Over, Xover}}}
-use Rattle.nntp_wire.specs.{Command.{list_active}, declared.{command.What.{What, TheVariants.{Stat}}, range.Range.{Range}, water_marks.WaterMarks.{WaterMarks}}}
+use Rattle.nntp_wire.specs.{Listing.{OverviewValue, listed_numbers, active_groups, overviews_of}, Answer.{Asked, Response, Success, success_code, to, group_is}}
+use Rattle.nntp_wire.specs.{Answer.{numbers_are, sends, active_are, overviews_are, plain}, Command.{Request, Target, by_id, by_number, current, group}}
+use Rattle.nntp_wire.specs.Command.{list_group, next, last, retrieve, over, the_id, in_range, the_current, list_active}
+use Rattle.nntp_wire.specs.declared.command.{OverviewKeyword.{OverviewKeyword, TheVariants.{Over, Xover}}, What.{What, TheVariants.{Stat}}}
+use Rattle.nntp_wire.specs.declared.{range.Range.{Range}, water_marks.WaterMarks.{WaterMarks}}
 
 -- ---- codes of a list
 

@@ -55,7 +55,15 @@ pub fn facts_of<'s>(
                 id,
                 block,
             },
-        ) => facts_of_article(selected, at, *what, which, *number, id.as_str(), block.as_ref()),
+        ) => facts_of_article(
+            selected,
+            at,
+            *what,
+            which,
+            *number,
+            id.as_str(),
+            block.as_ref(),
+        ),
         (Prompt::To(Command::ListActive(wildmat)), Answer::Active(block)) => {
             SaidFacts::one(Fact::GroupsAre { wildmat, block })
         }
@@ -97,12 +105,7 @@ fn facts_of_numbers<'s>(
 }
 
 /// Returns what a success of NEXT or LAST says, which asks this of the numbers of the selected group.
-fn facts_of_step<'s>(
-    selected: &'s [u8],
-    ask: Ask<'s>,
-    number: u64,
-    id: &'s str,
-) -> SaidFacts<'s>
+fn facts_of_step<'s>(selected: &'s [u8], ask: Ask<'s>, number: u64, id: &'s str) -> SaidFacts<'s>
     ensures { result ≡ Asks selected.now (ask_of ask.entry) ∷ IdAt selected.now number id.now ∷ [] }
 {
     SaidFacts::two(Fact::Asks(selected, ask), Fact::IdAt(selected, number, id))

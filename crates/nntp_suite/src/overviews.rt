@@ -109,14 +109,7 @@ const ARTICLES: &[Row] = &[
 /// How the noting of a session ends, where OVER and XOVER are judged.
 fn noted(alloc: Global, client: &[u8], server: &[u8]) -> Result<(u64, Option<Class>), Stop> {
     let (limit, marks) = (Limit::Narrow, Marks::Lenient);
-    match note_taking(
-        alloc,
-        limit,
-        marks,
-        Overviews::Judged,
-        client,
-        server,
-    ) {
+    match note_taking(alloc, limit, marks, Overviews::Judged, client, server) {
         Ok(whole) => Ok((whole.answers, whole.class)),
         Err(Stop::Bad { answer, class }) => Ok((answer, Some(class))),
         Err(stop) => Err(stop),

@@ -1,17 +1,16 @@
 -- What each kind of answer that fits tells.
-use Rattle.std.proofs.Common.{◌≡◌, ℕ, ◌<◌, ◌≤◌, ◌^◌, get_or, true, IsTrue, List, [], ◌∷◌, Option, None, Some, is_some, inl, inr, refl, sym, ap, subst, ◌∙◌, arith}
-use Rattle.std.{proofs.lemmas.Bool.{true≢false}, specs.Prelude.{IfSome, option_map, unwrap_or}}
-use Rattle.nntp_article.specs.{Article.Parts.{Id}, Session.{Spool.{Name}, Machine.{Visible, fits}}, declared.session.profile.Profile.{Profile}}
-use Rattle.nntp_article.specs.Inner.Misfit.{groups_of, numbers_of}
-use Rattle.nntp_article.specs.Session.Machine.{head_fits, overview_numbers, only}
-use Rattle.nntp_wire.specs.{Answer.{Asked, Response, Success}, declared.command.What.{What}, Listing.{ActiveValue, OverviewValue, active_groups, listed_numbers, overviews_of}, declared.{marks.Marks.{Marks}, range.Range.{Range}}}
-use Rattle.nntp_wire.specs.declared.water_marks.WaterMarks.{WaterMarks}
+use Rattle.std.proofs.Common.{◌≡◌, ℕ, ◌<◌, ◌≤◌, ◌^◌, get_or, true, IsTrue, List, [], ◌∷◌, Option, None, Some, is_some, inl, inr, refl, sym, ap, subst, ◌∙◌}
+use Rattle.std.{proofs.{Common.{arith}, lemmas.Bool.{true≢false}}, specs.Prelude.{IfSome, option_map, unwrap_or}}
+use Rattle.nntp_article.specs.{Article.Parts.{Id}, Session.{Spool.{Name}, Machine.{Visible, fits, head_fits, overview_numbers, only}}}
+use Rattle.nntp_article.specs.{declared.session.profile.Profile.{Profile}, Inner.Misfit.{groups_of, numbers_of}}
+use Rattle.nntp_wire.specs.{Answer.{Asked, Response, Success}, declared.{command.What.{What}, marks.Marks.{Marks}, range.Range.{Range}}}
+use Rattle.nntp_wire.specs.{declared.water_marks.WaterMarks.{WaterMarks}, Listing.{ActiveValue, OverviewValue, active_groups, listed_numbers, overviews_of}}
 use Rattle.nntp_said.specs.{declared.position.Position.{Position}, Asks.{Ask, Estimates, ListsIn, Has, Lacks, StandsAt, StandsNowhere, StepsUp, StepsDown}}
 use Rattle.nntp_said.specs.{Asks.{IsTop, IsBottom}, Facts.{Fact, ThereIs, Asks, IdAt, TextIs, here, facts_of, group_of}}
 use Rattle.nntp_theory.specs.Given.{is_shown_group}
 use Rattle.nntp_numbers.specs.Inner.{Part.{Said, Says, AreListable}, PartOf.{IsSmall, nothing_said, part_with}, Summary.{AreBounded}}
-use Rattle.nntp_numbers.proofs.{SaidInARange.{says_range, says_listed}, SaidOfAsks.{said_small, says_marks, marks_bounded, says_has, says_lacks, says_stands, says_nowhere}}
-use Rattle.nntp_numbers.proofs.SaidOfAsks.{says_up, says_down, says_top, says_bottom}
+use Rattle.nntp_numbers.proofs.{SaidInARange.{says_range, says_listed}, SaidOfAsks.{said_small, says_marks, marks_bounded, says_has, says_lacks, says_stands}}
+use Rattle.nntp_numbers.proofs.SaidOfAsks.{says_nowhere, says_up, says_down, says_top, says_bottom}
 use Rattle.nntp_facts.specs.Inner.Saying.{AreListed, Saying, TellsHere, IsSelectedShown, IsShownThen, nothing, numbers_shown, saying_by}
 use Rattle.nntp_facts.{specs.declared.saying.GroupPart.{GroupPart}, proofs.Keeping.FittingAnswers.{listable, may_list, numbered}}
 use Rattle.nntp_facts.specs.declared.saying.Saying as parts

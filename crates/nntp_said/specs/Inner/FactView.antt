@@ -3,8 +3,8 @@ use Rattle.std.specs.Prelude.{ℕ, List, [], ◌∷◌, Option, None, Some, opti
 use Rattle.nntp_wire.specs.Listing.{active_groups, listed_numbers, overviews_of}
 use Rattle.nntp_article.specs.Session.Machine.{overview_numbers}
 use Rattle.nntp_said.specs.declared.fact.Ask.{Ask, TheVariants.{Estimates, Bounds, Lists, Lacks, StandsAt, StandsNowhere, StepsUp, StepsDown, IsTop, IsBottom}}
-use Rattle.nntp_said.specs.declared.fact.Listing.{Listing, TheVariants.{Nothing, Numbers, Overviews}}
-use Rattle.nntp_said.specs.declared.fact.Fact.{Fact, TheVariants.{ThereIs, ThereIsNo, Asks, IdAt, TextIs, NoArticle, GroupsAre}}
+use Rattle.nntp_said.specs.declared.fact.{Listing.{Listing, TheVariants.{Nothing, Numbers, Overviews}}, Fact.{Fact, TheVariants.{ThereIs, ThereIsNo, Asks}}}
+use Rattle.nntp_said.specs.declared.fact.Fact.TheVariants.{IdAt, TextIs, NoArticle, GroupsAre}
 use Rattle.nntp_said.specs.Asks as asks
 use Rattle.nntp_said.specs.Facts as facts
 

@@ -91,12 +91,7 @@ fn holds<A: Allocator + Copy, S: Allocator>(
 }
 
 /// Tells whether the id has an article, and this is what is sent of it.
-fn sends<A: Allocator>(
-    spool: &Content<A>,
-    what: What,
-    id: &str,
-    block: Option<&Block<'_>>,
-) -> bool
+fn sends<A: Allocator>(spool: &Content<A>, what: What, id: &str, block: Option<&Block<'_>>) -> bool
     ensures { IsTrue result ↔ HasText spool.now what id.now (option_map (λ b. b.now) block.entry) }
 {
     match spool.article(id) {

@@ -1,7 +1,7 @@
 -- What a session says is bounded by its answers.
-use Rattle.nntp_wire.{specs.{declared.marks.Marks.{Marks}, Answer.{Asked, Response}}, proofs.ListingLemmas.{listed_numbers-few, overviews_of-few, active_groups-few}}
-use Rattle.std.proofs.lemmas.List.{length-map}
-use Rattle.std.{proofs.Common.{◌+◌, ◌*◌, ◌<◌, ◌≤◌, ◌^◌, List, [], ◌∷◌, length, arith}, specs.List.{AllByRecursion}}
+use Rattle.nntp_wire.{specs.{declared.marks.Marks.{Marks}, Answer.{Asked, Response}}, proofs.ListingLemmas.{listed_numbers-few, overviews_of-few}}
+use Rattle.nntp_wire.proofs.ListingLemmas.{active_groups-few}
+use Rattle.std.{proofs.{lemmas.List.{length-map}, Common.{◌+◌, ◌*◌, ◌<◌, ◌≤◌, ◌^◌, List, [], ◌∷◌, length, arith}}, specs.List.{AllByRecursion}}
 use Rattle.nntp_article.specs.Session.Machine.{Visible, visible_after, start}
 use Rattle.nntp_said.specs.{Asks.{position_after}, declared.position.Position.{Position, TheVariants.{Nowhere}}, Facts.{facts_of, facts_from}}
 use Rattle.nntp_theory.{specs.{Inner.Given.{size, weight}, Given.{facts_of_session}}, proofs.Given.FirstBadAnswer.{size-append}}

@@ -12,4 +12,4 @@ returns g c =
     let point = IsPartitionPoint-from_clause (λ e. nat_lt e.0 n) ids at c.partition_point.ensures.partitioned parted (λ a r q k. search (rules, tests)) in
     rw (c.split_at.ensures.front, c.split_at.ensures.back)
     (parts_are (λ m. m < n) (λ m. n ≤ m) ids at c.partition_point.ensures.bound
-        (λ k d from lt. grind (arith, nat_tests, point.0 k d from lt), λ k d from lt. grind (arith, nat_tests, point.1 k d from lt)))
+    (λ k d from lt. grind (arith, nat_tests, point.0 k d from lt), λ k d from lt. grind (arith, nat_tests, point.1 k d from lt)))

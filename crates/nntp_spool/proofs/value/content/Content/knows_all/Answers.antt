@@ -18,6 +18,6 @@ returns-else-is_empty g c =
     let ids = c.numbers.inside.known.keys in
     let known = λ (id : Id). is_some (map.get c.args.self.now.articles id) in
     let all = all_from_yields_List (λ id. known (rc_str_bytes id)) _ _ c.all-else-is_empty.result c.all-else-is_empty.ensures.ran
-        (YieldsList-from_rest ids c.iter-else-is_empty.ensures.rest) (λ x b q k. search (rules, tests)) in
+    (YieldsList-from_rest ids c.iter-else-is_empty.ensures.rest) (λ x b q k. search (rules, tests)) in
     let are = known_are ids _ c.numbers.invariant.1 (λ none. true≢false (sym (c.is_empty.ensures.1 (ap length none)) ∙ c.if-is_empty.false)) in
     all ∙ all_ids known ids _ are ∙ ap (all_known c.args.self.now) (c.numbers.view_is ∙ c.or-numbers.ensures)
