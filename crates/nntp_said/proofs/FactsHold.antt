@@ -127,12 +127,12 @@ one_holds : (S : Spool) (v : Visible) (at : Position) (which : Target) (o : Opti
 one_holds S v at which None h = absurd h
 one_holds S v at which (Some o) h = article_holds S v at Stat which (found o) h
 
-one_agrees : (limit : Profile) (S : Spool) (v : Visible) (at : Position) (which : Target) (o : Option OverviewValue)
-    → IsTrue (option_map_or (λ o. number_fits limit v which o.number o.id) o false)
+one_agrees : (profile : Profile) (S : Spool) (v : Visible) (at : Position) (which : Target) (o : Option OverviewValue)
+    → IsTrue (option_map_or (λ o. number_fits profile v which o.number o.id) o false)
     → AllByRecursion (Holds S) (option_map_or (λ o. facts_of_article v at Stat which (found o)) o [])
     → MatchOption o ⊥ (λ o. ArticleAgrees S (state_at S v at) Stat which (found o))
-one_agrees limit S v at which None f h = absurd (false≢true f)
-one_agrees limit S v at which (Some o) f h = article_agrees S v at Stat which (found o) h
+one_agrees profile S v at which None f h = absurd (false≢true f)
+one_agrees profile S v at which (Some o) f h = article_agrees S v at Stat which (found o) h
 
 -- from that it agrees
 facts_hold : (how : Marks) (S : Spool) (v : Visible) (at : Position) (p : Asked) (a : Response) → Agrees how S (state_at S v at) p a → AllByRecursion (Holds S) (facts_of how v at p a)
