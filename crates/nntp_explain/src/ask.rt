@@ -5,11 +5,11 @@ ghost use Rattle.nntp_wire.specs.Listing.{listed_numbers, overviews_of};
 ghost use Rattle.nntp_article.specs.Session.Machine.{is_in_range, overview_numbers};
 ghost use Rattle.nntp_theory.specs.Given.{is_end};
 ghost use Rattle.nntp_said.specs.Asks as asks;
-ghost use Rattle.nntp_said.specs.Inner.FactView.{ask_of, listing_of};
+ghost use Rattle.nntp_said.specs.Inner.FactView.{ask_of, numbers_listed};
 ghost use Rattle.nntp_explain.specs.Says.{ask_text, ask_word, bears_on, current_place, current_word, listed_text, marks_text, place_text, range_text};
 ghost use Rattle.nntp_explain.specs.Says.{with_or_without};
 
-use nntp_facts::{Ask, Listing, Position};
+use nntp_facts::{Ask, NumberLines, Position};
 use nntp_printing::put_number;
 use nntp_wire::{Block, Marks, Range, WaterMarks};
 use std::alloc::{AllocError, Allocator};
@@ -37,7 +37,7 @@ pub(crate) fn bears_on(ask: &Ask<'_>, number: u64) -> bool
             number < marks.low || marks.high < number || is_end(*how, *marks, number)
         }
         Ask::Bounds { low, high } => number < *low || *high < number,
-        Ask::Lists { range, listing } => lists(listing, number) || is_in_range(*range, number),
+        Ask::Lists { range, lines } => lists(lines, number) || is_in_range(*range, number),
         Ask::Lacks(missing) => *missing == number,
         Ask::StandsAt(Position::First, first) => *first == number || number < *first,
         Ask::StandsNowhere(Position::First) => true,
@@ -69,9 +69,9 @@ pub(crate) fn put_ask_text<A: Allocator + Copy>(
             put_marks(text, *how, marks.low, marks.high)
         }
         Ask::Bounds { low, high } => put_marks(text, Marks::Lenient, *low, *high),
-        Ask::Lists { range, listing } => {
+        Ask::Lists { range, lines } => {
             put_range(text, *range)?;
-            put_number(text, b" are ", count_of(listing))
+            put_number(text, b" are ", count_of(lines))
         }
         Ask::Lacks(number) => {
             put_number(text, b" ", *number)?;
@@ -96,8 +96,8 @@ pub(crate) fn put_listed<A: Allocator + Copy>(
     ensures { OnOk result (text.new.items ≡ text.old.items ++ listed_text about (ask_of ask.now)) }
 {
     match (about, ask) {
-        (Some(number), Ask::Lists { listing, .. }) => {
-            put_number(text, with_or_without(lists(listing, number)), number)
+        (Some(number), Ask::Lists { lines, .. }) => {
+            put_number(text, with_or_without(lists(lines, number)), number)
         }
         _ => Ok(()),
     }
@@ -114,13 +114,13 @@ fn is_end(how: Marks, marks: WaterMarks, number: u64) -> bool
 }
 
 /// Tells whether the number is one of those that are listed.
-fn lists(listing: &Listing<'_>, number: u64) -> bool
-    ensures { result ≡ list_any (λ m. number == m) (listing_of listing.now) }
+fn lists(lines: &NumberLines<'_>, number: u64) -> bool
+    ensures { result ≡ list_any (λ m. number == m) (numbers_listed lines.now) }
 {
-    match listing {
-        Listing::Nothing => false,
-        Listing::Numbers(block) => has_number(*block, number),
-        Listing::Overviews(block) => has_overview(*block, number),
+    match lines {
+        NumberLines::Nothing => false,
+        NumberLines::Numbers(block) => has_number(*block, number),
+        NumberLines::Overviews(block) => has_overview(*block, number),
     }
 }
 
@@ -149,13 +149,13 @@ fn has_overview(block: &Block<'_>, number: u64) -> bool
 }
 
 /// Returns how many numbers are listed.
-fn count_of(listing: &Listing<'_>) -> u64
-    ensures { result ≡ length (listing_of listing.now) }
+fn count_of(lines: &NumberLines<'_>) -> u64
+    ensures { result ≡ length (numbers_listed lines.now) }
 {
-    match listing {
-        Listing::Nothing => 0,
-        Listing::Numbers(block) => block.numbers().count() as u64,
-        Listing::Overviews(block) => count_overviews(*block),
+    match lines {
+        NumberLines::Nothing => 0,
+        NumberLines::Numbers(block) => block.numbers().count() as u64,
+        NumberLines::Overviews(block) => count_overviews(*block),
     }
 }
 

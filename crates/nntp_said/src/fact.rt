@@ -54,8 +54,8 @@ pub enum Ask<'s> {
     Lists {
         /// The range that was asked for.
         range: Range,
-        /// The numbers.
-        listing: Listing<'s>,
+        /// The lines that list them.
+        lines: NumberLines<'s>,
     },
     /// The number isn't there.
     Lacks(u64),
@@ -73,9 +73,9 @@ pub enum Ask<'s> {
     IsBottom(Position),
 }
 
-/// The numbers that an answer lists.
+/// The lines that list numbers.
 #[derive(Clone, Copy)]
-pub enum Listing<'s> {
+pub enum NumberLines<'s> {
     /// None: a code alone tells that there is none.
     Nothing,
     /// The lines, each of which is a number (RFC 3977, section 6.1.2).

@@ -7,7 +7,7 @@ mod position;
 mod said_facts;
 mod table;
 
-pub use fact::{Ask, Fact, Listing};
+pub use fact::{Ask, Fact, NumberLines};
 pub use position::Position;
 pub use said_facts::SaidFacts;
 pub use table::facts_of;

@@ -10,9 +10,9 @@ ghost use Rattle.nntp_wire.specs.Listing.{listed_numbers, overviews_of};
 ghost use Rattle.nntp_article.specs.Session.Machine.{Visible, found, only};
 ghost use Rattle.nntp_said.specs.Asks.{Estimates, ListsIn};
 ghost use Rattle.nntp_said.specs.Facts.{Asks, IdAt, ThereIs, here, facts_of, facts_of_article, facts_of_code, facts_of_overviews};
-ghost use Rattle.nntp_said.specs.Inner.FactView.{ask_of, fact_of, listing_of};
+ghost use Rattle.nntp_said.specs.Inner.FactView.{ask_of, fact_of, numbers_listed};
 
-use crate::fact::{Ask, Fact, Listing};
+use crate::fact::{Ask, Fact, NumberLines};
 use crate::position::Position;
 use crate::said_facts::SaidFacts;
 use nntp_wire::{
@@ -98,7 +98,7 @@ fn facts_of_numbers<'s>(
             name.as_slice(),
             Ask::Lists {
                 range,
-                listing: Listing::Numbers(block),
+                lines: NumberLines::Numbers(block),
             },
         ),
     )
@@ -155,10 +155,10 @@ fn asks<'s>(selected: &'s [u8], ask: Ask<'s>) -> SaidFacts<'s>
 }
 
 /// Returns that these are the numbers of the selected group in the range, and nothing else.
-fn lists<'s>(selected: &'s [u8], range: Range, listing: Listing<'s>) -> SaidFacts<'s>
-    ensures { result ≡ Asks selected.now (ListsIn range (listing_of listing.entry)) ∷ [] }
+fn lists<'s>(selected: &'s [u8], range: Range, lines: NumberLines<'s>) -> SaidFacts<'s>
+    ensures { result ≡ Asks selected.now (ListsIn range (numbers_listed lines.entry)) ∷ [] }
 {
-    asks(selected, Ask::Lists { range, listing })
+    asks(selected, Ask::Lists { range, lines })
 }
 
 /// Returns what a failure of OVER or XOVER says.
@@ -175,7 +175,7 @@ fn facts_of_no_overview<'s>(
         (WhichArticles::Id(word), _, 430) => SaidFacts::one(Fact::NoArticle(*word)),
         (WhichArticles::Range(range), _, 423)
         | (WhichArticles::Range(range), OverviewKeyword::Xover, 420) => {
-            lists(selected, *range, Listing::Nothing)
+            lists(selected, *range, NumberLines::Nothing)
         }
         (WhichArticles::Current, _, 420) => asks(selected, Ask::StandsNowhere(at)),
         _ => SaidFacts::none(),
@@ -233,7 +233,7 @@ fn facts_of_overviews<'s>(
     ensures { (v : Visible) → selected.now ≡ here v → result ≡ facts_of_overviews v at (overviewed which.now) (overviews_of block.now) }
 {
     match which {
-        WhichArticles::Range(range) => lists(selected, *range, Listing::Overviews(block)),
+        WhichArticles::Range(range) => lists(selected, *range, NumberLines::Overviews(block)),
         WhichArticles::Id(word) => facts_of_overview(selected, at, &Which::Id(*word), block),
         WhichArticles::Current => facts_of_overview(selected, at, &Which::Current, block),
     }

@@ -3,22 +3,22 @@ use Rattle.std.specs.Prelude.{ℕ, List, [], ◌∷◌, Option, None, Some, opti
 use Rattle.nntp_wire.specs.Listing.{active_groups, listed_numbers, overviews_of}
 use Rattle.nntp_article.specs.Session.Machine.{overview_numbers}
 use Rattle.nntp_said.specs.declared.fact.Ask.{Ask, TheVariants.{Estimates, Bounds, Lists, Lacks, StandsAt, StandsNowhere, StepsUp, StepsDown, IsTop, IsBottom}}
-use Rattle.nntp_said.specs.declared.fact.{Listing.{Listing, TheVariants.{Nothing, Numbers, Overviews}}, Fact.{Fact, TheVariants.{ThereIs, ThereIsNo, Asks}}}
-use Rattle.nntp_said.specs.declared.fact.Fact.TheVariants.{IdAt, TextIs, NoArticle, GroupsAre}
+use Rattle.nntp_said.specs.declared.fact.{NumberLines.{NumberLines, TheVariants.{Nothing, Numbers, Overviews}}, Fact.{Fact, TheVariants.{ThereIs, ThereIsNo}}}
+use Rattle.nntp_said.specs.declared.fact.Fact.TheVariants.{Asks, IdAt, TextIs, NoArticle, GroupsAre}
 use Rattle.nntp_said.specs.Asks as asks
 use Rattle.nntp_said.specs.Facts as facts
 
--- the numbers that are listed
-abbrev pub listing_of : Listing → List ℕ
-listing_of Nothing = []
-listing_of (Numbers block) = listed_numbers block.now
-listing_of (Overviews block) = overview_numbers (overviews_of block.now)
+-- the numbers that lines list
+abbrev pub numbers_listed : NumberLines → List ℕ
+numbers_listed Nothing = []
+numbers_listed (Numbers block) = listed_numbers block.now
+numbers_listed (Overviews block) = overview_numbers (overviews_of block.now)
 
 -- what is asked of the numbers of a group, without where the lines of a list lie in memory
 abbrev pub ask_of : Ask → asks.Ask
 ask_of (Estimates how marks) = asks.Estimates how marks
 ask_of (Bounds low high) = asks.Bounds low high
-ask_of (Lists range listing) = asks.ListsIn range (listing_of listing)
+ask_of (Lists range lines) = asks.ListsIn range (numbers_listed lines)
 ask_of (Lacks number) = asks.Lacks number
 ask_of (StandsAt at number) = asks.StandsAt at number
 ask_of (StandsNowhere at) = asks.StandsNowhere at
