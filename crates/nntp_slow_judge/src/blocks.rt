@@ -81,7 +81,7 @@ impl Article {
 }
 
 /// Whether the range has the number.
-fn is_in(range: &Range, number: u64) -> bool {
+pub(crate) fn is_in(range: &Range, number: u64) -> bool {
     let is_up_to = match range.last {
         Some(last) => number <= last,
         None => true,

@@ -9,6 +9,7 @@ mod blocks;
 mod ends;
 mod given;
 mod numbers;
+mod overviews;
 mod reading;
 mod rules;
 mod said;

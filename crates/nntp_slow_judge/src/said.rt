@@ -143,7 +143,10 @@ impl<'a> Said<'a> {
                 ..
             } => self.hear_sent(command, *number, id.as_slice(), block.as_ref()),
             Answer::Active(block) => self.hear_groups(block),
-            Answer::Overviews(_) => Ok(()),
+            Answer::Overviews(block) => match command {
+                Command::Over { which, .. } => self.hear_overviews(which, block),
+                _ => Ok(()),
+            },
             Answer::Plain { code } => self.hear_code(command, *code),
         }
     }
@@ -173,11 +176,7 @@ impl<'a> Said<'a> {
         for line in block.lines() {
             if let Some(number) = listed_number(line) {
                 numbers.push(number)?;
-                self.shown.push(Shown {
-                    group,
-                    number,
-                    id: None,
-                })?;
+                self.show(group, number, None)?;
             }
         }
         match command {
@@ -214,13 +213,9 @@ impl<'a> Said<'a> {
         id: &'a [u8],
         block: Option<&Block<'a>>,
     ) -> Result<(), AllocError> {
-        self.mentioned.push(id)?;
+        self.mention(id)?;
         if let (Some(group), true) = (self.selected, number != 0) {
-            self.shown.push(Shown {
-                group,
-                number,
-                id: Some(id),
-            })?;
+            self.show(group, number, Some(id))?;
             self.hear_move(command, group, number)?;
         }
         match command {
@@ -301,8 +296,34 @@ impl<'a> Said<'a> {
         Ok(())
     }
 
+    /// A success of STAT, which sends nothing.
+    pub(crate) fn hear_stat(&mut self, id: &'a [u8]) -> Result<(), AllocError> {
+        self.mention(id)?;
+        self.hear_article(What::Stat, id, None)
+    }
+
+    /// The number is there, with this id if one is told.
+    pub(crate) fn show(
+        &mut self,
+        group: &'a [u8],
+        number: u64,
+        id: Option<&'a [u8]>,
+    ) -> Result<(), AllocError> {
+        self.shown.push(Shown { group, number, id })?;
+        Ok(())
+    }
+
+    /// The id is told, or denied.
+    pub(crate) fn mention(&mut self, id: &'a [u8]) -> Result<(), AllocError> {
+        self.mentioned.push(id)?;
+        Ok(())
+    }
+
     /// A code without arguments.
     fn hear_code(&mut self, command: &Command<'a>, code: u64) -> Result<(), AllocError> {
+        if let Command::Over { which, .. } = command {
+            return self.hear_no_overview(which, code);
+        }
         if let (
             Command::Retrieve {
                 which: Which::Id(word),
@@ -311,7 +332,7 @@ impl<'a> Said<'a> {
             430,
         ) = (command, code)
         {
-            self.mentioned.push(*word)?;
+            self.mention(*word)?;
         }
         match self.selected {
             Some(group) => self.hear_refusal(command, group, code),
@@ -359,7 +380,12 @@ impl<'a> Said<'a> {
         }
     }
 
-    fn deny(&mut self, group: &'a [u8], first: u64, last: u64) -> Result<(), AllocError> {
+    pub(crate) fn deny(
+        &mut self,
+        group: &'a [u8],
+        first: u64,
+        last: u64,
+    ) -> Result<(), AllocError> {
         self.denied.push(Denied { group, first, last })?;
         Ok(())
     }

@@ -95,7 +95,10 @@ impl<'s> Standing<'s> {
                 Command::ListActive(wildmat) => self.spool.is_list(wildmat.as_ref(), block),
                 _ => false,
             },
-            Answer::Overviews(_) => matches!(command, Command::Over { .. }),
+            Answer::Overviews(block) => match command {
+                Command::Over { which, .. } => self.has_overviews(which, block),
+                _ => false,
+            },
         }
     }
 
@@ -122,6 +125,7 @@ impl<'s> Standing<'s> {
             (Command::Next, 421) => self.current.is_some() && self.above().is_none(),
             (Command::Last, 422) => self.current.is_some() && self.below().is_none(),
             (Command::Retrieve { which, .. }, _) => self.has_none(which, code),
+            (Command::Over { which, .. }, _) => self.has_no_overview(which, code),
             _ => true,
         }
     }
@@ -136,6 +140,21 @@ impl<'s> Standing<'s> {
             },
             _ => true,
         }
+    }
+
+    /// The selected group.
+    pub(crate) fn group(&self) -> Option<&'s Group> {
+        self.selected
+    }
+
+    /// The number of the current article.
+    pub(crate) fn number(&self) -> Option<u64> {
+        self.current
+    }
+
+    /// Whether an id has an article.
+    pub(crate) fn has_article(&self, id: &[u8]) -> bool {
+        self.spool.article(id).is_some()
     }
 
     /// The least number of the group above the current one.

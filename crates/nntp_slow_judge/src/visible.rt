@@ -72,7 +72,11 @@ impl<'a> Visible<'a> {
         }
     }
 
-    fn is_number(&self, number: u64) -> bool {
+    pub(crate) fn is_selected(&self) -> bool {
+        self.selected.is_some()
+    }
+
+    pub(crate) fn is_number(&self, number: u64) -> bool {
         1 <= number && number <= self.greatest
     }
 
@@ -83,7 +87,7 @@ impl<'a> Visible<'a> {
     }
 
     fn code_fits(&self, command: &Command<'_>, code: u64) -> bool {
-        let is_selected = self.selected.is_some();
+        let is_selected = self.is_selected();
         match command {
             Command::Capabilities => code == 101,
             Command::ModeReader => code == 200 || code == 201,
@@ -108,7 +112,8 @@ impl<'a> Visible<'a> {
                 (Which::Current, 420) => is_selected,
                 _ => false,
             },
-            Command::Over { .. } | Command::Opaque => code == 381 || code < 300 || 399 < code,
+            Command::Over { keyword, which } => self.over_code_fits(*keyword, which, code),
+            Command::Opaque => code == 381 || code < 300 || 399 < code,
             Command::ListActive(_) | Command::IllFormed => false,
         }
     }
@@ -142,7 +147,9 @@ impl<'a> Visible<'a> {
             (Command::ListActive(wildmat), Answer::Active(block)) => {
                 self.groups_fit(wildmat.as_ref(), block)
             }
-            (Command::Over { .. }, Answer::Overviews(_)) => true,
+            (Command::Over { keyword, which }, Answer::Overviews(block)) => {
+                self.overviews_fit(*keyword, which, block)
+            }
             _ => false,
         }
     }
@@ -166,7 +173,7 @@ impl<'a> Visible<'a> {
                 .any(|(other, least)| *other == name && low < *least)
     }
 
-    fn number_fits(&self, which: &Which<'_>, number: u64, id: &MessageId<'_>) -> bool {
+    pub(crate) fn number_fits(&self, which: &Which<'_>, number: u64, id: &MessageId<'_>) -> bool {
         let is_there = self.selected.is_some() && self.is_number(number);
         match which {
             Which::Id(word) => id.as_slice() == *word && (number == 0 || is_there),

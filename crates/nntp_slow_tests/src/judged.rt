@@ -9,6 +9,7 @@ use nntp_sessions::{
 use nntp_slow_judge::{Judged, SlowVerdict};
 use nntp_spool::{Verified, verify};
 use nntp_verdict::Verdict;
+use nntp_wire::Overviews;
 use std::alloc::{AllocError, Global};
 use std::process::Abort;
 use std::test::Fail;
@@ -52,7 +53,8 @@ fn compare(
     slow: &SlowVerdict,
 ) -> Result<(), Fail> {
     compare_check(alloc, choice, name, streams, slow)?;
-    compare_noted(alloc, choice, name, streams, exchanges, slow)
+    let overviews = Overviews::Opaque;
+    compare_noted(alloc, choice, overviews, name, streams, exchanges, slow)
 }
 
 /// The verdict on a worked session is that of the slow judge, as is the spool.

@@ -8,6 +8,8 @@ mod judged;
 #[cfg(test)]
 mod noted;
 #[cfg(test)]
+mod overviews;
+#[cfg(test)]
 mod random_lists;
 #[cfg(test)]
 mod short_sessions;

@@ -1,8 +1,9 @@
 //! What is noted of a session, against the slow judge: which answer is bad, and what is known of the groups if none is.
-use nntp_fixtures::{Stop, Whole, expect_octets, group_lines, note_all};
+use nntp_fixtures::{Stop, Whole, expect_octets, group_lines, note_taking};
 use nntp_pair::Class;
 use nntp_sessions::{Answered, Choice};
 use nntp_slow_judge::{Judged, SlowVerdict};
+use nntp_wire::Overviews;
 use std::alloc::Global;
 use std::test::Fail;
 
@@ -18,9 +19,15 @@ fn said_of(alloc: Global, whole: &Whole<Global>) -> Result<Said, Fail> {
     Ok((Judged::Consistent, whole.answers, lines))
 }
 
-/// What is noted of two streams, which end behind the last exchange.
-fn note(alloc: Global, choice: Choice, (client, server): (&[u8], &[u8])) -> Result<Said, Fail> {
-    match note_all(alloc, choice.limit, choice.marks, client, server) {
+/// What is noted of two streams, which end behind the last exchange, where OVER and XOVER are taken so.
+fn note(
+    alloc: Global,
+    choice: Choice,
+    overviews: Overviews,
+    (client, server): (&[u8], &[u8]),
+) -> Result<Said, Fail> {
+    let Choice { limit, marks } = choice;
+    match note_taking(alloc, limit, marks, overviews, client, server) {
         Ok(whole) => said_of(alloc, &whole),
         Err(Stop::Bad { answer, class }) => {
             let judged = if class == Class::OutOfPlace {
@@ -38,12 +45,13 @@ fn note(alloc: Global, choice: Choice, (client, server): (&[u8], &[u8])) -> Resu
 pub(crate) fn compare_noted(
     alloc: Global,
     choice: Choice,
+    overviews: Overviews,
     name: &str,
     streams: (&[u8], &[u8]),
     exchanges: &[Answered<'_>],
     slow: &SlowVerdict,
 ) -> Result<(), Fail> {
-    let (judged, good, lines) = note(alloc, choice, streams)?;
+    let (judged, good, lines) = note(alloc, choice, overviews, streams)?;
     if (judged, good) != (slow.judged, slow.good as u64) {
         return Err(Fail::new(format_args!("{name}: {good}, {judged:?}")));
     }

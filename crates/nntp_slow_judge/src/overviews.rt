@@ -1,0 +1,240 @@
+//! OVER and XOVER, where they are judged: what fits what was asked for, what it says, and whether a spool has that.
+use crate::blocks::is_in;
+use crate::said::Said;
+use crate::spool::Group;
+use crate::standing::Standing;
+use crate::visible::Visible;
+use nntp_wire::{Block, OverviewKeyword, OverviewLine, Range, Which, WhichArticles};
+use std::alloc::AllocError;
+
+impl<'a> Visible<'a> {
+    /// Whether a code alone fits.
+    pub(crate) fn over_code_fits(
+        &self,
+        keyword: OverviewKeyword,
+        which: &WhichArticles<'_>,
+        code: u64,
+    ) -> bool {
+        let is_selected = self.is_selected();
+        match (which, code) {
+            (WhichArticles::Id(_), 430) => true,
+            (WhichArticles::Range(_) | WhichArticles::Current, 412) => !is_selected,
+            (WhichArticles::Range(_), 423) | (WhichArticles::Current, 420) => is_selected,
+            (WhichArticles::Range(_), 420) => is_selected && keyword == OverviewKeyword::Xover,
+            _ => false,
+        }
+    }
+
+    /// Whether the overviews are of what was asked for: of a range, or of one article.
+    pub(crate) fn overviews_fit(
+        &self,
+        keyword: OverviewKeyword,
+        which: &WhichArticles<'_>,
+        block: &Block<'_>,
+    ) -> bool {
+        match which {
+            WhichArticles::Range(range) => {
+                let may_be_none = keyword == OverviewKeyword::Xover;
+                self.is_selected()
+                    && (may_be_none || block.lines().next().is_some())
+                    && self.range_fits(range, block)
+                    && ids_differ(block)
+            }
+            WhichArticles::Id(word) => self.overview_fits(&Which::Id(*word), block),
+            WhichArticles::Current => self.overview_fits(&Which::Current, block),
+        }
+    }
+
+    /// Whether the numbers ascend and are numbers of the range.
+    fn range_fits(&self, range: &Range, block: &Block<'_>) -> bool {
+        let mut before = 0;
+        for overview in block.overviews() {
+            let number = overview.number;
+            if number <= before || !self.is_number(number) || !is_in(range, number) {
+                return false;
+            }
+            before = number;
+        }
+        true
+    }
+
+    /// Whether there is one overview, as of a success of STAT.
+    fn overview_fits(&self, which: &Which<'_>, block: &Block<'_>) -> bool {
+        match only(block) {
+            Some(overview) => self.number_fits(which, overview.number, &overview.id),
+            None => false,
+        }
+    }
+}
+
+/// Whether no two overviews have one id.
+fn ids_differ(block: &Block<'_>) -> bool {
+    for (index, overview) in block.overviews().enumerate() {
+        for other in block.overviews().take(index) {
+            if other.id.as_slice() == overview.id.as_slice() {
+                return false;
+            }
+        }
+    }
+    true
+}
+
+/// The overview, if there is just one.
+fn only<'a>(block: &Block<'a>) -> Option<OverviewLine<'a>> {
+    let mut overviews = block.overviews();
+    let first = overviews.next();
+    if overviews.next().is_some() {
+        return None;
+    }
+    first
+}
+
+impl<'a> Said<'a> {
+    /// Adds what overviews say: which numbers a range has, or what STAT would say of an article.
+    pub(crate) fn hear_overviews(
+        &mut self,
+        which: &WhichArticles<'a>,
+        block: &Block<'a>,
+    ) -> Result<(), AllocError> {
+        match (which, self.stands().0) {
+            (WhichArticles::Range(range), Some(group)) => self.hear_range(group, range, block),
+            (WhichArticles::Range(_), None) => Ok(()),
+            _ => match only(block) {
+                Some(overview) => self.hear_overview(which, &overview),
+                None => Ok(()),
+            },
+        }
+    }
+
+    /// The numbers of a range, and no others.
+    fn hear_range(
+        &mut self,
+        group: &'a [u8],
+        range: &Range,
+        block: &Block<'a>,
+    ) -> Result<(), AllocError> {
+        let mut from = range.first;
+        for overview in block.overviews() {
+            let number = overview.number;
+            self.deny(group, from, number.saturating_sub(1))?;
+            self.show(group, number, None)?;
+            from = number.saturating_add(1);
+        }
+        self.deny(group, from, range.last.unwrap_or(u64::MAX))
+    }
+
+    /// An article, with its number and its id.
+    fn hear_overview(
+        &mut self,
+        which: &WhichArticles<'a>,
+        overview: &OverviewLine<'a>,
+    ) -> Result<(), AllocError> {
+        let id = overview.id.as_slice();
+        self.hear_stat(id)?;
+        let (Some(group), true) = (self.stands().0, overview.number != 0) else {
+            return Ok(());
+        };
+        self.show(group, overview.number, Some(id))?;
+        match (which, self.stands().1) {
+            (WhichArticles::Current, None) => {
+                self.deny(group, 0, overview.number.saturating_sub(1))
+            }
+            _ => Ok(()),
+        }
+    }
+
+    /// Adds what a code alone says.
+    pub(crate) fn hear_no_overview(
+        &mut self,
+        which: &WhichArticles<'a>,
+        code: u64,
+    ) -> Result<(), AllocError> {
+        match (which, code, self.stands().0) {
+            (WhichArticles::Id(word), 430, _) => self.mention(*word),
+            (WhichArticles::Range(range), 420 | 423, Some(group)) => {
+                self.deny(group, range.first, range.last.unwrap_or(u64::MAX))
+            }
+            (WhichArticles::Current, 420, Some(group)) => self.deny(group, 0, u64::MAX),
+            _ => Ok(()),
+        }
+    }
+}
+
+impl<'s> Standing<'s> {
+    /// Whether what overviews say is so.
+    pub(crate) fn has_overviews(&self, which: &WhichArticles<'_>, block: &Block<'_>) -> bool {
+        match (which, only(block)) {
+            (WhichArticles::Range(range), _) => {
+                self.group()
+                    .is_some_and(|group| group.is_range(range, block))
+            }
+            (WhichArticles::Id(_), Some(overview)) => { self.has_overview(&overview) }
+            (WhichArticles::Current, Some(overview)) => {
+                self.has_overview(&overview) && self.number() == Some(overview.number)
+            }
+            (_, None) => false,
+        }
+    }
+
+    /// Whether there is the article of an overview, at its number if that isn't 0.
+    fn has_overview(&self, overview: &OverviewLine<'_>) -> bool {
+        let id = overview.id.as_slice();
+        let is_there = match self.group() {
+            Some(group) => group.has_at(overview.number, id),
+            None => false,
+        };
+        self.has_article(id) && (overview.number == 0 || is_there)
+    }
+
+    /// Whether what a code alone says is so.
+    pub(crate) fn has_no_overview(&self, which: &WhichArticles<'_>, code: u64) -> bool {
+        match (which, code) {
+            (WhichArticles::Id(word), 430) => !self.has_article(*word),
+            (WhichArticles::Range(range), 420 | 423) => {
+                !self.group().is_some_and(|group| group.has_within(range))
+            }
+            (WhichArticles::Current, 420) => self.number().is_none(),
+            _ => true,
+        }
+    }
+}
+
+impl Group {
+    /// Whether the overviews are of its numbers in the range, and of no others.
+    fn is_range(&self, range: &Range, block: &Block<'_>) -> bool {
+        for overview in block.overviews() {
+            if !self.has(overview.number) || !is_in(range, overview.number) {
+                return false;
+            }
+        }
+        self.is_whole_range(range, block)
+    }
+
+    /// Whether the overviews are of all of its numbers in the range.
+    fn is_whole_range(&self, range: &Range, block: &Block<'_>) -> bool {
+        for numbered in &self.numbers {
+            let number = numbered.number;
+            if is_in(range, number) && !has_number(block, number) {
+                return false;
+            }
+        }
+        true
+    }
+
+    /// Whether it has a number in the range.
+    fn has_within(&self, range: &Range) -> bool {
+        self.numbers
+            .iter()
+            .any(|numbered| is_in(range, numbered.number))
+    }
+}
+
+/// Whether one of the overviews is that of the number.
+fn has_number(block: &Block<'_>, number: u64) -> bool {
+    for overview in block.overviews() {
+        if overview.number == number {
+            return true;
+        }
+    }
+    false
+}
