@@ -7,7 +7,7 @@ use Rattle.nntp_fixtures.proofs.notes.note_taking.Goals as goal
 
 pub loop-exchange-init : goal.loop-exchange-init
 loop-exchange-init g c = record {
-  passed = record { earlier = []; ended = tt; pairs = []; next = sym c.new-pairs.ensures; stands = c.new-facts.ensures.stands };
+  passed = record { earlier = []; ended = tt; pairs = []; next = sym c.taking-pairs.ensures; stands = c.new-facts.ensures.stands };
   answers_are = refl;
 }
 

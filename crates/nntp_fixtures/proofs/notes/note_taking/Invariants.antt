@@ -5,7 +5,7 @@ use Rattle.nntp_wire.specs.Session.{taken}
 use Rattle.nntp_fixtures.proofs.notes.note_taking.Given as goal
 
 abbrev pub invariant-loop-exchange : goal.invariant-loop-exchange
-invariant-loop-exchange g l = Passed (profile_of l.fn.limit l.fn.marks) [] (record { client = taken l.overviews l.client; server = l.server }) l.facts [] l.pairs
+invariant-loop-exchange g l = Passed (profile_of l.fn.limit l.fn.marks) [] (record { client = taken l.fn.overviews l.client; server = l.server }) l.facts [] l.pairs
 
 abbrev pub decreases-loop-exchange : goal.decreases-loop-exchange
 decreases-loop-exchange g l = length l.pairs.server
