@@ -7,11 +7,11 @@ use Rattle.std.specs.{Prelude.{nat_le, IfSome, Contains, option_map}, List.{list
 use Rattle.std.specs.{Cmp.{eq_by_cmp_equiv, Lexicographic.{nat_list_cmp_total}}, FinMap.{FinMap, get, len, IsAntisymmetric, nat_cmp-IsAntisymmetric}}
 use Rattle.std.specs.{FinMap.{slice_cmp-IsAntisymmetric}, declared.cmp.Ordering.{Ordering}}
 use Rattle.nntp_article.specs.Session.Spool.{Spool, Numbers, IsNumber, numbers, IsNextAbove, IsNextBelow, NoneAbove, NoneBelow, Lists, IsInRange, text_of}
-use Rattle.nntp_article.specs.Session.Machine.{Visible, State, AreEnds, Bound, ActivesAgree, Run, fits, visible_after}
+use Rattle.nntp_article.specs.Session.Machine.{overview_numbers, Visible, State, AreEnds, Bound, ActivesAgree, Run, fits, visible_after}
 use Rattle.nntp_article.specs.declared.session.profile.Profile.{Profile}
 use Rattle.nntp_said.specs.Asks.{Ask, Estimates, Bounds, ListsIn, Has, Lacks, StandsAt, StandsNowhere, StepsUp, StepsDown, IsTop, IsBottom, Meets, current_in}
 use Rattle.nntp_said.specs.{declared.position.Position.{Position, TheVariants.{Nowhere, Known}}, Inner.{Asks.{state_at}, Facts.{FitsAll}}, Facts.{Fact}}
-use Rattle.nntp_said.{specs.Facts.{ThereIs, ThereIsNo, Asks, IdAt, TextIs, NoArticle, GroupsAre, Holds, facts_from}, proofs.CurrentArticle.{read_off, run_from}}
+use Rattle.nntp_said.{specs.Facts.{ThereIs, ThereIsNo, Asks, IdAt, TextIs, NoArticle, OverviewsAre, GroupsAre, Holds, facts_from}, proofs.CurrentArticle.{read_off, run_from}}
 use Rattle.nntp_said.proofs.{FactsHold.{permits_by_facts}, FiniteMapsDecided.{Dec, dec_true, dec_le, dec_both, dec_three, dec_by, dec_none, dec_some_text}}
 use Rattle.nntp_said.proofs.FiniteMapsDecided.{each_key, dec_some, dec_option, dec_lists, dec_to, passes, fails, dec_all}
 use Rattle.nntp_wire.specs.{Answer.{Asked, Response}, declared.{water_marks.WaterMarks.{WaterMarks}, marks.Marks.{Marks, TheVariants.{Lenient, Strict}}}}
@@ -145,6 +145,7 @@ dec_holds S (Asks name ask) = dec_meets (numbers S name) ask
 dec_holds S (IdAt name n id) = dec_some_text (get (numbers S name) n) id
 dec_holds S (TextIs what id lines) = dec_some (dec_option dec_lists) (option_map (text_of what) (get S.articles id)) lines
 dec_holds S (NoArticle id) = dec_none (get S.articles id)
+dec_holds S (OverviewsAre name r os) = dec_both (dec_listing (numbers S name) r (overview_numbers os)) (dec_all _ (λ o. dec_some_text (get (numbers S name) o.number) o.id) os)
 dec_holds S (GroupsAre p lines) = dec_actives S p lines
 
 dec_open : (closed : Bool) → Dec (closed ≡ false)

@@ -6,7 +6,7 @@ use Rattle.nntp_article.specs.{Article.Parts.{Id}, Session.{Spool.{Name}, Machin
 use Rattle.nntp_article.specs.Session.Machine.{is_in_range, number_fits, head_fits, active_fits, names_differ, is_one_of, none_in_range, may_list}
 use Rattle.nntp_article.specs.{Session.Machine.{overview_numbers, overview_ids, all_differ, only, found}, declared.session.profile.Profile.{Profile}}
 use Rattle.nntp_said.specs.Asks.{Estimates, ListsIn, Lacks, StandsAt, StandsNowhere, StepsUp, StepsDown, IsTop, IsBottom}
-use Rattle.nntp_said.specs.{declared.position.Position.{Position}, Facts.{Fact, ThereIs, ThereIsNo, Asks, IdAt, TextIs, NoArticle, GroupsAre, here}}
+use Rattle.nntp_said.specs.{declared.position.Position.{Position}, Facts.{Fact, ThereIs, ThereIsNo, Asks, IdAt, TextIs, NoArticle, OverviewsAre, GroupsAre, here}}
 use Rattle.nntp_said.specs.Facts.{facts_of_code, facts_of_article, facts_of}
 use Rattle.nntp_wire.specs.{Listing.{OverviewValue, listed_numbers, active_groups, overviews_of}, Answer.{Asked, Response, Success, success_code, to, group_is}}
 use Rattle.nntp_wire.specs.{Answer.{numbers_are, sends, active_are, overviews_are, plain}, Command.{Request, Target, by_id, by_number, current, group}}
@@ -51,8 +51,9 @@ pub data Row (profile : Profile) (v : Visible) (at : Position) (Fits : Type 0) :
   top : (code : ℕ) → (Fits → IsTrue (is_some v.selected)) → Row profile v at Fits (plain code) (Asks (here v) (IsTop at) ∷ [])
   bottom : (code : ℕ) → (Fits → IsTrue (is_some v.selected)) → Row profile v at Fits (plain code) (Asks (here v) (IsBottom at) ∷ [])
   none_within : (code : ℕ) (range : Range) → (Fits → IsTrue (is_some v.selected)) → Row profile v at Fits (plain code) (Asks (here v) (ListsIn range []) ∷ [])
-  within : (range : Range) (lines : List (List ℕ)) → (Fits → IsTrue (is_some v.selected) × AreListed profile range (overview_numbers (overviews_of lines)))
-      → Row profile v at Fits (overviews_are lines) (Asks (here v) (ListsIn range (overview_numbers (overviews_of lines))) ∷ [])
+  within : (range : Range) (lines : List (List ℕ))
+      → (Fits → IsTrue (is_some v.selected) × AreListed profile range (overview_numbers (overviews_of lines)) × IsTrue (all_differ (overview_ids (overviews_of lines))))
+      → Row profile v at Fits (overviews_are lines) (OverviewsAre (here v) range (overviews_of lines) ∷ [])
   lacks : (code n : ℕ) → (Fits → IsTrue (is_some v.selected)) → Row profile v at Fits (plain code) (Asks (here v) (Lacks n) ∷ [])
   marks : (m : WaterMarks) (name : Name) → (Fits → IsTrue (marks_fit profile v name m))
       → Row profile v at Fits (group_is m name) (ThereIs name ∷ Asks name (Estimates profile.marks m) ∷ [])
@@ -184,7 +185,7 @@ module _ (profile : Profile) (v : Visible) (at : Position) where
 
   -- the overviews of a range that fit
   overviews_fit : (keyword : OverviewKeyword) (range : Range) (lines : List (List ℕ)) → IsTrue (fits profile v (to (over keyword (in_range range))) (overviews_are lines))
-      → IsTrue (is_some v.selected) × AreListed profile range (overview_numbers (overviews_of lines))
+      → IsTrue (is_some v.selected) × AreListed profile range (overview_numbers (overviews_of lines)) × IsTrue (all_differ (overview_ids (overviews_of lines)))
   overviews_fit keyword range lines f =
       let ns = overview_numbers (overviews_of lines) in
       let chosen = is_some v.selected && may_list keyword (overviews_of lines) in
@@ -192,7 +193,7 @@ module _ (profile : Profile) (v : Visible) (at : Position) where
       let within = and_parts (chosen && is_ascending ns && list_all each ns) (all_differ (overview_ids (overviews_of lines))) f in
       let ascending = and_parts (chosen && is_ascending ns) _ within.0 in
       let here = and_parts chosen _ ascending.0 in
-      ((and_parts (is_some v.selected) _ here.0).0, (here.1, ascending.1))
+      ((and_parts (is_some v.selected) _ here.0).0, (here.1, ascending.1), within.1)
 
   pub row : (p : Asked) (a : Response) → RowOf p a (facts_of profile.marks v at p a)
   row (to command) (plain code) = code_row command code

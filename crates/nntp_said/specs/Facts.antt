@@ -1,10 +1,10 @@
 -- What each answer of a session says of the spool, with the current article read off the session.
 use Rattle.std.specs.{Prelude.{◌≡◌, ℕ, ◌==◌, if◌then◌else◌, List, [], ◌∷◌, ◌++◌, Option, None, Some, unwrap_or}, Option.{option_map_or}, FinMap.{get}}
 use Rattle.nntp_article.specs.Session.{Spool.{Spool, IsGroup, numbers, HasText, Name}, Machine.{Visible, visible_after, ActivesAgree, is_one_of, none_in_range}}
-use Rattle.nntp_article.specs.{Session.Machine.{overview_numbers, only, found}, Article.Parts.{Id, Line}}
+use Rattle.nntp_article.specs.{Session.Machine.{ListsOverviews, only, found}, Article.Parts.{Id, Line}}
 use Rattle.nntp_said.specs.Asks.{position_after, Ask, Meets, Estimates, ListsIn, Lacks, StandsAt, StandsNowhere, StepsUp, StepsDown, IsTop, IsBottom}
 use Rattle.nntp_said.specs.declared.position.Position.{Position}
-use Rattle.nntp_wire.specs.{Listing.{ActiveValue, OverviewValue, listed_numbers, active_groups, overviews_of}, declared.marks.Marks.{Marks}}
+use Rattle.nntp_wire.specs.{Listing.{ActiveValue, OverviewValue, listed_numbers, active_groups, overviews_of}, declared.{marks.Marks.{Marks}, range.Range.{Range}}}
 use Rattle.nntp_wire.specs.{declared.command.What.{What, TheVariants.{Stat}}, Command.{Request, Target, Overviewed, by_id, by_number, current, group, next}}
 use Rattle.nntp_wire.specs.{Command.{last, retrieve, list_group, list_active, over, the_id, in_range, the_current}, Answer.{Asked, Response, Success, to}}
 use Rattle.nntp_wire.specs.Answer.{group_is, numbers_are, sends, active_are, overviews_are, plain}
@@ -17,6 +17,7 @@ pub data Fact : Type 0 where
   IdAt : (name : Name) → (number : ℕ) → (id : Id) → Fact  -- the group gives the id at the number
   TextIs : (what : What) → (id : Id) → (lines : Option (List Line)) → Fact  -- the id has an article, of which these lines are sent
   NoArticle : (id : Id) → Fact  -- the id has no article
+  OverviewsAre : (name : Name) → (range : Range) → (overviews : List OverviewValue) → Fact  -- the overviews of the numbers of the group in the range are these
   GroupsAre : (wildmat : Option (List ℕ)) → (lines : List ActiveValue) → Fact  -- the groups that match are these
 
 -- the fact holds of the spool
@@ -27,6 +28,7 @@ Holds S (Asks name ask) = Meets (numbers S name) ask
 Holds S (IdAt name n id) = get (numbers S name) n ≡ Some id
 Holds S (TextIs what id lines) = HasText S what id lines
 Holds S (NoArticle id) = get S.articles id ≡ None
+Holds S (OverviewsAre name range overviews) = ListsOverviews (numbers S name) range overviews
 Holds S (GroupsAre p lines) = ActivesAgree S p lines
 
 -- the fact is said, if the code is the expected one
@@ -57,9 +59,9 @@ facts_of_article v at what (by_id word) sent = TextIs what sent.id sent.block �
 facts_of_article v at what (by_number n) sent = TextIs what sent.id sent.block ∷ IdAt (here v) sent.number sent.id ∷ []
 facts_of_article v at what current sent = TextIs what sent.id sent.block ∷ Asks (here v) (StandsAt at sent.number) ∷ IdAt (here v) sent.number sent.id ∷ []
 
--- what overviews say: those of a range which numbers are there, and the only one of another command what STAT would say
+-- what overviews say: those of a range that they are all, and the only one of another command what STAT would say
 abbrev pub facts_of_overviews : Visible → Position → Overviewed → List OverviewValue → List Fact
-facts_of_overviews v at (in_range range) overviews = Asks (here v) (ListsIn range (overview_numbers overviews)) ∷ []
+facts_of_overviews v at (in_range range) overviews = OverviewsAre (here v) range overviews ∷ []
 facts_of_overviews v at (the_id word) overviews = option_map_or (λ o. facts_of_article v at Stat (by_id word) (found o)) (only overviews) []
 facts_of_overviews v at the_current overviews = option_map_or (λ o. facts_of_article v at Stat current (found o)) (only overviews) []
 
@@ -81,6 +83,7 @@ group_of [] = None
 group_of (ThereIs name ∷ facts) = Some name
 group_of (Asks name ask ∷ facts) = Some name
 group_of (IdAt name n id ∷ facts) = Some name
+group_of (OverviewsAre name range overviews ∷ facts) = Some name
 group_of (fact ∷ facts) = group_of facts
 
 -- what answers say, from a visible state and a position on

@@ -24,6 +24,15 @@ pub enum Fact<'s> {
     },
     /// This has no article. Its octets need be no message-id.
     NoArticle(&'s [u8]),
+    /// The overviews of the numbers of a group in a range are these.
+    OverviewsAre {
+        /// The name of the group.
+        name: &'s [u8],
+        /// The range that was asked for.
+        range: Range,
+        /// The lines that are the overviews.
+        block: &'s Block<'s>,
+    },
     /// The groups that match are these.
     GroupsAre {
         /// The wildmat that the groups match, if one is given.

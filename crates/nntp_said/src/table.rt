@@ -233,7 +233,11 @@ fn facts_of_overviews<'s>(
     ensures { (v : Visible) → selected.now ≡ here v → result ≡ facts_of_overviews v at (overviewed which.now) (overviews_of block.now) }
 {
     match which {
-        WhichArticles::Range(range) => lists(selected, *range, NumberLines::Overviews(block)),
+        WhichArticles::Range(range) => SaidFacts::one(Fact::OverviewsAre {
+            name: selected,
+            range: *range,
+            block,
+        }),
         WhichArticles::Id(word) => facts_of_overview(selected, at, &Which::Id(*word), block),
         WhichArticles::Current => facts_of_overview(selected, at, &Which::Current, block),
     }

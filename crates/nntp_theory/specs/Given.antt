@@ -3,9 +3,9 @@ use Rattle.std.specs.Prelude.{◌≡◌, ℕ, ◌+◌, ◌<◌, ◌≤◌, Bool,
 use Rattle.std.specs.{Prelude.{[], ◌∷◌, ◌++◌, Option, None, Some, is_some, ⊤, unwrap_or, codes, decimal}, List.{list_any, flat_map}, Option.{option_or}}
 use Rattle.std.specs.FinMap.{get, entries, len}
 use Rattle.nntp_article.specs.{Article.Parts.{head_part, body_part, Id, Line}, Session.Spool.{Spool, Text, Numbers, IsNumber, IsGroup, numbers, Name}}
-use Rattle.nntp_article.specs.Session.Machine.{is_in_range, is_same, start}
+use Rattle.nntp_article.specs.Session.Machine.{is_in_range, is_same, overview_numbers, start}
 use Rattle.nntp_said.specs.Asks.{Ask, Estimates, Bounds, ListsIn, Has, Lacks, StandsAt, StandsNowhere, StepsUp, StepsDown, IsTop, IsBottom}
-use Rattle.nntp_said.specs.{declared.position.Position.TheVariants.{Nowhere, First, Known}, Facts.{Fact, ThereIs, Asks, IdAt, TextIs, NoArticle, GroupsAre}}
+use Rattle.nntp_said.specs.{declared.position.Position.TheVariants.{Nowhere, First, Known}, Facts.{Fact, ThereIs, Asks, IdAt, TextIs, NoArticle, OverviewsAre, GroupsAre}}
 use Rattle.nntp_said.specs.Facts.{facts_from}
 use Rattle.nntp_theory.specs.declared.demand.Demand.{Demand, TheVariants.{NoDemand, NotEmpty, OnlyOne, SecondIs, Impossible}}
 use Rattle.nntp_wire.specs.{Answer.{Asked, Response}, declared.{marks.Marks.{Marks, TheVariants.{Strict}}, command.What.TheVariants.{Article, Head, Body}}}
@@ -123,6 +123,7 @@ HasGivenNumbers asks N = (n : ℕ) → IsNumber N n ↔ IsGivenNumber asks n
 abbrev pub asks_in : Name → Fact → List Ask
 asks_in name (Asks g ask) = if is_same g name then ask ∷ [] else []
 asks_in name (IdAt g n id) = if is_same g name then Has n ∷ [] else []
+asks_in name (OverviewsAre g range overviews) = if is_same g name then ListsIn range (overview_numbers overviews) ∷ [] else []
 asks_in name (GroupsAre p lines) = flat_map (λ line. if is_same line.name name then Bounds line.low line.high ∷ [] else []) lines
 asks_in name fact = []
 
@@ -140,25 +141,27 @@ shows_group name fact = false
 abbrev pub is_shown_group : List Fact → Name → Bool
 is_shown_group facts name = list_any (shows_group name) facts
 
--- what the first of the facts that gives something gives
-abbrev pub first_given : {A : Type 0} → (Fact → Option A) → List Fact → Option A
+-- what the first of them that gives something gives
+abbrev pub first_given : {A B : Type 0} → (B → Option A) → List B → Option A
 first_given f [] = None
-first_given f (fact ∷ facts) = option_or (f fact) (first_given f facts)
+first_given f (x ∷ xs) = option_or (f x) (first_given f xs)
 
--- the id that a fact shows for a number of a group
+-- the id that a fact shows for a number of a group; of overviews the first at the number
 abbrev pub id_in : Name → ℕ → Fact → Option Id
 id_in name n (IdAt g m id) = if is_same g name && m == n then Some id else None
+id_in name n (OverviewsAre g range overviews) = first_given (λ o. if is_same g name && o.number == n then Some o.id else None) overviews
 id_in name n fact = None
 
 -- the id that is shown first for a number of a group
 abbrev pub id_shown : List Fact → Name → ℕ → Option Id
 id_shown facts name n = first_given (id_in name n) facts
 
--- the fact mentions the id: a success or a step names it, or it is denied
+-- the fact mentions the id: a success or a step names it, an overview has it, or it is denied
 abbrev pub mentions : Id → Fact → Bool
 mentions id (IdAt name n other) = is_same other id
 mentions id (TextIs what other lines) = is_same other id
 mentions id (NoArticle other) = is_same other id
+mentions id (OverviewsAre name range overviews) = list_any (λ o. is_same o.id id) overviews
 mentions id fact = false
 
 -- one of the facts mentions the id

@@ -4,7 +4,7 @@ use Rattle.std.specs.{List.{AllByRecursion, list_any, list_all}, Option.{option_
 use Rattle.nntp_wire.specs.Decided.{matches_name}
 use Rattle.nntp_article.specs.{Article.Parts.{Id}, Session.{Spool.{Name, Numbers}, Machine.{is_in_range, is_same}}}
 use Rattle.nntp_said.specs.Asks.{Ask, Estimates, ListsIn, StandsAt, StandsNowhere, StepsUp, StepsDown, IsTop, IsBottom}
-use Rattle.nntp_said.specs.{declared.position.Position.TheVariants.{Nowhere, Known}, Facts.{Fact, ThereIsNo, IdAt, TextIs, NoArticle, GroupsAre}}
+use Rattle.nntp_said.specs.{declared.position.Position.TheVariants.{Nowhere, Known}, Facts.{Fact, ThereIsNo, IdAt, TextIs, NoArticle, OverviewsAre, GroupsAre}}
 use Rattle.nntp_theory.specs.{Given.{first_given}, declared.demand.Demand.{Demand, TheVariants.{NoDemand, NotEmpty, OnlyOne, SecondIs, Impossible}}}
 
 -- ---- the numbers of one group
@@ -44,15 +44,17 @@ denies_group name (ThereIsNo g) = is_same g name
 denies_group name (GroupsAre p lines) = option_map_or (λ w. matches_name w name) p true && not (list_any (λ line. is_same line.name name) lines)
 denies_group name fact = false
 
--- the number that a fact shows for an id of a group
+-- the number that a fact shows for an id of a group; of overviews the first with the id
 abbrev pub number_in : Name → Id → Fact → Option ℕ
 number_in name id (IdAt g n other) = if is_same g name && is_same other id then Some n else None
+number_in name id (OverviewsAre g range overviews) = first_given (λ o. if is_same g name && is_same o.id id then Some o.number else None) overviews
 number_in name id fact = None
 
--- the fact shows that the id has an article: the id stands at a number, or a success names it
+-- the fact shows that the id has an article: the id stands at a number, a success names it, or an overview has it
 abbrev pub shows_article : Id → Fact → Bool
 shows_article id (IdAt name n other) = is_same other id
 shows_article id (TextIs what other lines) = is_same other id
+shows_article id (OverviewsAre name range overviews) = list_any (λ o. is_same o.id id) overviews
 shows_article id fact = false
 
 -- the fact says that the id has no article

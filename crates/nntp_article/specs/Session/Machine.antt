@@ -1,6 +1,6 @@
 -- The machine over one spool: states, what may be answered in a state, and runs (RFC 3977, sections 3.2.1, 5, 6 and 7.6).
 use Rattle.std.specs.Prelude.{◌≡◌, ℕ, ◌+◌, ◌-◌, ◌≤◌, ◌↔◌, Bool, true, false, not, ◌&&◌, ◌||◌, ◌==◌, nat_lt, nat_le, if◌then◌else◌, cond, IsTrue, IsFalse, List}
-use Rattle.std.specs.{Prelude.{[], ◌∷◌, Option, None, Some, is_some, is_none, MatchOption, IfSome, unwrap_or, Contains, All, map, ⊤}, List.{list_any, list_all}}
+use Rattle.std.specs.{Prelude.{[], ◌∷◌, Option, None, Some, is_some, is_none, MatchOption, IfSome, unwrap_or, Contains, All, map, ⊤}, List.{AllByRecursion, list_any, list_all}}
 use Rattle.std.specs.{Option.{option_map_or, option_or}, Cmp.Lexicographic.{slice_cmp, pointwise}, Ordering.{nat_cmp}, FinMap.{FinMap, get, insert, len, empty}}
 use Rattle.nntp_wire.specs.Command.{Target, by_id, by_number, current, Request, capabilities, mode_reader, next, last, quit, opaque, ill_formed, group}
 use Rattle.nntp_wire.specs.{Command.{Overviewed, the_id, in_range, the_current, list_group, retrieve, list_active, over}, Answer.{Asked, greeting, to, Success}}
@@ -234,9 +234,13 @@ ActivesAgree S p lines =
 abbrev pub found : OverviewValue → Success
 found o = record { code = 223; number = o.number; id = o.id; block = None }
 
--- the overviews of a range are of the numbers that the selected group has in it; the only one of another command finds its article
+-- the overviews are of all numbers in the range, and each has the id at its number
+abbrev pub ListsOverviews : Numbers → Range → List OverviewValue → Type 0
+ListsOverviews N range overviews = Lists N range (overview_numbers overviews) × AllByRecursion (λ o. get N o.number ≡ Some o.id) overviews
+
+-- the overviews of a range are those that the selected group has in it; the only one of another command finds its article
 abbrev pub OverviewsAgree : Spool → State → Overviewed → List OverviewValue → Type 0
-OverviewsAgree S s (in_range range) overviews = Lists (selected_numbers S s.visible) range (overview_numbers overviews)
+OverviewsAgree S s (in_range range) overviews = ListsOverviews (selected_numbers S s.visible) range overviews
 OverviewsAgree S s (the_id word) overviews = MatchOption (only overviews) ⊥ (λ o. ArticleAgrees S s Stat (by_id word) (found o))
 OverviewsAgree S s the_current overviews = MatchOption (only overviews) ⊥ (λ o. ArticleAgrees S s Stat current (found o))
 

@@ -3,7 +3,7 @@ use Rattle.std.specs.{Prelude.{◌≡◌, ℕ, Bool, false, ◌||◌, IsTrue, Is
 use Rattle.std.specs.Option.{option_or}
 use Rattle.nntp_wire.specs.Name.{IsGroupName, IsMessageId}
 use Rattle.nntp_article.specs.{Article.Parts.{Id, Line}, Session.Spool.{Name, Numbers, is_line}}
-use Rattle.nntp_said.specs.{Asks.{Ask}, Facts.{Fact, ThereIs, IdAt, TextIs, GroupsAre}}
+use Rattle.nntp_said.specs.{Asks.{Ask}, Facts.{Fact, ThereIs, IdAt, TextIs, OverviewsAre, GroupsAre}}
 use Rattle.nntp_theory.specs.Given.{demand, is_denied, IsGivenNumber, HasGivenNumbers, asks_of, is_shown_group, first_given, id_in, is_mentioned, is_sent}
 use Rattle.nntp_theory.specs.{Given.{head_in, body_in}, Together.{is_possible, MeetsDemand, IsFewFor, denies_group, number_in, shows_article, denies_article}}
 use Rattle.nntp_theory.specs.Together.{GiveOne}
@@ -24,6 +24,7 @@ abbrev pub IsWellFormed : Fact → Type 0
 IsWellFormed (ThereIs name) = IsGroupName name
 IsWellFormed (IdAt name n id) = IsMessageId id
 IsWellFormed (TextIs what id lines) = IsMessageId id × IfSome lines (λ lines. AllByRecursion (λ line. IsTrue (is_line line)) lines)
+IsWellFormed (OverviewsAre name range overviews) = AllByRecursion (λ o. IsMessageId o.id) overviews
 IsWellFormed (GroupsAre p lines) = AllByRecursion (λ line. IsGroupName line.name) lines
 IsWellFormed fact = ⊤
 
