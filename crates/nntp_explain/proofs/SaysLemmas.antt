@@ -1,10 +1,10 @@
 -- What lines say, one after the other.
-use Rattle.std.proofs.Common.{arith, ◌≡◌, ap, refl, ℕ, List, [], ◌∷◌, ◌++◌, ◌||◌, Option, append_assoc, append-nil, Result}
+use Rattle.std.proofs.Common.{arith, ◌≡◌, ap, refl, ℕ, Bool, true, cond, List, [], ◌∷◌, ◌++◌, ◌||◌, Option, append_assoc, append-nil, Result}
 use Rattle.std.{proofs.lemmas.List.Concat.{flat_map-append}, specs.{Prelude.{OnOk, IsTrue, decimal}, List.{flat_map, list_any}}}
 use Rattle.nntp_article.specs.{Article.Parts.{Id, Line, is_empty, head_part, body_part}, Session.Spool.{Name}}
 use Rattle.nntp_wire.specs.Listing.{ActiveValue}
 use Rattle.nntp_said.specs.{Asks.{Bounds}, Facts.{Fact, Asks, GroupsAre}}
-use Rattle.nntp_theory.specs.{Conflict.{Point, Article}, Together.{shows_article, denies_article}}
+use Rattle.nntp_theory.specs.{Conflict.{Point, Article}}
 use Rattle.nntp_explain.specs.{Reasons.{octets_line}, Says.{numbers_said, says, article_line}}
 use Rattle.nntp_printing.specs.Printing.{escaped}
 
@@ -55,10 +55,10 @@ no_body ((c ∷ cs) ∷ lines) none = no_body lines none
 pub on_ok : {A E P Q : Type 0} (r : Result A E) → (P → Q) → OnOk r P → OnOk r Q
 on_ok r f p = grind arith
 
--- the line of a fact about the id of an article
-pub told_article : (line : Option ℕ) (point : Point) (other : Id) (fact : Fact) → point ≡ Article other → IsTrue (shows_article other fact || denies_article other fact)
-    → says line point fact ≡ article_line fact
-told_article line point other fact is there = grind arith
+-- the line of a fact about the id of an article, which is told under a test
+pub told_article : (line : Option ℕ) (point : Point) (other : Id) (fact : Fact) (text : List ℕ) (b : Bool) → point ≡ Article other → article_line other fact ≡ cond b text []
+    → b ≡ true → says line point fact ≡ text
+told_article line point other fact text b is by t = grind arith
 
 -- a line of a label and octets is another text, that is the same
 pub line_told : (text label octets other new : List ℕ) → new ≡ text ++ label ++ escaped octets ++ 10 ∷ [] → octets_line label octets ≡ other → new ≡ text ++ other

@@ -1,14 +1,13 @@
 -- What `explain` prints of what an answer says about the point of a conflict.
-use Rattle.std.specs.Prelude.{ℕ, ◌+◌, ◌==◌, ◌||◌, ◌&&◌, Bool, true, if◌then◌else◌, List, [], ◌∷◌, ◌++◌, length, Option, None, Some, is_some, slice_get, codes}
+use Rattle.std.specs.Prelude.{ℕ, ◌+◌, ◌==◌, ◌||◌, ◌&&◌, Bool, true, if◌then◌else◌, List, [], ◌∷◌, ◌++◌, length, Option, None, Some, slice_get, codes}
 use Rattle.std.specs.{Prelude.{decimal}, List.{flat_map, list_any}, Option.{option_and_then, option_map, option_map_or, option_or}}
 use Rattle.nntp_wire.specs.{Answer.{Asked, Response, to, sends}, Command.{retrieve}, Listing.{ActiveValue}, declared.marks.Marks.{Marks, TheVariants.{Lenient}}}
 use Rattle.nntp_wire.specs.declared.{marks.Marks.TheVariants.{Strict}, range.Range.{Range}}
 use Rattle.nntp_article.specs.{Article.Parts.{Id, Line}, Session.{Machine.{is_same}, Spool.{Name}}}
 use Rattle.nntp_said.specs.{Asks.{Ask, Estimates, Bounds, ListsIn, Has, Lacks, StandsAt, StandsNowhere, StepsUp, StepsDown, IsTop, IsBottom}, Facts.{Fact}}
-use Rattle.nntp_said.specs.{Facts.{ThereIs, ThereIsNo, IdAt, TextIs, NoArticle, GroupsAre}, declared.position.Position.{Position, TheVariants.{Known}}}
+use Rattle.nntp_said.specs.{Facts.{ThereIs, ThereIsNo, IdAt, TextIs, NoArticle, OverviewsAre, GroupsAre}, declared.position.Position.{Position, TheVariants.{Known}}}
 use Rattle.nntp_theory.specs.Conflict.{Placed, Core, Point, Step, Group, Number, Count, First as FirstNumber, IdOf, PlaceOf, Article, HeadOf, BodyOf, said}
-use Rattle.nntp_theory.specs.{Given.{shows, denies, is_end, asks_in, shows_group, id_in, head_in, body_in}, Together.{denies_group, number_in, shows_article}}
-use Rattle.nntp_theory.specs.Together.{denies_article}
+use Rattle.nntp_theory.specs.{Given.{shows, denies, is_end, asks_in, shows_group, first_given, id_in, head_in, body_in}, Together.{denies_group, number_of_overview, number_in}}
 use Rattle.nntp_pair.specs.Pairing.{asked_at}
 use Rattle.nntp_facts.specs.{declared.placed.Placed.{Placed as Cited}, Standing.{stands_of}}
 use Rattle.nntp_printing.specs.{BadAnswer.{shown}, Printing.{escaped}}
@@ -110,12 +109,13 @@ group_line name (ThereIsNo g) = octets_line (codes "says no group ") g
 group_line name (GroupsAre p lines) = groups_line name lines (shows_group name (GroupsAre p lines))
 group_line name fact = []
 
--- the line of a fact about an id
-abbrev pub article_line : Fact → List ℕ
-article_line (IdAt name n id) = id_line name n id
-article_line (TextIs what id lines) = octets_line (codes "says article ") id
-article_line (NoArticle id) = octets_line (codes "says no article ") id
-article_line fact = []
+-- the line of a fact about whether an id has an article; of overviews the first with the id
+abbrev pub article_line : Id → Fact → List ℕ
+article_line id (IdAt name n other) = if is_same other id then id_line name n other else []
+article_line id (OverviewsAre name range overviews) = option_map_or (λ n. id_line name n id) (first_given (number_of_overview id) overviews) []
+article_line id (TextIs what other lines) = if is_same other id then octets_line (codes "says article ") other else []
+article_line id (NoArticle other) = if is_same other id then octets_line (codes "says no article ") other else []
+article_line id fact = []
 
 -- ---- what is said of heads and bodies
 
@@ -145,9 +145,9 @@ says place (Group name) fact = if shows_group name fact || denies_group name fac
 says place (Number name n) fact = numbers_said name (Some n) fact
 says place (Count name) fact = numbers_said name None fact
 says place (FirstNumber name) fact = numbers_said name None fact
-says place (IdOf name n) fact = if is_some (id_in name n fact) then article_line fact else []
-says place (PlaceOf name id) fact = if is_some (number_in name id fact) then article_line fact else []
-says place (Article id) fact = if shows_article id fact || denies_article id fact then article_line fact else []
+says place (IdOf name n) fact = option_map_or (id_line name n) (id_in name n fact) []
+says place (PlaceOf name id) fact = option_map_or (λ n. id_line name n id) (number_in name id fact) []
+says place (Article id) fact = article_line id fact
 says place (HeadOf id) fact = option_map_or (part_line (codes "head") id place) (head_in id fact) []
 says place (BodyOf id) fact = option_map_or (part_line (codes "body") id place) (body_in id fact) []
 

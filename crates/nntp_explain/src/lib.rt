@@ -12,6 +12,7 @@ mod explainer;
 pub mod laws;
 mod reasons;
 mod said_numbers;
+mod said_overviews;
 mod said_parts;
 mod says;
 mod sessions;

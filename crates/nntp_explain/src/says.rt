@@ -1,9 +1,9 @@
 //! What an answer says about the point of a conflict, as `explain` prints it.
 ghost use Rattle.std.specs.Prelude.{◌≡◌, ◌++◌, ◌<◌, ◌-◌, ◌^◌, None, IfSome, OnOk, length, option_map};
 ghost use Rattle.std.specs.List.{list_any};
-ghost use Rattle.nntp_wire.specs.Listing.{active_groups};
+ghost use Rattle.nntp_wire.specs.Listing.{active_groups, overviews_of};
 ghost use Rattle.nntp_article.specs.Session.Machine.{is_same};
-ghost use Rattle.nntp_said.specs.Facts.{ThereIs, ThereIsNo, Asks, IdAt, TextIs, NoArticle, GroupsAre};
+ghost use Rattle.nntp_said.specs.Facts.{ThereIs, ThereIsNo, Asks, IdAt, TextIs, NoArticle, OverviewsAre, GroupsAre};
 ghost use Rattle.nntp_said.specs.Inner.FactView.{ask_of, fact_of};
 ghost use Rattle.nntp_facts.specs.Inner.PointView.{point_of};
 ghost use Rattle.nntp_facts.specs.Standing.{stands_of};
@@ -12,10 +12,11 @@ ghost use Rattle.nntp_explain.specs.Says.{groups_line, said_lines, says};
 
 use crate::ask::with_or_without;
 use crate::said_numbers::{is_same, put_asked, put_bounds, put_id_line, put_numbered};
+use crate::said_overviews::{put_overview_at, put_overview_of};
 use crate::said_parts::{body_of, head_of, put_part};
-use nntp_facts::{Ask, Fact, Placed, Point};
+use nntp_facts::{Ask, Fact, NumberLines, Placed, Point};
 use nntp_printing::{put_escaped_line, put_number};
-use nntp_wire::{Block, GroupName, Marks, What, Wildmat, matches_if_given};
+use nntp_wire::{Block, GroupName, Marks, Range, What, Wildmat, matches_if_given};
 use std::alloc::{AllocError, Allocator};
 
 /// What is told of an answer: what it says about this point.
@@ -61,6 +62,9 @@ fn put_fact<A: Allocator + Copy>(
             put_text_is(text, about, *what, id.as_bytes(), *block)
         }
         Fact::NoArticle(id) => put_no_article(text, about, *id),
+        Fact::OverviewsAre { name, range, block } => {
+            put_overviews(text, about, *name, *range, *block)
+        }
         Fact::GroupsAre { wildmat, block } => put_groups(text, about, *wildmat, *block),
     }
 }
@@ -139,13 +143,40 @@ fn put_id_at<A: Allocator + Copy>(
         Point::IdOf {
             name: group,
             number: other,
-        } if is_same(name, *group) && number == *other => put_id_line(text, name, number, id),
+        } if is_same(name, *group) && number == *other => put_id_line(text, *group, *other, id),
         Point::PlaceOf {
             name: group,
             id: other,
-        } if is_same(name, *group) && is_same(id, *other) => put_id_line(text, name, number, id),
+        } if is_same(name, *group) && is_same(id, *other) => put_id_line(text, *group, number, *other),
         Point::Article(other) if is_same(id, *other) => put_id_line(text, name, number, id),
         _ => Ok(()),
+    }
+}
+
+/// Adds what the overviews of a range say.
+fn put_overviews<A: Allocator + Copy>(
+    text: &mut Vec<u8, A>,
+    about: &About<'_>,
+    name: &[u8],
+    range: Range,
+    block: &Block<'_>,
+) -> Result<(), AllocError>
+    ensures { OnOk result (text.new.items ≡ text.old.items
+        ++ says about.now.line (point_of about.now.point) (OverviewsAre name.now range (overviews_of block.now))) }
+{
+    match &about.point {
+        Point::IdOf {
+            name: group,
+            number,
+        } if is_same(name, *group) => put_overview_at(text, *group, *number, block),
+        Point::PlaceOf { name: group, id } if is_same(name, *group) => {
+            put_overview_of(text, *group, *id, block)
+        }
+        Point::Article(id) => put_overview_of(text, name, *id, block),
+        _ => {
+            let lines = NumberLines::Overviews(block);
+            put_ask(text, about, name, &Ask::Lists { range, lines })
+        }
     }
 }
 
