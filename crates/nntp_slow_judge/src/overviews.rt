@@ -90,7 +90,7 @@ fn only<'a>(block: &Block<'a>) -> Option<OverviewLine<'a>> {
 }
 
 impl<'a> Said<'a> {
-    /// Adds what overviews say: which numbers a range has, or what STAT would say of an article.
+    /// Adds what overviews say: which numbers a range has, with their ids, or what STAT would say of an article.
     pub(crate) fn hear_overviews(
         &mut self,
         which: &WhichArticles<'a>,
@@ -106,7 +106,7 @@ impl<'a> Said<'a> {
         }
     }
 
-    /// The numbers of a range, and no others.
+    /// The numbers of a range, each with its id, and no others.
     fn hear_range(
         &mut self,
         group: &'a [u8],
@@ -116,8 +116,10 @@ impl<'a> Said<'a> {
         let mut from = range.first;
         for overview in block.overviews() {
             let number = overview.number;
+            let id = overview.id.as_slice();
             self.deny(group, from, number.saturating_sub(1))?;
-            self.show(group, number, None)?;
+            self.mention(id)?;
+            self.show(group, number, Some(id))?;
             from = number.saturating_add(1);
         }
         self.deny(group, from, range.last.unwrap_or(u64::MAX))
@@ -200,10 +202,11 @@ impl<'s> Standing<'s> {
 }
 
 impl Group {
-    /// Whether the overviews are of its numbers in the range, and of no others.
+    /// Whether the overviews are of its numbers in the range, each with the id that it has there, and of no others.
     fn is_range(&self, range: &Range, block: &Block<'_>) -> bool {
         for overview in block.overviews() {
-            if !self.has(overview.number) || !is_in(range, overview.number) {
+            let number = overview.number;
+            if !self.has_at(number, overview.id.as_slice()) || !is_in(range, number) {
                 return false;
             }
         }

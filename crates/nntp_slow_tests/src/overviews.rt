@@ -8,8 +8,7 @@ use std::alloc::{AllocError, Global};
 use std::process::Abort;
 use std::test::Fail;
 
-/// A command and its answer. `/` stands between lines; and for an overview `#` and its number, of the id that has this
-/// number too.
+/// A command and its answer. `/` stands between lines, and `#` for what an overview has between its number and its id.
 type Exchange = (&'static str, &'static str);
 
 /// What is said of the group.
@@ -20,25 +19,26 @@ const SELECTED: [Exchange; 3] = [
 ];
 
 /// What is said behind it.
-const EXCHANGES: [Exchange; 26] = [
-    ("XOVER 1-3", "224 x/#1/#3/."),
-    ("XOVER 2-4", "224 x/#2/#3/#4/."),
-    ("XOVER 3-", "224 x/#4/."),
+const EXCHANGES: [Exchange; 27] = [
+    ("XOVER 1-3", "224 x/1#<1@x>/3#<3@x>/."),
+    ("XOVER 2-4", "224 x/2#<2@x>/3#<3@x>/4#<4@x>/."),
+    ("XOVER 3-", "224 x/4#<4@x>/."),
     ("XOVER 2", "224 x/."),
     ("XOVER 1-2", "420 no"),
     ("XOVER 3", "423 no"),
-    ("XOVER 2-4", "224 x/#4/#2/."),
-    ("OVER 1-3", "224 x/#2/."),
+    ("XOVER 2-4", "224 x/4#<4@x>/2#<2@x>/."),
+    ("OVER 1-3", "224 x/2#<3@x>/."),
     ("OVER 1-3", "224 x/."),
     ("OVER 1-2", "420 no"),
     ("OVER 2-3", "423 no"),
-    ("OVER 1-3", "412 no"),
-    ("OVER", "224 x/#2/."),
-    ("OVER", "224 x/#3/."),
-    ("OVER", "224 x/#2/#3/."),
+    ("OVER 3-", "224 x/4#<3@x>/."),
+    ("OVER 3-4", "224 x/3#<3@x>/4#<3@x>/."),
+    ("OVER", "224 x/2#<2@x>/."),
+    ("OVER", "224 x/3#<3@x>/."),
+    ("OVER", "224 x/2#<2@x>/3#<3@x>/."),
     ("OVER", "420 no"),
-    ("OVER <3@x>", "224 x/#3/."),
-    ("OVER <3@x>", "224 x/#2/."),
+    ("OVER <3@x>", "224 x/3#<3@x>/."),
+    ("OVER <3@x>", "224 x/2#<3@x>/."),
     ("OVER <3@x>", "430 no"),
     ("STAT", "223 2 <2@x>"),
     ("STAT 3", "223 3 <3@x>"),
@@ -50,19 +50,13 @@ const EXCHANGES: [Exchange; 26] = [
 ];
 
 /// Adds lines to a stream.
-fn put_lines(alloc: Global, stream: &mut Vec<u8>, lines: &str) -> Result<(), AllocError> {
-    let mut is_number = false;
+fn put_lines(stream: &mut Vec<u8>, lines: &str) -> Result<(), AllocError> {
     for octet in lines.as_bytes() {
-        if is_number {
-            let number = octet.saturating_sub(b'0');
-            let line = format!(in alloc; "{number}\ts\tf\td\t<{number}@x>")?;
-            stream.extend_from_slice(line.as_bytes())?;
-        } else if *octet == b'/' {
-            stream.extend_from_slice(b"\r\n")?;
-        } else if *octet != b'#' {
-            stream.push(*octet)?;
+        match *octet {
+            b'/' => stream.extend_from_slice(b"\r\n")?,
+            b'#' => stream.extend_from_slice(b"\ts\tf\td\t")?,
+            _ => stream.push(*octet)?,
         }
-        is_number = *octet == b'#';
     }
     stream.extend_from_slice(b"\r\n")
 }
@@ -90,8 +84,8 @@ fn compare(alloc: Global, choice: Choice, said: &[Exchange]) -> Result<bool, Fai
     let mut client = Vec::new(alloc);
     let mut server = Vec::from_slice(alloc, b"200 hi\r\n")?;
     for (command, answer) in said {
-        put_lines(alloc, &mut client, *command)?;
-        put_lines(alloc, &mut server, *answer)?;
+        put_lines(&mut client, *command)?;
+        put_lines(&mut server, *answer)?;
     }
     let name = format!(in alloc; "{choice:?}: {}", server.escape_ascii())?;
     let exchanges = exchanges(alloc, &client, &server)?;
@@ -141,7 +135,7 @@ fn overviews_and_then_a_step(rt: HostRuntime) -> Result<(), Fail> {
 
 #[test]
 fn overviews_and_then_a_range(rt: HostRuntime) -> Result<(), Fail> {
-    let last = ("XOVER 1-4", "224 x/#2/#3/.");
+    let last = ("XOVER 1-4", "224 x/2#<2@x>/3#<3@x>/.");
     compare_all(&rt, rt.alloc(), NARROW_LENIENT, last)
 }
 

@@ -1,8 +1,8 @@
 -- An answer, as the facts that it says.
-use Rattle.std.proofs.Common.{arith, ◌≡◌, ℕ, Bool, true, false, ◌↔◌, IsTrue, List, Option, None, Some, is_some, sym, ◌∙◌, Result, Ok, Err, IfOk}
+use Rattle.std.proofs.Common.{arith, ◌≡◌, Bool, true, false, ◌↔◌, IsTrue, List, Option, None, Some, is_some, sym, ◌∙◌, Result, Ok, Err, IfOk}
 use Rattle.std.{proofs.lemmas.Bool.{true≢false}, specs.List.{AllByRecursion}}
-use Rattle.nntp_wire.specs.{Answer.{Asked, Response}, Listing.{ActiveValue}}
-use Rattle.nntp_article.specs.{Session.{Spool.{Spool}, Machine.{Visible, MayAnswer, fits}, Misfit.{misfit}}, Inner.Misfit.{groups_of, numbers_of}}
+use Rattle.nntp_wire.specs.Answer.{Asked, Response}
+use Rattle.nntp_article.specs.{Session.{Spool.{Spool}, Machine.{Visible, MayAnswer, fits}, Misfit.{misfit}}, Inner.Listed.{Lists, lists_of}}
 use Rattle.nntp_article.specs.{Inner.MisfitView.{why_if}, declared.session.{profile.Profile.{Profile}, misfit.Misfit.{Misfit}}}
 use Rattle.nntp_article.proofs.SessionLemmas.Misfits.{fits_by_reason}
 use Rattle.nntp_said.{specs.{Inner.Asks.{state_at}, Facts.{Fact, Holds, facts_of}, declared.position.Position.{Position}}, proofs.Rows.{Row, row}}
@@ -26,13 +26,13 @@ unfitting profile v p a (Some why) e some f = true≢false (sym (fits_by_reason 
 
 -- a row lists what its answer does
 row_lists : {profile : Profile} {v : Visible} {at : Position} {Fits : Type 0} {a : Response} {facts : List Fact} → Row profile v at Fits a facts → Fits
-    → SayThese (numbers_of a) (groups_of a) facts
+    → SayThese (lists_of a) facts
 row_lists r f = grind arith
 
 -- the facts of an answer that fits say what it lists
-pub facts_list : (profile : Profile) (v : Visible) (at : Position) (p : Asked) (a : Response) (numbers : List ℕ) (groups : List ActiveValue) (facts : List Fact)
-    → IsTrue (fits profile v p a) → numbers ≡ numbers_of a → groups ≡ groups_of a → facts ≡ facts_of profile.marks v at p a → SayThese numbers groups facts
-facts_list profile v at p a numbers groups facts f ns gs fs = rw (ns, gs, fs) (row_lists (row profile v at p a) f)
+pub facts_list : (profile : Profile) (v : Visible) (at : Position) (p : Asked) (a : Response) (listed : Lists) (facts : List Fact)
+    → IsTrue (fits profile v p a) → listed ≡ lists_of a → facts ≡ facts_of profile.marks v at p a → SayThese listed facts
+facts_list profile v at p a listed facts f ls fs = rw (ls, fs) (row_lists (row profile v at p a) f)
 
 -- ---- what holds
 

@@ -1,25 +1,25 @@
 -- Facts that hold of a spool, one after the other.
-use Rattle.std.{proofs.Common.{arith, ◌≡◌, ◌↔◌, ℕ, inl, inr, List, [], ◌∷◌, drop, Option, None, Some, IsSome, refl, subst}, specs.Prelude.{slice_get}}
+use Rattle.std.{proofs.Common.{arith, ◌≡◌, ◌↔◌, inl, inr, List, [], ◌∷◌, drop, Option, None, Some, IsSome, refl, subst}, specs.Prelude.{slice_get}}
 use Rattle.std.specs.{List.{AllByRecursion}, FinMap.{get}}
-use Rattle.nntp_wire.specs.{declared.command.What.{What, TheVariants.{Stat}}, Listing.{ActiveValue}}
-use Rattle.nntp_article.specs.{Article.Parts.{Id, Line}, Session.Spool.{Spool, Text, HasText}}
+use Rattle.nntp_wire.specs.{declared.command.What.{What, TheVariants.{Stat}}}
+use Rattle.nntp_article.specs.{Article.Parts.{Id, Line}, Session.Spool.{Spool, Text, HasText}, Inner.Listed.{Lists}}
 use Rattle.nntp_said.specs.{Facts.{Fact, Holds, IdAt, TextIs}, Inner.Places.{Place}}
 use Rattle.nntp_spool.specs.Inner.{Content.{IdsHaveArticles}, Sessions.{SayThese}}
 
 -- those that are left hold exactly if all do
-pub record AreLeft (S : Spool) (numbers : List ℕ) (groups : List ActiveValue) (facts left : List Fact) : Type 0 where
+pub record AreLeft (S : Spool) (listed : Lists) (facts left : List Fact) : Type 0 where
   pub same : AllByRecursion (Holds S) left ↔ AllByRecursion (Holds S) facts
-  pub listed : SayThese numbers groups left
+  pub these : SayThese listed left
 
-module _ (S : Spool) (numbers : List ℕ) (groups : List ActiveValue) (facts : List Fact) where
+module _ (S : Spool) (listed : Lists) (facts : List Fact) where
   -- none is left, so all hold
-  pub none_left : (left : List Fact) → AreLeft S numbers groups facts left → None ≡ slice_get left 0 → AllByRecursion (Holds S) facts
+  pub none_left : (left : List Fact) → AreLeft S listed facts left → None ≡ slice_get left 0 → AllByRecursion (Holds S) facts
   none_left [] are e = are.same.0 tt
   none_left (fact ∷ left) are e = absurd cc
 
   -- the first of them holds where those behind it do, so it may be passed
-  pub first_passed : (left behind : List Fact) → AreLeft S numbers groups facts left → behind ≡ drop 1 left
-      → (AllByRecursion (Holds S) (drop 1 left) → AllByRecursion (Holds S) left) → AreLeft S numbers groups facts behind
+  pub first_passed : (left behind : List Fact) → AreLeft S listed facts left → behind ≡ drop 1 left
+      → (AllByRecursion (Holds S) (drop 1 left) → AllByRecursion (Holds S) left) → AreLeft S listed facts behind
   first_passed left behind are e h = grind arith
 
 -- it does where it holds by itself

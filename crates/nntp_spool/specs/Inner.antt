@@ -16,4 +16,5 @@ pub mod Building
 pub mod Sessions
 pub mod ListedNumbers
 pub mod ListedGroups
+pub mod ListedOverviews
 pub mod AskedCounts

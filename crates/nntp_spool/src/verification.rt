@@ -15,6 +15,7 @@ mod asked_counts;
 mod holding;
 mod last_group;
 mod listed_groups;
+mod listed_overviews;
 mod lookups;
 mod sent_lines;
 mod verified;
@@ -154,5 +155,5 @@ fn may_answer_listing<'a, A: Allocator + Copy, S: Allocator>(
     }
     let selected = visible.selected_name();
     let facts = &mut facts_of(profile.marks, selected, position, prompt, answer);
-    hold(group, counts, listed.numbers(), listed.groups(), facts)
+    hold(group, counts, listed, facts)
 }

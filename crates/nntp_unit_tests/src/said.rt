@@ -22,7 +22,7 @@ const ROWS: &[Row] = &[
     (
         b"XOVER 1-3",
         b"224 x\r\n1\ts\tf\td\t<a@b>\r\n3\ts\tf\td\t<c@d>\r\n.\r\n",
-        &["numbers"],
+        &["overviews"],
     ),
     (
         b"OVER <a@b>",
@@ -51,6 +51,7 @@ fn first_of(facts: &SaidFacts<'_>) -> &'static str {
         Some(Fact::IdAt(_, _, _)) => "id",
         Some(Fact::TextIs { .. }) => "article",
         Some(Fact::NoArticle(_)) => "no article",
+        Some(Fact::OverviewsAre { .. }) => "overviews",
         Some(Fact::GroupsAre { .. }) => "groups",
         None => "nothing",
     }

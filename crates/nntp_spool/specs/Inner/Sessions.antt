@@ -1,25 +1,25 @@
 -- What is said with the words of `Sessions.antt`, and needn't be believed.
 use Rattle.std.specs.{Prelude.{true, ◌≡◌, ℕ, List, [], ◌∷◌, ⊤}, List.{AllByRecursion}}
-use Rattle.nntp_wire.specs.Listing.{ActiveValue}
 use Rattle.nntp_pair.specs.Pairing.{Paired, asked_at}
-use Rattle.nntp_article.specs.Session.{Spool.{Spool}, Machine.{State, is_ascending, names_differ, MayAnswer, after}}
-use Rattle.nntp_article.specs.declared.session.profile.Profile.{Profile}
-use Rattle.nntp_said.specs.{Asks.{Ask, ListsIn}, Facts.{Fact, Asks, GroupsAre}}
+use Rattle.nntp_article.specs.Session.{Spool.{Spool}, Machine.{State, is_ascending, names_differ, overview_numbers, MayAnswer, after}}
+use Rattle.nntp_article.specs.{Inner.Listed.{Lists}, declared.session.profile.Profile.{Profile}}
+use Rattle.nntp_said.specs.{Asks.{Ask, ListsIn}, Facts.{Fact, Asks, OverviewsAre, GroupsAre}}
 
 -- the numbers that are listed, if any are, are these, and ascend
 abbrev pub AsksThese : List ℕ → Ask → Type 0
 AsksThese numbers (ListsIn range ns) = (ns ≡ numbers) × (is_ascending numbers ≡ true)
 AsksThese numbers ask = ⊤
 
--- the numbers or the groups that are listed, if any are, are these; the numbers ascend, and no group is listed twice
-abbrev pub SaysThese : List ℕ → List ActiveValue → Fact → Type 0
-SaysThese numbers groups (Asks name ask) = AsksThese numbers ask
-SaysThese numbers groups (GroupsAre p lines) = (lines ≡ groups) × (names_differ groups ≡ true)
-SaysThese numbers groups fact = ⊤
+-- what is listed, if anything is, is this: the numbers, which ascend, the overviews with theirs, and the groups, none of which is listed twice
+abbrev pub SaysThese : Lists → Fact → Type 0
+SaysThese listed (Asks name ask) = AsksThese listed.numbers ask
+SaysThese listed (OverviewsAre name range overviews) = AsksThese listed.numbers (ListsIn range (overview_numbers overviews)) × (overviews ≡ listed.overviews)
+SaysThese listed (GroupsAre p lines) = (lines ≡ listed.groups) × (names_differ listed.groups ≡ true)
+SaysThese listed fact = ⊤
 
 -- so of each fact
-abbrev pub SayThese : List ℕ → List ActiveValue → List Fact → Type 0
-SayThese numbers groups facts = AllByRecursion (SaysThese numbers groups) facts
+abbrev pub SayThese : Lists → List Fact → Type 0
+SayThese listed facts = AllByRecursion (SaysThese listed) facts
 
 -- the state that the responses of pairs lead to
 abbrev pub state_after : Spool → State → List Paired → State

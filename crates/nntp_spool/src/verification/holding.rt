@@ -1,10 +1,10 @@
 //! Whether what an answer says holds of a spool, a fact at a time.
-ghost use Rattle.std.specs.Prelude.{◌≡◌, ◌↔◌, IsTrue, IfOk, None, drop, map, option_map};
+ghost use Rattle.std.specs.Prelude.{◌≡◌, ◌↔◌, IsTrue, IfOk, None, drop, option_map};
 ghost use Rattle.std.specs.List.{AllByRecursion};
 ghost use Rattle.nntp_wire.specs.Name.{IsGroupName};
 ghost use Rattle.nntp_wire.specs.declared.command.What.TheVariants.{Stat};
-ghost use Rattle.nntp_wire.specs.Inner.View.{active_value};
 ghost use Rattle.nntp_article.specs.Session.Spool.{Name, Spool as SpoolValue, IsGroup, HasText};
+ghost use Rattle.nntp_article.specs.Inner.Listed.{lists};
 ghost use Rattle.nntp_said.specs.Facts.{Holds};
 ghost use Rattle.nntp_said.specs.Inner.FactView.{fact_of};
 ghost use Rattle.nntp_spool.specs.Inner.AskedCounts.{AreCounted};
@@ -15,30 +15,30 @@ use crate::value::content::Content;
 use crate::verification::asked_counts::AskedCounts;
 use crate::verification::last_group::LastGroup;
 use crate::verification::listed_groups::lists_groups;
+use crate::verification::listed_overviews::lists_overviews;
 use crate::verification::sent_lines::has_text;
+use nntp_article::Listed;
 use nntp_said::{Fact, SaidFacts};
-use nntp_wire::{ActiveLine, Block, What};
+use nntp_wire::{Block, What};
 use std::alloc::{AllocError, Allocator};
 
-/// Tells whether all facts that are left hold of the spool; `numbers` and `groups` are those that
-/// their answer lists.
+/// Tells whether all facts that are left hold of the spool; `listed` is what their answer lists.
 pub(crate) fn hold<A: Allocator + Copy, S: Allocator>(
     group: &mut LastGroup<'_, S>,
     counts: &mut AskedCounts<A>,
-    numbers: &[u64],
-    groups: &[ActiveLine<'_>],
+    listed: &Listed<'_, A>,
     facts: &mut SaidFacts<'_>,
 ) -> Result<bool, AllocError>
     requires names { (name : Name) → IsGroup group.old name → IsGroupName name }
     requires ids { IdsHaveArticles group.old }
-    requires listed { SayThese numbers.now (map active_value groups.now) facts.old }
+    requires listed { SayThese (lists listed.now) facts.old }
     requires counted { AreCounted group.old counts.old }
     ensures spool { group.new ≡ group.old }
     ensures counted { IfOk result (λ _. AreCounted group.old counts.new) }
     ensures hold { IfOk result (λ hold. IsTrue hold ↔ AllByRecursion (Holds group.old) facts.old) }
 {
     while let Some(fact) = facts.first() {
-        if !is_implied(facts) && !holds(group, counts, numbers, groups, fact)? {
+        if !is_implied(facts) && !holds(group, counts, listed, fact)? {
             return Ok(false);
         }
         facts.pass_first();
@@ -68,12 +68,11 @@ fn sends_nothing(what: What, block: Option<&Block<'_>>) -> bool
 fn holds<A: Allocator + Copy, S: Allocator>(
     group: &mut LastGroup<'_, S>,
     counts: &mut AskedCounts<A>,
-    numbers: &[u64],
-    groups: &[ActiveLine<'_>],
+    listed: &Listed<'_, A>,
     fact: &Fact<'_>,
 ) -> Result<bool, AllocError>
     requires names { (name : Name) → IsGroup group.old name → IsGroupName name }
-    requires listed { SaysThese numbers.now (map active_value groups.now) (fact_of fact.now) }
+    requires listed { SaysThese (lists listed.now) (fact_of fact.now) }
     requires counted { AreCounted group.old counts.old }
     ensures spool { group.new ≡ group.old }
     ensures counted { IfOk result (λ _. AreCounted group.old counts.new) }
@@ -82,11 +81,16 @@ fn holds<A: Allocator + Copy, S: Allocator>(
     match fact {
         Fact::ThereIs(name) => Ok(group.is_group(name.as_slice())),
         Fact::ThereIsNo(word) => Ok(!group.is_group(*word)),
-        Fact::Asks(name, ask) => Ok(group.meets(*name, ask, numbers)),
+        Fact::Asks(name, ask) => Ok(group.meets(*name, ask, listed.numbers())),
         Fact::IdAt(name, number, id) => Ok(group.has_id(*name, *number, *id)),
         Fact::TextIs { what, id, block } => Ok(sends(group.spool(), *what, *id, *block)),
         Fact::NoArticle(word) => Ok(!group.spool().knows(*word)),
-        Fact::GroupsAre { wildmat, .. } => lists_groups(group.spool(), counts, *wildmat, groups),
+        Fact::OverviewsAre { name, range, block } => {
+            Ok(lists_overviews(group, *name, *range, *block, listed))
+        }
+        Fact::GroupsAre { wildmat, .. } => {
+            lists_groups(group.spool(), counts, *wildmat, listed.groups())
+        }
     }
 }
 

@@ -1,6 +1,6 @@
 use Rattle.std.proofs.{Common.{ap, sym, ◌∙◌}, lemmas.Bool.{true≢false}}
 use Rattle.nntp_wire.specs.Inner.{View.{asked}, AnswerView.{response}}
-use Rattle.nntp_article.specs.{Session.Machine.{MayAnswer}, Inner.{Misfit.{numbers_of, groups_of}, Listed.{Lists}}}
+use Rattle.nntp_article.specs.{Session.Machine.{MayAnswer}, Inner.Listed.{lists, lists_of}}
 use Rattle.nntp_said.specs.Inner.Asks.{state_at}
 use Rattle.nntp_spool.proofs.AnswersInFacts.{fitting, unfitting, facts_list, permitted_where_held}
 use Rattle.nntp_spool.proofs.verification.may_answer_listing.Goals.{then-is_closed-via-then-is_closed, then-is_closed-via-else-is_closed+then-is_some}
@@ -24,10 +24,7 @@ hold-requires-clause-listed g c =
     let q = asked c.prompt-prompt.result.now in
     let a = response c.answer-answer.result.now in
     let f = fitting c.args.profile v q a c.in_ok-why.why c.in_ok-why.ensures (sym c.is_some.ensures ∙ c.if-is_some.false) in
-    let value = sym c.answer-answer.ensures.value in
-    facts_list c.args.profile v c.args.position q a _ _ _ f
-    (c.numbers.ensures ∙ ap (λ (l : Lists). l.numbers) c.requires.listed ∙ ap numbers_of value)
-    (c.groups.ensures ∙ ap (λ (l : Lists). l.groups) c.requires.listed ∙ ap groups_of value)
+    facts_list c.args.profile v c.args.position q a (lists c.args.listed.now) _ f (c.requires.listed ∙ ap lists_of (sym c.answer-answer.ensures.value))
     (c.facts_of.ensures v c.selected_name-selected.ensures)
 
 pub returns-clause-may : goal.returns-clause-may

@@ -1,6 +1,5 @@
-use Rattle.std.proofs.Common.{map, refl, subst, ◌∙◌}
-use Rattle.nntp_wire.specs.Inner.View.{active_value}
-use Rattle.nntp_article.specs.Session.Spool.{Spool}
+use Rattle.std.proofs.Common.{refl, subst, ◌∙◌}
+use Rattle.nntp_article.specs.{Session.Spool.{Spool}, Inner.Listed.{lists}}
 use Rattle.nntp_said.specs.{Facts.{Holds}, Inner.FactView.{fact_of}}
 use Rattle.nntp_spool.{specs.Inner.AskedCounts.{AreCounted}, proofs.HeldFacts.{none_left, first_passed, first_held}}
 use Rattle.nntp_spool.proofs.verification.holding.hold.Goals.{else-not-is_implied-via-then-not-is_implied+in_ok-holds+else-not-branch}
@@ -12,7 +11,7 @@ loop-fact-preserved g c =
     let l = c.loop-fact in
     let S = c.args.group.now in
     let fact = fact_of c.in-Some.fact.now in
-    let passed = first_passed S c.args.numbers.now (map active_value c.args.groups.now) c.args.facts.now l.facts c.pass_first.new.self l.invariant.0 c.pass_first.ensures in
+    let passed = first_passed S (lists c.args.listed.now) c.args.facts.now l.facts c.pass_first.new.self l.invariant.0 c.pass_first.ensures in
     elim c.else-not-is_implied.branch [
       | else-not-is_implied-via-then-not-is_implied+in_ok-holds+else-not-branch w ↦
           let held = subst (λ (S : Spool). Holds S fact) l.invariant.2 (w.in_ok-holds.ensures.holds.0 w.if-not-branch.false) in (
@@ -29,5 +28,5 @@ loop-fact-preserved g c =
 
 pub returns-clause-hold : goal.returns-clause-hold
 returns-clause-hold g c =
-    let none = none_left c.args.group.now c.args.numbers.now (map active_value c.args.groups.now) c.args.facts.now c.loop-fact.facts in
+    let none = none_left c.args.group.now (lists c.args.listed.now) c.args.facts.now c.loop-fact.facts in
     (λ _. none c.loop-fact.invariant.0 c.in_default.ensures, λ _. refl)
