@@ -77,7 +77,7 @@ const IDS: &[Row] = &[
     ),
     (
         b"GROUP g\r\nXOVER 1-3\r\nXOVER 3-\r\nSTAT 3\r\n",
-        b"200 hi\r\n211 5 1 5 g\r\n224 x\r\n1\ts\tf\td\t<a@x>\r\n3\ts\tf\td\t<c@x>\r\n.\r\n224 x\r\n3\ts\tf\td\t<c@x>\r\n5\ts\tf\td\t<e@x>\r\n.\r\n223 3 <c@x>\r\n",
+        b"200 hi\r\n211 5 1 5 g\r\n224 x\r\n1\ts\tf\td\t<a@x>\r\n3\ts\tf\td\t<c@x>\r\n.\r\n224 x\r\n3\ts\tf\td\t<c@x>\r\n.\r\n223 3 <c@x>\r\n",
         (5, None),
     ),
     (
