@@ -189,12 +189,10 @@ impl<A: Allocator + Copy> Facts<A> {
             return Ok(Noted::OutOfPlace);
         }
         let here = self.visible.selected_name();
-        let numbers = listed.numbers();
-        let groups = listed.groups();
         let (how, at) = (self.marks, self.position);
         if !self
             .kept
-            .note_answer(how, here, at, prompt, answer, numbers, groups)?
+            .note_answer(how, here, at, prompt, answer, listed)?
         {
             return Ok(Noted::Contradiction);
         }
