@@ -1,9 +1,9 @@
 -- When the overviews of a range join what was said (RFC 3977, section 8.3).
-use Rattle.std.specs.{Prelude.{ℕ, ◌==◌, if◌then◌else◌, IsTrue, IsFalse, List, Option, None, Some}, List.{list_any}}
+use Rattle.std.specs.{Prelude.{ℕ, IsTrue, IsFalse, List, Option, Some}, List.{list_any}}
 use Rattle.nntp_wire.specs.Listing.{OverviewValue}
-use Rattle.nntp_article.specs.{Article.Parts.{Id}, Session.{Spool.{Name}, Machine.{is_same, is_ascending, all_differ, overview_numbers, overview_ids}}}
+use Rattle.nntp_article.specs.{Article.Parts.{Id}, Session.{Spool.{Name}, Machine.{is_ascending, all_differ, overview_numbers, overview_ids}}}
 use Rattle.nntp_said.specs.Facts.{Fact}
-use Rattle.nntp_theory.specs.{Given.{first_given}, Together.{denies_article}}
+use Rattle.nntp_theory.specs.{Given.{first_given, id_of_overview}, Together.{number_of_overview, denies_article}}
 use Rattle.nntp_facts.specs.Inner.Kept.{told, MayShow}
 
 -- each has a number and an id of its own
@@ -13,11 +13,11 @@ pub record HaveOwn (overviews : List OverviewValue) : Type 0 where
 
 -- the id of the first overview at the number
 abbrev pub id_listed : List OverviewValue → ℕ → Option Id
-id_listed overviews n = first_given (λ o. if o.number == n then Some o.id else None) overviews
+id_listed overviews n = first_given (id_of_overview n) overviews
 
 -- the number of the first one with the id
 abbrev pub place_listed : List OverviewValue → Id → Option ℕ
-place_listed overviews id = first_given (λ o. if is_same o.id id then Some o.number else None) overviews
+place_listed overviews id = first_given (number_of_overview id) overviews
 
 -- an overview of the group joins: its number may have its id, which isn't denied
 pub record OverviewJoins (facts : List Fact) (name : Name) (o : OverviewValue) : Type 0 where

@@ -35,7 +35,8 @@ impl<A: Allocator + Copy> Kept<A> {
     ) -> Result<bool, AllocError>
         ensures { IfOk result (λ does. (profile : Profile) (v : Visible) (all : List Fact) → IsTrue (fits profile v (asked prompt.now) (response answer.now))
             → IsSelectedShown v all → selected.now ≡ here v
-            → lists listed.now ≡ lists_of (response answer.now) → IsKept all self.old → Together all → AllByRecursion IsWellFormed (facts_of how v at (asked prompt.now) (response answer.now))
+            → lists listed.now ≡ lists_of (response answer.now)
+            → IsKept all self.old → Together all → AllByRecursion IsWellFormed (facts_of how v at (asked prompt.now) (response answer.now))
             → AreAdded all (facts_of how v at (asked prompt.now) (response answer.now)) self.old self.new does) }
     {
         let mut facts = facts_of(how, selected, at, prompt, answer);
