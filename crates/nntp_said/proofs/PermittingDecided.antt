@@ -11,9 +11,9 @@ use Rattle.nntp_article.specs.Session.Machine.{overview_numbers, Visible, State,
 use Rattle.nntp_article.specs.declared.session.profile.Profile.{Profile}
 use Rattle.nntp_said.specs.Asks.{Ask, Estimates, Bounds, ListsIn, Has, Lacks, StandsAt, StandsNowhere, StepsUp, StepsDown, IsTop, IsBottom, Meets, current_in}
 use Rattle.nntp_said.specs.{declared.position.Position.{Position, TheVariants.{Nowhere, Known}}, Inner.{Asks.{state_at}, Facts.{FitsAll}}, Facts.{Fact}}
-use Rattle.nntp_said.{specs.Facts.{ThereIs, ThereIsNo, Asks, IdAt, TextIs, NoArticle, OverviewsAre, GroupsAre, Holds, facts_from}, proofs.CurrentArticle.{read_off, run_from}}
-use Rattle.nntp_said.proofs.{FactsHold.{permits_by_facts}, FiniteMapsDecided.{Dec, dec_true, dec_le, dec_both, dec_three, dec_by, dec_none, dec_some_text}}
-use Rattle.nntp_said.proofs.FiniteMapsDecided.{each_key, dec_some, dec_option, dec_lists, dec_to, passes, fails, dec_all}
+use Rattle.nntp_said.specs.Facts.{ThereIs, ThereIsNo, Asks, IdAt, TextIs, NoArticle, OverviewsAre, GroupsAre, Holds, facts_from}
+use Rattle.nntp_said.proofs.{CurrentArticle.{read_off, run_from}, FactsHold.{permits_by_facts}, FiniteMapsDecided.{Dec, dec_true, dec_le, dec_both, dec_three}}
+use Rattle.nntp_said.proofs.FiniteMapsDecided.{dec_by, dec_none, dec_some_text, each_key, dec_some, dec_option, dec_lists, dec_to, passes, fails, dec_all}
 use Rattle.nntp_wire.specs.{Answer.{Asked, Response}, declared.{water_marks.WaterMarks.{WaterMarks}, marks.Marks.{Marks, TheVariants.{Lenient, Strict}}}}
 use Rattle.nntp_wire.specs.{declared.range.Range.{Range}, Listing.{ActiveValue}, Wildmat.{MatchesName}, Decided.{matches_name}}
 use Rattle.nntp_wire.proofs.{DecidedLemmas.{matches_name-iff}, OptionLemmas.{none_of}}

@@ -4,10 +4,10 @@ use Rattle.nntp_article.specs.Session.{Spool.{Spool, IsGroup, numbers, HasText, 
 use Rattle.nntp_article.specs.{Session.Machine.{ListsOverviews, only, found}, Article.Parts.{Id, Line}}
 use Rattle.nntp_said.specs.Asks.{position_after, Ask, Meets, Estimates, ListsIn, Lacks, StandsAt, StandsNowhere, StepsUp, StepsDown, IsTop, IsBottom}
 use Rattle.nntp_said.specs.declared.position.Position.{Position}
-use Rattle.nntp_wire.specs.{Listing.{ActiveValue, OverviewValue, listed_numbers, active_groups, overviews_of}, declared.{marks.Marks.{Marks}, range.Range.{Range}}}
-use Rattle.nntp_wire.specs.{declared.command.What.{What, TheVariants.{Stat}}, Command.{Request, Target, Overviewed, by_id, by_number, current, group, next}}
-use Rattle.nntp_wire.specs.{Command.{last, retrieve, list_group, list_active, over, the_id, in_range, the_current}, Answer.{Asked, Response, Success, to}}
-use Rattle.nntp_wire.specs.Answer.{group_is, numbers_are, sends, active_are, overviews_are, plain}
+use Rattle.nntp_wire.specs.{Listing.{ActiveValue, OverviewValue, listed_numbers, active_groups, overviews_of}, declared.marks.Marks.{Marks}}
+use Rattle.nntp_wire.specs.{declared.{range.Range.{Range}, command.What.{What, TheVariants.{Stat}}}, Command.{Request, Target, Overviewed, by_id, by_number}}
+use Rattle.nntp_wire.specs.{Command.{current, group, next, last, retrieve, list_group, list_active, over, the_id, in_range, the_current}, Answer.{Asked}}
+use Rattle.nntp_wire.specs.Answer.{Response, Success, to, group_is, numbers_are, sends, active_are, overviews_are, plain}
 
 -- one thing that an answer says of the spool
 pub data Fact : Type 0 where

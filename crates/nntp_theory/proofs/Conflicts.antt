@@ -4,7 +4,7 @@ use Rattle.std.proofs.{Common.{Some, inl, inr, refl, sym, ap, subst, ◌∙◌, 
 use Rattle.std.{proofs.lemmas.{Bool.{not-true}, List.{length-map}}, specs.{Prelude.{not, Contains}, List.{AllByRecursion, flat_map}, Cmp.{nat_cmp_total}}}
 use Rattle.std.specs.FinMap.{len-entries}
 use Rattle.nntp_said.specs.{declared.position.Position.{Position, TheVariants.{Nowhere}}, Asks.{position_after}, Facts.{Fact, Holds, ThereIs, Asks, IdAt}}
-use Rattle.nntp_said.specs.{Facts.{facts_of, facts_from, group_of}, Inner.Facts.{FitsAll}}
+use Rattle.nntp_said.specs.{Facts.{OverviewsAre, facts_of, facts_from, group_of}, Inner.Facts.{FitsAll}}
 use Rattle.nntp_theory.specs.{Classes.{visible_from, position_from, asked_next}, Inner.{Permits.{SomePermits}, Given.{size}, Together.{Together}}}
 use Rattle.nntp_theory.specs.{Inner.Conflict.{FitsThere, AreFound, IsPartOfCore}, Given.{asks_of}, Together.{is_possible}, Conflict.{Placed, placed_from}}
 use Rattle.nntp_theory.specs.Conflict.{said as said_there, a_group, the_group, with_group, told, SomeHas, told_at, told_with, below, IsCore, Point, Step, Group}
@@ -221,6 +221,7 @@ with_holds profile S all spool holds [] p = tt
 with_holds profile S all spool holds (ThereIs name ∷ facts) p = group_holds profile S name spool (all_at (Holds S) (ThereIs name) all holds p.0.there)
 with_holds profile S all spool holds (Asks name ask ∷ facts) p = group_holds profile S name spool (all_at (Holds S) (ThereIs name) all holds p.0.there)
 with_holds profile S all spool holds (IdAt name n id ∷ facts) p = group_holds profile S name spool (all_at (Holds S) (ThereIs name) all holds p.0.there)
+with_holds profile S all spool holds (OverviewsAre name r os ∷ facts) p = group_holds profile S name spool (all_at (Holds S) (ThereIs name) all holds p.0.there)
 with_holds profile S all spool holds (fact ∷ facts) p = with_holds profile S all spool holds facts p.1
 
 -- what is told of a session holds where all that it says does

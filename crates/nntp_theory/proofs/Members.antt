@@ -2,7 +2,7 @@
 use Rattle.std.proofs.Common.{◌≡◌, ◌+◌, ◌≤◌, suc, length, length-append, map, arith, Bool, ◌⊎◌, IsTrue, List, [], ◌∷◌, ◌++◌, Option, None, Some, inl, inr, refl}
 use Rattle.std.proofs.{Common.{◌∙◌}, lemmas.{Bool.{or_left, or_right, or_cases, and_from, and_parts}, List.Folds.{list_any-append}}}
 use Rattle.std.specs.{List.{AllByRecursion, list_any, list_all, flat_map}, Prelude.{Contains}, Option.{option_or}}
-use Rattle.nntp_said.{proofs.FiniteMapsDecided.{Dec}, specs.Facts.{Fact}}
+use Rattle.nntp_said.proofs.FiniteMapsDecided.{Dec}
 use Rattle.nntp_theory.specs.Given.{first_given}
 
 -- x is an element of xs
@@ -102,13 +102,13 @@ pub all_parts : {A B : Type 0} (P : B → Type 0) (f : A → List B) (xs : List 
 all_parts P f [] h = tt
 all_parts P f (x ∷ xs) h = all_both P (f x) (flat_map f xs) (h x (inl refl)) (all_parts P f xs (λ y i. h y (inr i)))
 
--- one of the facts gives what the first gives
-pub first_found : {A : Type 0} (f : Fact → Option A) (xs : List Fact) (y : A) → first_given f xs ≡ Some y → (x : Fact) × In x xs × (f x ≡ Some y)
+-- one of them gives what the first gives
+pub first_found : {A B : Type 0} (f : B → Option A) (xs : List B) (y : A) → first_given f xs ≡ Some y → (x : B) × In x xs × (f x ≡ Some y)
 first_found f [] y e = cc
 first_found {A} f (x ∷ xs) y e = grind (arith, first_found f xs y)
 
--- where one of the facts gives something, the first gives something
-pub first_there : {A : Type 0} (f : Fact → Option A) (xs : List Fact) (x : Fact) (y : A) → In x xs → f x ≡ Some y → (z : A) × (first_given f xs ≡ Some z)
+-- where one of them gives something, the first gives something
+pub first_there : {A B : Type 0} (f : B → Option A) (xs : List B) (x : B) (y : A) → In x xs → f x ≡ Some y → (z : A) × (first_given f xs ≡ Some z)
 first_there f [] x y i e = absurd i
 first_there {A} f (w ∷ xs) x y i e = by (f w) refl (first_there f xs x y)
   where

@@ -1,19 +1,21 @@
 -- What doesn't stand together conflicts at some point, and so at a first one.
-use Rattle.std.proofs.Common.{◌≡◌, ℕ, ◌+◌, ◌<◌, ◌^◌, ◌⊎◌, true, false, IsTrue, List, [], ◌∷◌, ◌++◌, Option, None, Some, inl, inr, refl, sym, ap, subst, ◌∙◌}
-use Rattle.std.{proofs.{Common.{arith}, lemmas.Bool.{true≢false, cases_Bool, cases_eq, eqb-true, false_from_ne_true, cases_lt}}, specs.Prelude.{IsFalse}}
+use Rattle.std.proofs.Common.{◌≡◌, ℕ, ◌+◌, ◌<◌, ◌^◌, ◌⊎◌, true, false, IsTrue, List, [], ◌∷◌, ◌++◌, map, Option, None, Some, inl, inr, refl, sym, ap, subst}
+use Rattle.std.{proofs.{Common.{◌∙◌, arith}, lemmas.Bool.{true≢false, cases_Bool, cases_eq, eqb-true, false_from_ne_true, cases_lt}}, specs.Prelude.{IsFalse}}
 use Rattle.std.specs.{Prelude.{IfSome, ⊤, not}, List.{AllByRecursion, list_any, flat_map}, Cmp.Lexicographic.{same_text}}
-use Rattle.nntp_wire.specs.declared.marks.Marks.{Marks, TheVariants.{Lenient}}
+use Rattle.nntp_wire.specs.{declared.marks.Marks.{Marks, TheVariants.{Lenient}}, Listing.{OverviewValue}}
 use Rattle.nntp_article.specs.{Article.Parts.{Id, Line}, Session.{Spool.{Name, Numbers, numbers}, Machine.{is_same}}}
 use Rattle.nntp_article.specs.declared.session.profile.Profile.{Profile}
-use Rattle.nntp_said.{proofs.FiniteMapsDecided.{Dec, dec_some, dec_texts, dec_lists}, specs.{Asks.{Ask}, Facts.{Fact, ThereIs, IdAt, TextIs, GroupsAre}}}
+use Rattle.nntp_said.{proofs.FiniteMapsDecided.{Dec, dec_some, dec_texts, dec_lists}, specs.{Asks.{Ask}, Facts.{Fact, ThereIs, IdAt, TextIs, OverviewsAre}}}
+use Rattle.nntp_said.specs.Facts.{GroupsAre}
 use Rattle.nntp_theory.specs.Given.{asks_of, is_shown_group, shows_group, first_given, id_in, head_in, body_in, is_known, is_denied, demand, IsGivenNumber}
-use Rattle.nntp_theory.specs.{Given.{HasGivenNumbers}, Inner.{Given.{size}, Together.{IsWellFormed, Together}, Conflict.{FitsThere}}, Together.{is_possible}}
-use Rattle.nntp_theory.specs.{Together.{MeetsDemand, IsFewFor, denies_group, number_in, shows_article, denies_article, GiveOne}, Conflict.{Placed, told_with}}
-use Rattle.nntp_theory.specs.Conflict.{SomeHas, Point, Step, Group, Number, Count, First, IdOf, PlaceOf, Article, HeadOf, BodyOf, ConflictAt, rank}
-use Rattle.nntp_theory.{specs.Conflict.{IsFirstPoint}, proofs.{PointsByRank.{each, or_next, PointsOf, of_rank}, Members.{In, all_at, all_from, any_in}}}
-use Rattle.nntp_theory.proofs.{Members.{found_in}, Together.FactsOfASpoolStand.{same_itself}, Session.NumbersOfShownGroups.{Placed as IsPlaced}}
-use Rattle.nntp_theory.proofs.{Session.{NumbersWithinLimit.{free_in_limit}, FittingFacts.{IsFitting}}, Given.ConstructedSpool.{made, made_group, made_given}}
-use Rattle.nntp_theory.proofs.{GivenNumbers.AsksDecided.{denied_or_not, too_many_or_not, unmet_or_met}, Conflicts.{with_told, told_together, told_fit}}
+use Rattle.nntp_theory.specs.{Given.{HasGivenNumbers}, Inner.{Given.{size}, Together.{IsWellFormed, AgreesWithItself, Together}, Conflict.{FitsThere}}}
+use Rattle.nntp_theory.specs.{Together.{is_possible, MeetsDemand, IsFewFor, denies_group, number_in, shows_article, denies_article, GiveOne}, Conflict.{Placed}}
+use Rattle.nntp_theory.specs.Conflict.{told_with, SomeHas, Point, Step, Group, Number, Count, First, IdOf, PlaceOf, Article, HeadOf, BodyOf, ConflictAt, rank}
+use Rattle.nntp_theory.{specs.Conflict.{IsFirstPoint}, proofs.{PointsByRank.{each, or_next, PointsOf, of_rank}, Members.{In, all_at, all_from, in_map, any_in}}}
+use Rattle.nntp_theory.proofs.{Members.{found_in}, Together.{ListedOverviews.{overview_at, overview_of}, FactsOfASpoolStand.{same_itself}}}
+use Rattle.nntp_theory.proofs.Session.{NumbersOfShownGroups.{Placed as IsPlaced}, NumbersWithinLimit.{free_in_limit}, FittingFacts.{IsFitting}}
+use Rattle.nntp_theory.proofs.{Given.ConstructedSpool.{made, made_group, made_given}, GivenNumbers.AsksDecided.{denied_or_not, too_many_or_not, unmet_or_met}}
+use Rattle.nntp_theory.proofs.Conflicts.{with_told, told_together, told_fit}
 
 -- ---- what a fact gives
 
@@ -21,40 +23,66 @@ use Rattle.nntp_theory.proofs.{GivenNumbers.AsksDecided.{denied_or_not, too_many
 dec_if : {A : Type 0} (o : Option A) (Q : A → Type 0) → ((x : A) → Dec (Q x)) → Dec (IfSome o Q)
 dec_if o Q x = grind arith
 
--- the number for which a fact shows an id
-abbrev number_key : Fact → Option (Name × ℕ)
-number_key (IdAt name n id) = Some (name, n)
-number_key fact = None
+-- the numbers for which a fact shows ids
+abbrev number_keys : Fact → List (Name × ℕ)
+number_keys (IdAt name n id) = (name, n) ∷ []
+number_keys (OverviewsAre name r os) = map (λ o. (name, o.number)) os
+number_keys fact = []
 
--- the id for which it shows a number
-abbrev place_key : Fact → Option (Name × Id)
-place_key (IdAt name n id) = Some (name, id)
-place_key fact = None
+-- the ids for which it shows numbers
+abbrev place_keys : Fact → List (Name × Id)
+place_keys (IdAt name n id) = (name, id) ∷ []
+place_keys (OverviewsAre name r os) = map (λ o. (name, o.id)) os
+place_keys fact = []
 
--- the id whose article it shows
-abbrev article_key : Fact → Option Id
-article_key (IdAt name n id) = Some id
-article_key (TextIs what id lines) = Some id
-article_key fact = None
+-- the ids whose articles it shows
+abbrev article_keys : Fact → List Id
+article_keys (IdAt name n id) = id ∷ []
+article_keys (TextIs what id lines) = id ∷ []
+article_keys (OverviewsAre name r os) = map (λ o. o.id) os
+article_keys fact = []
 
 -- two names or ids are the same, or tested not to be
 same_or_not : (x y : List ℕ) → (is_same x y ≡ false) ⊎ (x ≡ y)
 same_or_not x y = elim (cases_Bool (is_same x y)) [ inl t ↦ inr (same_text x y (sym t)) | inr f ↦ inl f ]
 
+-- it gives nothing, or something, and that of which it does so
+none_or : {A R : Type 0} (o : Option A) (Q : A → Type 0) → ((x : A) → o ≡ Some x → R) → IfSome o Q ⊎ R
+none_or None Q given = inl tt
+none_or (Some x) Q given = inr (given x refl)
+
 -- it gives something for those alone
-own_number : (k : Name × ℕ) (Q : Id → Type 0) (fact : Fact) → IfSome (id_in k.0 k.1 fact) Q ⊎ (number_key fact ≡ Some k)
-own_number k Q fact = grind (arith, same_or_not, eqb-true)
+number_keyed : (k : Name × ℕ) (fact : Fact) (id : Id) → id_in k.0 k.1 fact ≡ Some id → In k (number_keys fact)
+number_keyed k (IdAt g m other) id e = grind (arith, same_or_not, eqb-true)
+number_keyed k (OverviewsAre g r os) id e =
+    let o = overview_at g k.0 r os k.1 id e in
+    subst (λ key. In key (number_keys (OverviewsAre g r os))) (λ i. (o.same_group i, o.same_number i)) (in_map (λ (o : OverviewValue). (g, o.number)) o.overview os o.there)
+number_keyed k fact id e = cc
 
-own_place : (k : Name × Id) (Q : ℕ → Type 0) (fact : Fact) → IfSome (number_in k.0 k.1 fact) Q ⊎ (place_key fact ≡ Some k)
-own_place k Q fact = grind (arith, same_or_not)
+own_number : (k : Name × ℕ) (Q : Id → Type 0) (fact : Fact) → IfSome (id_in k.0 k.1 fact) Q ⊎ In k (number_keys fact)
+own_number k Q fact = none_or (id_in k.0 k.1 fact) Q (number_keyed k fact)
 
-own_head : (id : Id) (Q : List Line → Type 0) (fact : Fact) → IfSome (head_in id fact) Q ⊎ (article_key fact ≡ Some id)
+place_keyed : (k : Name × Id) (fact : Fact) (n : ℕ) → number_in k.0 k.1 fact ≡ Some n → In k (place_keys fact)
+place_keyed k (IdAt g m other) n e = grind (arith, same_or_not)
+place_keyed k (OverviewsAre g r os) n e =
+    let o = overview_of g k.0 r os k.1 n e in
+    subst (λ key. In key (place_keys (OverviewsAre g r os))) (λ i. (o.same_group i, o.same_id i)) (in_map (λ (o : OverviewValue). (g, o.id)) o.overview os o.there)
+place_keyed k fact n e = cc
+
+own_place : (k : Name × Id) (Q : ℕ → Type 0) (fact : Fact) → IfSome (number_in k.0 k.1 fact) Q ⊎ In k (place_keys fact)
+own_place k Q fact = none_or (number_in k.0 k.1 fact) Q (place_keyed k fact)
+
+own_head : (id : Id) (Q : List Line → Type 0) (fact : Fact) → IfSome (head_in id fact) Q ⊎ In id (article_keys fact)
 own_head id Q fact = grind (arith, same_or_not)
 
-own_body : (id : Id) (Q : List Line → Type 0) (fact : Fact) → IfSome (body_in id fact) Q ⊎ (article_key fact ≡ Some id)
+own_body : (id : Id) (Q : List Line → Type 0) (fact : Fact) → IfSome (body_in id fact) Q ⊎ In id (article_keys fact)
 own_body id Q fact = grind (arith, same_or_not)
 
-own_article : (id : Id) (Q : Type 0) (fact : Fact) → (shows_article id fact ≡ true → Q) ⊎ (article_key fact ≡ Some id)
+own_article : (id : Id) (Q : Type 0) (fact : Fact) → (shows_article id fact ≡ true → Q) ⊎ In id (article_keys fact)
+own_article id Q (OverviewsAre name r os) = elim (cases_Bool (list_any (λ o. is_same o.id id) os)) [
+  | inl t ↦ (let f = found_in (λ o. is_same o.id id) os t in inr (subst (λ key. In key (map (λ o. o.id) os)) (same_text f.0.id id (sym f.2)) (in_map (λ (o : OverviewValue). o.id) f.0 os f.1)))
+  | inr f ↦ inl (λ t. absurd (true≢false (sym t ∙ f)))
+]
 own_article id Q fact = grind (arith, same_or_not)
 
 -- nothing is given by any
@@ -88,29 +116,25 @@ module _ (facts : List Fact) where
   next n below (inr a) free rest =
       rest a (λ other l. elim (cases_lt (rank other) n) [ inl low ↦ below other low | inr high ↦ of_rank Free n (free a) other (omega arith) ])
 
-  -- of the key of a fact the one is so, or of each key and fact the other
-  each_key : {K : Type 0} (key : Fact → Option K) (C : Type 0) (P : K → Fact → Type 0) → ((k : K) (fact : Fact) → P k fact ⊎ (key fact ≡ Some k))
+  -- of a key of a fact the one is so, or of each key and fact the other
+  each_key : {K : Type 0} (keys : Fact → List K) (C : Type 0) (P : K → Fact → Type 0) → ((k : K) (fact : Fact) → P k fact ⊎ In k (keys fact))
       → ((k : K) (fact : Fact) → In fact facts → C ⊎ P k fact) → C ⊎ ((k : K) (fact : Fact) → In fact facts → P k fact)
-  each_key {K} key C P own test = or_next (each C Own facts (λ fact i. by fact i (key fact)))
-      (λ all. inr (λ k fact i. elim (own k fact) [ inl p ↦ p | inr e ↦ subst (λ o. IfSome o (λ k. P k fact)) e (all_at Own fact facts all i) ]))
+  each_key {K} keys C P own test = or_next (each C Own facts (λ fact i. each C (λ k. P k fact) (keys fact) (λ k j. test k fact i)))
+      (λ all. inr (λ k fact i. elim (own k fact) [ inl p ↦ p | inr j ↦ all_at (λ k. P k fact) k (keys fact) (all_at Own fact facts all i) j ]))
     where
       Own : Fact → Type 0
-      Own fact = IfSome (key fact) (λ k. P k fact)
-
-      by : (fact : Fact) → In fact facts → (o : Option K) → C ⊎ IfSome o (λ k. P k fact)
-      by fact i None = inr tt
-      by fact i (Some k) = test k fact i
+      Own fact = AllByRecursion (λ k. P k fact) (keys fact)
 
   -- it is given first
   abbrev IsFirst : {A : Type 0} → (Fact → Option A) → Fact → Type 0
   IsFirst f fact = IfSome (f fact) (λ x. first_given f facts ≡ Some x)
 
   -- what is given for each key is given first, or something is given twice
-  each_given : {A K : Type 0} (key : Fact → Option K) (f : K → Fact → Option A) → ((x y : A) → Dec (x ≡ y))
-      → ((k : K) (Q : A → Type 0) (fact : Fact) → IfSome (f k fact) Q ⊎ (key fact ≡ Some k))
+  each_given : {A K : Type 0} (keys : Fact → List K) (f : K → Fact → Option A) → ((x y : A) → Dec (x ≡ y))
+      → ((k : K) (Q : A → Type 0) (fact : Fact) → IfSome (f k fact) Q ⊎ In k (keys fact))
       → (C : Type 0) → ((k : K) → (GiveOne (f k) facts → ⊥) → C) → C ⊎ ((k : K) → GiveOne (f k) facts)
-  each_given key f d own C point =
-      or_next (each_key key C (λ k. IsFirst (f k)) (λ k. own k (λ x. first_given (f k) facts ≡ Some x)) (λ k fact i.
+  each_given keys f d own C point =
+      or_next (each_key keys C (λ k. IsFirst (f k)) (λ k. own k (λ x. first_given (f k) facts ≡ Some x)) (λ k fact i.
       elim (dec_if (f k fact) (λ x. first_given (f k) facts ≡ Some x) (λ x. dec_some d (first_given (f k) facts) x)) [
         | inl first ↦ inr first
         | inr out ↦ inl (point k (λ one. out (all_at (IsFirst (f k)) fact facts one i)))
@@ -177,13 +201,13 @@ module _ (facts : List Fact) where
         elim (unmet_or_met (asks_of name facts) (given name shown).0 (given name shown).1) [ inl c ↦ inl (First name, refl, c) | inr met ↦ inr met ])
 
     ids : AtRank 5 ⊎ ((k : Name × ℕ) → GiveOne (id_in k.0 k.1) facts)
-    ids = each_given number_key (λ k. id_in k.0 k.1) dec_texts own_number (AtRank 5) (λ k c. (IdOf k.0 k.1, refl, c))
+    ids = each_given number_keys (λ k. id_in k.0 k.1) dec_texts own_number (AtRank 5) (λ k c. (IdOf k.0 k.1, refl, c))
 
     places : AtRank 6 ⊎ ((k : Name × Id) → GiveOne (number_in k.0 k.1) facts)
-    places = each_given place_key (λ k. number_in k.0 k.1) cases_eq own_place (AtRank 6) (λ k c. (PlaceOf k.0 k.1, refl, c))
+    places = each_given place_keys (λ k. number_in k.0 k.1) cases_eq own_place (AtRank 6) (λ k c. (PlaceOf k.0 k.1, refl, c))
 
     articles : AtRank 7 ⊎ ((id : Id) → IsTrue (list_any (shows_article id) facts) → IsFalse (list_any (denies_article id) facts))
-    articles = or_next (each_key article_key (AtRank 7) (λ id fact. shows_article id fact ≡ true → IsFalse (list_any (denies_article id) facts))
+    articles = or_next (each_key article_keys (AtRank 7) (λ id fact. shows_article id fact ≡ true → IsFalse (list_any (denies_article id) facts))
         (λ id. own_article id (IsFalse (list_any (denies_article id) facts))) (λ id fact i.
         elim (cases_Bool (list_any (denies_article id) facts)) [
           | inr free ↦ inr (λ t. free)
@@ -194,16 +218,16 @@ module _ (facts : List Fact) where
         ])) (λ all. inr (λ id t. let f = found_in (shows_article id) facts t in all id f.0 f.1 f.2))
 
     heads : AtRank 8 ⊎ ((id : Id) → GiveOne (head_in id) facts)
-    heads = each_given article_key head_in dec_lists own_head (AtRank 8) (λ id c. (HeadOf id, refl, c))
+    heads = each_given article_keys head_in dec_lists own_head (AtRank 8) (λ id c. (HeadOf id, refl, c))
 
     bodies : AtRank 9 ⊎ ((id : Id) → GiveOne (body_in id) facts)
-    bodies = each_given article_key body_in dec_lists own_body (AtRank 9) (λ id c. (BodyOf id, refl, c))
+    bodies = each_given article_keys body_in dec_lists own_body (AtRank 9) (λ id c. (BodyOf id, refl, c))
 
     -- ---- all of them
 
     -- facts conflict at a first point, or stand together
-    first_or_none : AllByRecursion IsWellFormed facts → FirstPoint ⊎ Together facts
-    first_or_none formed =
+    first_or_none : AllByRecursion IsWellFormed facts → AllByRecursion AgreesWithItself facts → FirstPoint ⊎ Together facts
+    first_or_none formed lists =
         next 0 (λ other l. absurd (omega arith)) steps (λ s name h. true≢false (sym h ∙ s name)) (λ s below.
         next 1 below groups (λ g name h. true≢false (sym h.1 ∙ g name h.0)) (λ g below.
         next 2 below known_numbers (λ k name n h. true≢false (sym h.1 ∙ k name n h.0)) (λ k below.
@@ -215,6 +239,7 @@ module _ (facts : List Fact) where
         next 8 below heads (λ t id h. h (t id)) (λ t below.
         next 9 below bodies (λ o id h. h (o id)) (λ o below. inr (record {
           well_formed = formed;
+          lists = lists;
           groups = g;
           numbers = λ name. record {
             possible = grind (arith, s name, all_from, cases_Bool, true≢false, any_in);
@@ -234,8 +259,12 @@ module _ (facts : List Fact) where
 -- facts that fit and are placed stand together, or conflict at a first point
 pub stand_or_conflict : (profile : Profile) (how : Marks) (facts : List Fact) → AllByRecursion (IsFitting profile) facts → AllByRecursion (IsPlaced how facts) facts → AllByRecursion IsWellFormed facts
     → ((point : Point) × IsFirstPoint facts point) ⊎ Together facts
-stand_or_conflict profile how facts fitting placed formed = first_or_none facts how placed given formed
+stand_or_conflict profile how facts fitting placed formed = first_or_none facts how placed given formed (all_from AgreesWithItself facts (λ fact i. agrees fact (all_at (IsFitting profile) fact facts fitting i)))
   where
+    agrees : (fact : Fact) → IsFitting profile fact → AgreesWithItself fact
+    agrees (OverviewsAre name r os) f = f.1
+    agrees fact f = tt
+
     given : (name : Name) → IsTrue (is_shown_group facts name) → (N : Numbers) × HasGivenNumbers (asks_of name facts) N
     given name shown = (
       numbers (made profile.limit (10 ^ 64) facts) name,

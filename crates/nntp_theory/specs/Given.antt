@@ -5,10 +5,11 @@ use Rattle.std.specs.FinMap.{get, entries, len}
 use Rattle.nntp_article.specs.{Article.Parts.{head_part, body_part, Id, Line}, Session.Spool.{Spool, Text, Numbers, IsNumber, IsGroup, numbers, Name}}
 use Rattle.nntp_article.specs.Session.Machine.{is_in_range, is_same, overview_numbers, start}
 use Rattle.nntp_said.specs.Asks.{Ask, Estimates, Bounds, ListsIn, Has, Lacks, StandsAt, StandsNowhere, StepsUp, StepsDown, IsTop, IsBottom}
-use Rattle.nntp_said.specs.{declared.position.Position.TheVariants.{Nowhere, First, Known}, Facts.{Fact, ThereIs, Asks, IdAt, TextIs, NoArticle, OverviewsAre, GroupsAre}}
-use Rattle.nntp_said.specs.Facts.{facts_from}
+use Rattle.nntp_said.specs.{declared.position.Position.TheVariants.{Nowhere, First, Known}, Facts.{Fact, ThereIs, Asks, IdAt, TextIs, NoArticle, OverviewsAre}}
+use Rattle.nntp_said.specs.Facts.{GroupsAre, facts_from}
 use Rattle.nntp_theory.specs.declared.demand.Demand.{Demand, TheVariants.{NoDemand, NotEmpty, OnlyOne, SecondIs, Impossible}}
-use Rattle.nntp_wire.specs.{Answer.{Asked, Response}, declared.{marks.Marks.{Marks, TheVariants.{Strict}}, command.What.TheVariants.{Article, Head, Body}}}
+use Rattle.nntp_wire.specs.{Answer.{Asked, Response}, Listing.{OverviewValue}, declared.marks.Marks.{Marks, TheVariants.{Strict}}}
+use Rattle.nntp_wire.specs.declared.command.What.TheVariants.{Article, Head, Body}
 
 -- the ask shows the number
 abbrev pub shows : Ask → ℕ → Bool
@@ -146,10 +147,14 @@ abbrev pub first_given : {A B : Type 0} → (B → Option A) → List B → Opti
 first_given f [] = None
 first_given f (x ∷ xs) = option_or (f x) (first_given f xs)
 
+-- the id of an overview at a number
+abbrev pub id_of_overview : ℕ → OverviewValue → Option Id
+id_of_overview n o = if o.number == n then Some o.id else None
+
 -- the id that a fact shows for a number of a group; of overviews the first at the number
 abbrev pub id_in : Name → ℕ → Fact → Option Id
 id_in name n (IdAt g m id) = if is_same g name && m == n then Some id else None
-id_in name n (OverviewsAre g range overviews) = first_given (λ o. if is_same g name && o.number == n then Some o.id else None) overviews
+id_in name n (OverviewsAre g range overviews) = if is_same g name then first_given (id_of_overview n) overviews else None
 id_in name n fact = None
 
 -- the id that is shown first for a number of a group

@@ -1,7 +1,7 @@
 -- Conditions on single groups, ids and names, under which what is said stands together.
 use Rattle.std.specs.Prelude.{◌≡◌, ℕ, ◌<◌, ◌≤◌, Bool, true, false, not, ◌&&◌, ◌==◌, nat_lt, if◌then◌else◌, List, Option, None, Some, IfSome, ⊤}
 use Rattle.std.specs.{List.{AllByRecursion, list_any, list_all}, Option.{option_map_or}, FinMap.{len}}
-use Rattle.nntp_wire.specs.Decided.{matches_name}
+use Rattle.nntp_wire.specs.{Decided.{matches_name}, Listing.{OverviewValue}}
 use Rattle.nntp_article.specs.{Article.Parts.{Id}, Session.{Spool.{Name, Numbers}, Machine.{is_in_range, is_same}}}
 use Rattle.nntp_said.specs.Asks.{Ask, Estimates, ListsIn, StandsAt, StandsNowhere, StepsUp, StepsDown, IsTop, IsBottom}
 use Rattle.nntp_said.specs.{declared.position.Position.TheVariants.{Nowhere, Known}, Facts.{Fact, ThereIsNo, IdAt, TextIs, NoArticle, OverviewsAre, GroupsAre}}
@@ -44,10 +44,14 @@ denies_group name (ThereIsNo g) = is_same g name
 denies_group name (GroupsAre p lines) = option_map_or (λ w. matches_name w name) p true && not (list_any (λ line. is_same line.name name) lines)
 denies_group name fact = false
 
+-- the number of an overview with an id
+abbrev pub number_of_overview : Id → OverviewValue → Option ℕ
+number_of_overview id o = if is_same o.id id then Some o.number else None
+
 -- the number that a fact shows for an id of a group; of overviews the first with the id
 abbrev pub number_in : Name → Id → Fact → Option ℕ
 number_in name id (IdAt g n other) = if is_same g name && is_same other id then Some n else None
-number_in name id (OverviewsAre g range overviews) = first_given (λ o. if is_same g name && is_same o.id id then Some o.number else None) overviews
+number_in name id (OverviewsAre g range overviews) = if is_same g name then first_given (number_of_overview id) overviews else None
 number_in name id fact = None
 
 -- the fact shows that the id has an article: the id stands at a number, a success names it, or an overview has it

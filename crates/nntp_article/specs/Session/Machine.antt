@@ -1,7 +1,8 @@
 -- The machine over one spool: states, what may be answered in a state, and runs (RFC 3977, sections 3.2.1, 5, 6 and 7.6).
 use Rattle.std.specs.Prelude.{◌≡◌, ℕ, ◌+◌, ◌-◌, ◌≤◌, ◌↔◌, Bool, true, false, not, ◌&&◌, ◌||◌, ◌==◌, nat_lt, nat_le, if◌then◌else◌, cond, IsTrue, IsFalse, List}
-use Rattle.std.specs.{Prelude.{[], ◌∷◌, Option, None, Some, is_some, is_none, MatchOption, IfSome, unwrap_or, Contains, All, map, ⊤}, List.{AllByRecursion, list_any, list_all}}
-use Rattle.std.specs.{Option.{option_map_or, option_or}, Cmp.Lexicographic.{slice_cmp, pointwise}, Ordering.{nat_cmp}, FinMap.{FinMap, get, insert, len, empty}}
+use Rattle.std.specs.{Prelude.{[], ◌∷◌, Option, None, Some, is_some, is_none, MatchOption, IfSome, unwrap_or, Contains, All, map, ⊤}, List.{AllByRecursion}}
+use Rattle.std.specs.{List.{list_any, list_all}, Option.{option_map_or, option_or}, Cmp.Lexicographic.{slice_cmp, pointwise}, Ordering.{nat_cmp}}
+use Rattle.std.specs.FinMap.{FinMap, get, insert, len, empty}
 use Rattle.nntp_wire.specs.Command.{Target, by_id, by_number, current, Request, capabilities, mode_reader, next, last, quit, opaque, ill_formed, group}
 use Rattle.nntp_wire.specs.{Command.{Overviewed, the_id, in_range, the_current, list_group, retrieve, list_active, over}, Answer.{Asked, greeting, to, Success}}
 use Rattle.nntp_wire.specs.Answer.{Response, group_is, numbers_are, sends, active_are, overviews_are, plain, success_code}

@@ -4,19 +4,19 @@ use Rattle.std.proofs.{Common.{ap, subst, ◌∙◌, arith}, lemmas.Bool.{true�
 use Rattle.std.{proofs.lemmas.List.Elements.{All-from_recursion}, specs.{Prelude.{IsFalse, IfSome, unwrap_or}, List.{AllByRecursion, list_any}}}
 use Rattle.std.specs.{Ordering.{nat_cmp}, FinMap.{get, empty, entries, get-entries, get-empty, nat_cmp-IsAntisymmetric, slice_cmp-IsAntisymmetric}}
 use Rattle.nntp_article.specs.{Article.Parts.{head_part, body_part, is_empty, Id, Line}, Session.Spool.{Spool, Text, Numbers, IsNumber, IsGroup, numbers}}
-use Rattle.nntp_article.specs.Session.{Spool.{text_of, Name}, Machine.{is_same, head_fits, active_fits, ActivesAgree}}
+use Rattle.nntp_article.specs.Session.{Spool.{text_of, Lists, Name}, Machine.{is_same, overview_numbers, head_fits, active_fits, ActivesAgree}}
 use Rattle.nntp_article.specs.declared.session.profile.Profile.{Profile}
-use Rattle.nntp_said.specs.{Asks.{Meets, Bounds}, Facts.{Fact, Holds, ThereIs, ThereIsNo, Asks, IdAt, TextIs, NoArticle, GroupsAre}}
+use Rattle.nntp_said.specs.{Asks.{Meets, Bounds}, Facts.{Fact, Holds, ThereIs, ThereIsNo, Asks, IdAt, TextIs, NoArticle, OverviewsAre, GroupsAre}}
 use Rattle.nntp_theory.specs.Given.{asks_in, asks_of, shows_group, id_in, id_shown, first_given, mentions, is_mentioned, gives_article, head_in, body_in}
-use Rattle.nntp_theory.specs.{Given.{plain_head, invented, unshown_in, unshown_ids, IsGiven}, Inner.Together.{IsWellFormed, Together}, Together.{denies_group}}
-use Rattle.nntp_theory.{specs.Together.{number_in, shows_article, denies_article, GiveOne}, proofs.Members.{In, all_at, all_part, all_from, any_in, found_in}}
-use Rattle.nntp_theory.proofs.{Members.{from_map, contains_in, in_contains, first_found}, GivenNumbers.LeastNumber.{not_number}}
-use Rattle.nntp_theory.proofs.{GivenNumbers.GivenNumbersMeet.{given_meet}, Together.FactsOfASpoolStand.{same_itself, in_listed, matching}}
-use Rattle.nntp_theory.proofs.{Session.{NumbersOfShownGroups.{IsSelectable, Placed}, FittingFacts.{IsFitting}}, Ids.InventedIds.{invented_number}}
-use Rattle.nntp_theory.proofs.Ids.NumbersOfInventedIds.{Numbered, numbered, of_numbered, part_numbered, unshown_there, unshown_apart, mentioned}
-use Rattle.nntp_theory.proofs.Maps.{entry_in}
-use Rattle.nntp_wire.specs.{Listing.{ActiveValue}, declared.{command.What.{What}, marks.Marks.{Marks}}, Name.{IsMessageId}, Wildmat.{MatchesName}}
-use Rattle.nntp_wire.proofs.OptionLemmas.{none_of, some_is}
+use Rattle.nntp_theory.specs.{Given.{plain_head, invented, unshown_in, unshown_ids, IsGiven}, Inner.Together.{IsWellFormed, AgreesWithItself, Together}}
+use Rattle.nntp_theory.{specs.Together.{denies_group, number_in, shows_article, denies_article, GiveOne}, proofs.Members.{In, all_at, all_part, all_from}}
+use Rattle.nntp_theory.proofs.{Members.{any_in, found_in, in_map, from_map, contains_in, in_contains, first_found}, GivenNumbers.LeastNumber.{not_number}}
+use Rattle.nntp_theory.proofs.{GivenNumbers.GivenNumbersMeet.{given_meet}, Together.{ListedOverviews.{overview_at}, FactsOfASpoolStand.{same_itself}}}
+use Rattle.nntp_theory.proofs.{Together.FactsOfASpoolStand.{in_listed, matching}, Session.NumbersOfShownGroups.{IsSelectable, Placed}}
+use Rattle.nntp_theory.proofs.{Session.FittingFacts.{IsFitting}, Ids.{InventedIds.{invented_number}, NumbersOfInventedIds.{Numbered, numbered, of_numbered}}}
+use Rattle.nntp_theory.proofs.{Ids.NumbersOfInventedIds.{part_numbered, unshown_there, unshown_apart, mentioned}, Maps.{entry_in}}
+use Rattle.nntp_wire.specs.{Listing.{ActiveValue, OverviewValue}, declared.{range.Range.{Range}, command.What.{What}, marks.Marks.{Marks}}, Name.{IsMessageId}}
+use Rattle.nntp_wire.{specs.Wildmat.{MatchesName}, proofs.OptionLemmas.{none_of, some_is}}
 
 -- an id at a number is one of the entries
 pub entry_of_number : (N : Numbers) (n : ℕ) (id : Id) → get N n ≡ Some id → In (n, id) (entries N)
@@ -101,7 +101,23 @@ module _ (profile : Profile) (B : ℕ) (G : Spool) (facts : List Fact) (s : Sett
 
   -- an id that is shown is that of one of the facts
   pub shown_at : (name : Name) (n : ℕ) (id : Id) → id_shown facts name n ≡ Some id → ShownAt facts name n id
-  shown_at name n id e = grind (arith, first_found, mentioned, same_itself, eqb-true)
+  shown_at name n id e = let f = first_found (id_in name n) facts id e in by f.0 f.1 f.2
+    where
+      by : (fact : Fact) → In fact facts → id_in name n fact ≡ Some id → ShownAt facts name n id
+      by (OverviewsAre g r os) i e =
+          let o = overview_at g name r os n id e in
+          let own = all_at _ o.overview os (all_at AgreesWithItself (OverviewsAre g r os) facts s.together.lists i) o.there in
+          let has = any_in (λ o. is_same o.id id) o.overview os o.there in
+          let formed : AllByRecursion (λ o. IsMessageId o.id) os → IsMessageId o.overview.id = λ h. all_at (λ o. IsMessageId o.id) o.overview os h o.there in
+          record {
+            fact = OverviewsAre g r os;
+            there = i;
+            number = grind (arith, own, same_itself);
+            article = grind (arith, has, same_itself);
+            mentioned = grind (arith, has, same_itself);
+            formed = λ h. grind (arith, formed h);
+          }
+      by fact i e = grind (arith, same_itself, eqb-true)
 
   -- an id that a fact shows to have an article isn't denied
   not_denied : (id : Id) (fact : Fact) → In fact facts → shows_article id fact ≡ true → In (NoArticle id) facts → ⊥
@@ -154,6 +170,16 @@ module _ (profile : Profile) (B : ℕ) (G : Spool) (facts : List Fact) (s : Sett
             grind (arith, met, same_itself line.name))),
       )
 
+  -- an overview that was sent is G's, where its number is one
+  overview_holds : (name : Name) (r : Range) (os : List OverviewValue) → In (OverviewsAre name r os) facts → Lists (numbers G name) r (overview_numbers os)
+      → (o : OverviewValue) → In o os → get (numbers G name) o.number ≡ Some o.id
+  overview_holds name r os i met o j =
+      let own = all_at _ o os (all_at AgreesWithItself (OverviewsAre name r os) facts s.together.lists i) j in
+      let given : id_in name o.number (OverviewsAre name r os) ≡ Some o.id = grind (arith, own, same_itself name) in
+      let there = contains_in o.number (overview_numbers os) (in_map (λ (o : OverviewValue). o.number) o os j) in
+      s.given.ids_shown name o.number o.id ((met o.number).0 there).0
+      (one_given (id_in name o.number) facts (s.together.ids name o.number) (OverviewsAre name r os) i o.id given)
+
   -- what was said holds of G
   fact_holds : (fact : Fact) → In fact facts → IsFitting profile fact → Placed s.how facts fact → Holds G fact
   fact_holds (ThereIs name) i f p = (s.given.groups name).1 (any_in (shows_group name) (ThereIs name) facts i (same_itself name))
@@ -180,6 +206,9 @@ module _ (profile : Profile) (B : ℕ) (G : Spool) (facts : List Fact) (s : Sett
         )
         | inr sent ↦ (let f = found_in (gives_article id) facts sent in not_denied id f.0 f.1 (grind (arith, f.2)) i)
       ])
+  fact_holds (OverviewsAre name r os) i f p =
+      let met : Lists (numbers G name) r (overview_numbers os) = grind (arith, asked name (OverviewsAre name r os) i (group_there name p), same_itself name) in
+      (met, all_from _ os (λ o j. overview_holds name r os i met o j))
   fact_holds (GroupsAre p lines) i f g = lines_hold p lines i f
 
   -- all that is said holds of G

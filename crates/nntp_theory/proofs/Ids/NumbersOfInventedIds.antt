@@ -1,17 +1,19 @@
 -- The numbers of invented ids: they are small, rise, and aren't those of ids that are mentioned.
-use Rattle.std.proofs.Common.{◌≡◌, ℕ, ◌+◌, ◌<◌, ◌≤◌, true, cond, eqb, List, [], ◌∷◌, ◌++◌, length, None, is_some, inl, inr, sym, ap, subst, ◌∙◌, arith}
+use Rattle.std.proofs.Common.{◌≡◌, ℕ, ◌+◌, ◌<◌, ◌≤◌, true, cond, eqb, List, [], ◌∷◌, ◌++◌, length, map, None, is_some, inl, inr, sym, ap, subst, ◌∙◌, arith}
 use Rattle.std.proofs.{Common.{length-append}, lemmas.{Bool.{cases_lt, or_cases, or_left, or_right, eq-eqb}, Map.Steps.{le-length_from_below}}}
-use Rattle.std.specs.{Prelude.{IsFalse, ⊤}, List.{list_any, flat_map}, Cmp.Lexicographic.{same_text}}
+use Rattle.std.{proofs.lemmas.List.Folds.{list_any-append}, specs.{Prelude.{IsFalse, ⊤}, List.{list_any, flat_map}, Cmp.Lexicographic.{same_text}}}
 use Rattle.nntp_article.specs.{Session.{Machine.{is_same}, Spool.{Name}}, Article.Parts.{Id}}
-use Rattle.nntp_said.specs.Facts.{Fact, IdAt, TextIs, NoArticle}
-use Rattle.nntp_theory.{specs.Given.{is_mentioned, invented, AreInvented, id_shown, unshown_in}, proofs.{Ids.InventedIds.{invented_number}, Members.{In}}}
-use Rattle.nntp_theory.proofs.Members.{in_back, any_back}
+use Rattle.nntp_wire.specs.Listing.{OverviewValue}
+use Rattle.nntp_said.specs.Facts.{Fact, IdAt, TextIs, NoArticle, OverviewsAre}
+use Rattle.nntp_theory.{specs.Given.{mentions, is_mentioned, invented, AreInvented, id_shown, unshown_in}, proofs.Ids.InventedIds.{invented_number}}
+use Rattle.nntp_theory.proofs.Members.{In, in_back, in_map, any_in, any_back, found_in}
 
--- the number of the id that a fact mentions, as if it were an invented one
+-- the numbers of the ids that a fact mentions, as if they were invented ones
 abbrev pub mentioned_number : Fact → List ℕ
 mentioned_number (IdAt name n id) = invented_number id ∷ []
 mentioned_number (TextIs what id lines) = invented_number id ∷ []
 mentioned_number (NoArticle id) = invented_number id ∷ []
+mentioned_number (OverviewsAre name r os) = map (λ o. invented_number o.id) os
 mentioned_number fact = []
 
 -- the numbers of the ids that are mentioned
@@ -28,10 +30,21 @@ module _ (B : ℕ) (small : (i : ℕ) → i < B → invented_number (invented i)
   same_number : (i : ℕ) (id : Id) → i < B → is_same id (invented i) ≡ true → eqb i (invented_number id) ≡ true
   same_number i id l e = eq-eqb i (invented_number id) (sym (small i l) ∙ ap invented_number (sym (same_text id (invented i) (sym e))))
 
-  -- and so one of the facts
+  -- and so one that a fact mentions
+  counted_one : (i : ℕ) (fact : Fact) → i < B → mentions (invented i) fact ≡ true → list_any (eqb i) (mentioned_number fact) ≡ true
+  counted_one i (OverviewsAre name r os) l t =
+      let f = found_in (λ o. is_same o.id (invented i)) os t in
+      any_in (eqb i) (invented_number f.0.id) (map (λ o. invented_number o.id) os) (in_map (λ (o : OverviewValue). invented_number o.id) f.0 os f.1) (same_number i f.0.id l f.2)
+  counted_one i fact l t = grind (arith, or_left, same_number)
+
+  -- and one of the facts
   pub counted : (i : ℕ) (facts : List Fact) → i < B → is_mentioned facts (invented i) ≡ true → list_any (eqb i) (mentioned facts) ≡ true
   counted i [] l e = cc
-  counted i (fact ∷ facts) l e = grind (arith, or_cases, or_left, same_number, any_back (eqb i) (mentioned_number fact) (mentioned facts), counted i facts l)
+  counted i (fact ∷ facts) l e =
+      elim (or_cases (mentions (invented i) fact) (is_mentioned facts (invented i)) e) [
+        | inl t ↦ list_any-append (eqb i) (mentioned_number fact) (mentioned facts) ∙ or_left _ (list_any (eqb i) (mentioned facts)) (counted_one i fact l t)
+        | inr t ↦ any_back (eqb i) (mentioned_number fact) (mentioned facts) (counted i facts l t)
+      ]
 
   -- the numbers from k on, behind those that were invented before
   numbered_from : (ids : List Id) (k : ℕ) (done : List ℕ) → ((i : ℕ) → i < k → list_any (eqb i) (done ++ mentioned facts) ≡ true)

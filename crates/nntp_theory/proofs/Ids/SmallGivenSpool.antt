@@ -1,13 +1,13 @@
 -- A session that says little is given a small spool.
-use Rattle.nntp_wire.specs.{declared.marks.Marks.TheVariants.{Strict}, Listing.{ActiveValue}}
+use Rattle.nntp_wire.specs.{declared.marks.Marks.TheVariants.{Strict}, Listing.{ActiveValue, OverviewValue}}
 use Rattle.std.proofs.Common.{◌≡◌, ℕ, ◌+◌, ◌<◌, ◌≤◌, ◌^◌, true, false, cond, not, IsTrue, List, [], ◌∷◌, ◌++◌, map, length, inl, inr, refl, sym, ap, ◌∙◌, arith}
 use Rattle.std.proofs.{Common.{length-append}, lemmas.{Bool.{cases_Bool, eqb-true, not-true, true≢false, or_cases, and_parts}, List.{length-map}}}
 use Rattle.std.{proofs.lemmas.{List.Folds.{flat_map-map}, Map.{Keys.{IsDistinct-from_sorted}, Text.{is_eq-slice_cmp}}}, specs.List.{AllByRecursion, list_any}}
 use Rattle.std.specs.{List.{flat_map, IsDistinct}, Ordering.{nat_cmp, eq_by_cmp}, Cmp.{nat_cmp_total, Lexicographic.{slice_cmp, same_text, nat_list_cmp_total}}}
 use Rattle.std.specs.FinMap.{keys, entries, entries_sorted, nat_cmp-IsAntisymmetric, slice_cmp-IsAntisymmetric}
-use Rattle.nntp_article.specs.{Session.{Spool.{Spool, Numbers, IsNumber, IsGroup, numbers, Name}, Machine.{is_same}}, Article.Parts.{Id}}
+use Rattle.nntp_article.specs.{Session.{Spool.{Spool, Numbers, IsNumber, IsGroup, numbers, Name}, Machine.{is_same, overview_numbers}}, Article.Parts.{Id}}
 use Rattle.nntp_said.specs.{Asks.{Ask, Estimates, Bounds, ListsIn, Has, StandsAt, StepsUp, StepsDown}, declared.position.Position.TheVariants.{First}}
-use Rattle.nntp_said.specs.Facts.{Fact, ThereIs, Asks, IdAt, GroupsAre}
+use Rattle.nntp_said.specs.Facts.{Fact, ThereIs, Asks, IdAt, OverviewsAre, GroupsAre}
 use Rattle.nntp_theory.specs.Given.{shows, IsOneMore, HasGivenNumbers, asks_in, asks_of, shows_group, is_shown_group, unshown_in, unshown_ids, is_known}
 use Rattle.nntp_theory.{specs.Inner.Given.{size_in, size}, proofs.Members.{In, any_in, found_in, to_flat, from_flat, parts_few}}
 use Rattle.nntp_theory.proofs.{GivenNumbers.MetNumbersStand.{one_more_once, any_unknown, key_in, key_is}, Ids.NumbersOfInventedIds.{mentioned}}
@@ -115,6 +115,7 @@ nothing_few f (name ∷ names) none = grind (arith, nothing_few f names)
 one_few : (fact : Fact) (names : List Name) → IsDistinct (eq_by_cmp (slice_cmp nat_cmp)) names → length (flat_map (λ name. numbers_in name fact) names) ≤ size_in fact
 one_few (Asks g ask) names d = ask_few g ask names d
 one_few (IdAt g n id) names d = ask_few g (Has n) names d
+one_few (OverviewsAre g r os) names d = let count = ask_few g (ListsIn r (overview_numbers os)) names d in omega (arith, length-map os (λ (o : OverviewValue). o.number))
 one_few (GroupsAre p lines) names d = let none = nothing_few (λ name. numbers_in name (GroupsAre p lines)) names (λ name. no_number name lines) in omega arith
 one_few fact names d = let none = nothing_few (λ name. []) names (λ name. refl) in omega arith
 
@@ -131,7 +132,7 @@ numbers_few (fact ∷ facts) names d = grind (arith, both_parts (λ name. number
 -- no more ids are mentioned than the size
 mentioned_few : (facts : List Fact) → length (mentioned facts) ≤ size facts
 mentioned_few [] = omega arith
-mentioned_few (fact ∷ facts) = grind (arith, mentioned_few facts)
+mentioned_few (fact ∷ facts) = grind (arith, length-append, length-map, mentioned_few facts)
 
 -- ---- the spool that is given
 

@@ -1,12 +1,15 @@
 -- What the visible condition says of the facts of an answer.
-use Rattle.std.{proofs.{Common.{◌≡◌, IsTrue, List, ◌∷◌, arith, ◌≤◌}, lemmas.Bool.{and_parts}}, specs.{Prelude.{⊤}, List.{AllByRecursion}}}
+use Rattle.std.{proofs.{Common.{◌≡◌, ℕ, IsTrue, List, [], ◌∷◌, arith, ◌≤◌}, lemmas.Bool.{and_parts}}, specs.{Prelude.{⊤}, List.{AllByRecursion}}}
 use Rattle.nntp_article.specs.Session.{Spool.{Name}, Machine.{Visible, visible_after, start, fits, marks_fit, is_article_number, head_fits, active_fits}}
-use Rattle.nntp_article.specs.declared.session.profile.Profile.{Profile}
-use Rattle.nntp_wire.specs.{Answer.{Asked, Response}, declared.water_marks.WaterMarks.{WaterMarks}}
+use Rattle.nntp_article.specs.{Session.Machine.{overview_numbers}, declared.session.profile.Profile.{Profile}}
+use Rattle.nntp_wire.specs.{Answer.{Asked, Response}, Listing.{listed_numbers, active_groups, overviews_of}, declared.range.Range.{Range}}
+use Rattle.nntp_wire.specs.declared.water_marks.WaterMarks.{WaterMarks}
 use Rattle.nntp_said.specs.{Asks.{position_after, Estimates, ListsIn, Has, StandsAt, StepsUp, StepsDown}, declared.position.Position.{Position}}
-use Rattle.nntp_said.specs.{declared.position.Position.TheVariants.{Nowhere}, Facts.{Fact, Asks, IdAt, TextIs, GroupsAre, facts_of, facts_from}}
-use Rattle.nntp_said.{specs.Inner.Facts.{FitsAll}, proofs.Rows.{Row, row}}
-use Rattle.nntp_theory.{specs.Given.{facts_of_session}, proofs.Members.{all_both, all_from, each_of}}
+use Rattle.nntp_said.specs.{declared.position.Position.TheVariants.{Nowhere}, Facts.{Fact, Asks, IdAt, TextIs, OverviewsAre, GroupsAre, here, facts_of}}
+use Rattle.nntp_said.{specs.{Facts.{facts_from}, Inner.Facts.{FitsAll}}, proofs.Rows.{Row, AreListed, row, within, marks, listing, up, down, text, text_at}}
+use Rattle.nntp_said.proofs.Rows.{text_here, active}
+use Rattle.nntp_theory.{specs.{Given.{facts_of_session}, Inner.Together.{AgreesWithItself}}, proofs.Members.{all_both, all_from, each_of}}
+use Rattle.nntp_theory.proofs.Together.ListedOverviews.{apart_agree}
 
 -- marks and numbers are within the limit, a low mark of 0 estimates no number, a text has the parts that were asked for, and listed groups match
 abbrev pub IsFitting : Profile → Fact → Type 0
@@ -18,6 +21,7 @@ IsFitting profile (Asks name (StepsUp at n)) = IsTrue (is_article_number profile
 IsFitting profile (Asks name (StepsDown at n)) = IsTrue (is_article_number profile.limit n)
 IsFitting profile (IdAt name n id) = IsTrue (is_article_number profile.limit n)
 IsFitting profile (TextIs what id lines) = IsTrue (head_fits what id lines)
+IsFitting profile (OverviewsAre name r os) = AllByRecursion (λ n. IsTrue (is_article_number profile.limit n)) (overview_numbers os) × AgreesWithItself (OverviewsAre name r os)
 IsFitting profile (GroupsAre p lines) = AllByRecursion (λ line. IsTrue (active_fits profile p line)) lines
 IsFitting profile fact = ⊤
 
@@ -25,9 +29,23 @@ IsFitting profile fact = ⊤
 marks_fitting : (profile : Profile) (v : Visible) (name : Name) (m : WaterMarks) → IsTrue (marks_fit profile v name m) → IsFitting profile (Asks name (Estimates profile.marks m))
 marks_fitting profile v name m f = grind arith
 
+-- listed numbers are article numbers
+listed_fitting : (profile : Profile) (range : Range) (ns : List ℕ) → AreListed profile range ns → AllByRecursion (λ n. IsTrue (is_article_number profile.limit n)) ns
+listed_fitting profile range ns f = grind (arith, all_from, and_parts, each_of)
+
 -- a row whose condition holds
 row_fitting : {profile : Profile} {v : Visible} {at : Position} {Fits : Type 0} {a : Response} {facts : List Fact} → Row profile v at Fits a facts → Fits → AllByRecursion (IsFitting profile) facts
-row_fitting {profile} {v} r f = grind (arith, marks_fitting, all_from, and_parts, each_of)
+row_fitting {profile} {v} (within range lines known) f =
+    ((listed_fitting profile range (overview_numbers (overviews_of lines)) (known f).1, apart_agree (here v) range (overviews_of lines) (known f).1.0 (known f).2), tt)
+row_fitting {profile} {v} (marks m name known) f = (tt, (marks_fitting profile v name m (known f), tt))
+row_fitting {profile} {v} (listing m name range lines known) f = (tt, (marks_fitting profile v name m (known f).0, (listed_fitting profile range (listed_numbers lines) (known f).1, tt)))
+row_fitting (up s known) f = ((known f).1, ((known f).1, tt))
+row_fitting (down s known) f = ((known f).1, ((known f).1, tt))
+row_fitting (text a what s gives known) f = (known f, tt)
+row_fitting (text_at a what s gives known) f = ((known f).0, ((known f).1.1, tt))
+row_fitting (text_here a what s gives known) f = ((known f).0, ((known f).1.1, ((known f).1.1, tt)))
+row_fitting {profile} (active p lines known) f = (all_from _ _ (λ line i. each_of (active_fits profile p) (active_groups lines) line (known f).0 i), tt)
+row_fitting r f = assumption
 
 -- what an answer that fits says
 pub answer_fitting : (profile : Profile) (v : Visible) (at : Position) (p : Asked) (a : Response) → IsTrue (fits profile v p a) → AllByRecursion (IsFitting profile) (facts_of profile.marks v at p a)

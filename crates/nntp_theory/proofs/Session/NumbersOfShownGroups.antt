@@ -3,8 +3,8 @@ use Rattle.nntp_wire.specs.{declared.{marks.Marks.{Marks}, water_marks.WaterMark
 use Rattle.std.{proofs.Common.{◌≡◌, IsTrue, List, [], ◌∷◌, Some, is_some, arith}, specs.{Prelude.{⊤}, List.{AllByRecursion}}}
 use Rattle.nntp_article.specs.{Session.{Spool.{Name}, Machine.{Visible, visible_after, start, fits}}, declared.session.profile.Profile.{Profile}}
 use Rattle.nntp_said.specs.{Asks.{position_after, Estimates}, declared.position.Position.{Position, TheVariants.{Nowhere}}, Facts.{Fact, ThereIs, Asks, IdAt}}
-use Rattle.nntp_said.{specs.{Facts.{here, facts_of, facts_from}, Inner.Facts.{FitsAll}}, proofs.Rows.{Row, row, nowhere, top, bottom, none_within, within}}
-use Rattle.nntp_said.proofs.Rows.{lacks, marks, listing, up, down, text_at, text_here}
+use Rattle.nntp_said.{specs.{Facts.{OverviewsAre, here, facts_of, facts_from}, Inner.Facts.{FitsAll}}, proofs.Rows.{Row, row, nowhere, top, bottom}}
+use Rattle.nntp_said.proofs.Rows.{none_within, within, lacks, marks, listing, up, down, text_at, text_here}
 use Rattle.nntp_theory.{specs.Given.{facts_of_session}, proofs.Members.{In, all_both, all_front, all_back, all_from}}
 
 -- a 211 said that there is such a group, with its marks, which are read so
@@ -22,6 +22,7 @@ abbrev pub Placed : Marks → List Fact → Fact → Type 0
 Placed how all (ThereIs name) = IsSelectable how all name
 Placed how all (Asks name ask) = IsSelectable how all name
 Placed how all (IdAt name n id) = IsSelectable how all name
+Placed how all (OverviewsAre name r os) = IsSelectable how all name
 Placed how all fact = ⊤
 
 -- the facts of a 211

@@ -3,9 +3,9 @@ use Rattle.nntp_wire.specs.{declared.marks.Marks.{Marks}, Answer.{Asked, Respons
 use Rattle.std.proofs.{Common.{◌≡◌, ◌↔◌, List, [], ◌++◌, sym, subst, arith}, lemmas.Grind.{flat_map-append}}
 use Rattle.nntp_article.specs.{Session.{Spool.{Name}, Machine.{Visible}}, declared.session.profile.Profile.{Profile}}
 use Rattle.nntp_said.{specs.{declared.position.Position.{Position}, Facts.{Fact, facts_of}}, proofs.Rows.{Row, row}}
-use Rattle.nntp_theory.specs.{Given.{asks_in, asks_of, shows_group, id_in, head_in, body_in}, Inner.Together.{IsWellFormed, AsksStand, Together, AgreeWithin}}
-use Rattle.nntp_theory.{specs.{Inner.Together.{Join}, Together.{denies_group, number_in, shows_article, denies_article}}, proofs.Members.{all_both, all_back}}
-use Rattle.nntp_theory.proofs.Together.TwoListsOfFacts.{apart_both, apart_shown, apart_denied, give_one_both, give_same_of_both}
+use Rattle.nntp_theory.specs.{Given.{asks_in, asks_of, shows_group, id_in, head_in, body_in}, Inner.Together.{IsWellFormed, AgreesWithItself, AsksStand}}
+use Rattle.nntp_theory.specs.{Inner.Together.{Together, AgreeWithin, Join}, Together.{denies_group, number_in, shows_article, denies_article}}
+use Rattle.nntp_theory.proofs.{Members.{all_both, all_back}, Together.TwoListsOfFacts.{apart_both, apart_shown, apart_denied, give_one_both, give_same_of_both}}
 
 -- what both ask of a group
 pub asks_append : (name : Name) (facts more : List Fact) → asks_of name (facts ++ more) ≡ asks_of name facts ++ asks_of name more
@@ -18,6 +18,7 @@ pub together_more : (facts more : List Fact) → Together facts → AgreeWithin 
 together_more facts more t w = (
   λ h. record {
     well_formed = all_back IsWellFormed facts more h.well_formed;
+    lists = all_back AgreesWithItself facts more h.lists;
     names = search (apart_shown, apart_denied, h.groups);
     numbers = λ name. subst AsksStand (asks_append name facts more) (h.numbers name);
     ids = search (give_same_of_both, h.ids, h.ids_once);
@@ -25,6 +26,7 @@ together_more facts more t w = (
   },
   λ j. record {
     well_formed = all_both IsWellFormed facts more t.well_formed j.well_formed;
+    lists = all_both AgreesWithItself facts more t.lists j.lists;
     groups = λ name. apart_both (shows_group name) (denies_group name) facts more (t.groups name) (w.groups name) (j.names.groups name) (j.names.no_groups name);
     numbers = λ name. subst AsksStand (sym (asks_append name facts more)) (j.numbers name);
     ids = λ name n. give_one_both (id_in name n) facts more (t.ids name n) (w.ids name n) (j.ids.ids name n);

@@ -1,16 +1,17 @@
 -- What holds of a spool stands together.
 use Rattle.std.proofs.Common.{◌≡◌, ℕ, ◌↔◌, Bool, true, cond, IsTrue, List, [], ◌∷◌, ◌++◌, map, Option, None, Some, IsSome, refl, sym, ap, ◌∙◌, arith}
-use Rattle.std.proofs.lemmas.{Bool.{true≢false, and_parts, eqb-true, false_from_ne_true, not-true}, List.Elements.{recursion_from_All}}
+use Rattle.std.proofs.lemmas.{Bool.{true≢false, and_parts, eqb-true, eq-eqb, false_from_ne_true, not-true}, List.Elements.{recursion_from_All}}
 use Rattle.std.specs.{Prelude.{IfSome}, List.{AllByRecursion, list_any}, Option.{option_map_or}, Cmp.Lexicographic.{same_text, nat_list_eq_equiv}, FinMap.{get}}
 use Rattle.nntp_article.specs.{Article.Parts.{Line, Id, head_part, body_part}, Session.Spool.{Spool, Text, IsGroup, numbers, IsSpool, HasText, text_of}}
 use Rattle.nntp_article.{specs.Session.{Spool.{is_line, Name}, Machine.{is_same}}, proofs.ArticleLemmas.HeadHasNoEmptyLine.{parts}}
-use Rattle.nntp_said.specs.Facts.{Fact, Holds, ThereIs, ThereIsNo, IdAt, TextIs, NoArticle, GroupsAre}
-use Rattle.nntp_theory.specs.{Given.{asks_of, shows_group, is_shown_group, first_given, id_in, id_shown, head_in, body_in}, Inner.Together.{IsWellFormed}}
-use Rattle.nntp_theory.{specs.{Inner.Together.{Together}, Together.{denies_group, number_in, shows_article, denies_article, GiveOne}}, proofs.Members.{In}}
-use Rattle.nntp_theory.proofs.Members.{all_at, all_front, all_back, all_both, all_from, any_in, found_in, in_map, from_map, contains_in, in_contains}
-use Rattle.nntp_theory.proofs.{Members.{first_found, first_there}, GivenNumbers.{MetNumbersStand.{asks_stand}, AskedOfAGroup.{met_by_facts}}}
-use Rattle.nntp_wire.specs.{Listing.{ActiveValue}, Wildmat.{MatchesName}, Decided.{matches_name}, Name.{IsGroupName}, declared.command.What.{What}}
-use Rattle.nntp_wire.{specs.declared.command.What.TheVariants.{Article}, proofs.DecidedLemmas.{matches_name-iff}}
+use Rattle.nntp_said.specs.Facts.{Fact, Holds, ThereIs, ThereIsNo, IdAt, TextIs, NoArticle, OverviewsAre, GroupsAre}
+use Rattle.nntp_theory.specs.Given.{asks_of, shows_group, is_shown_group, first_given, id_of_overview, id_in, id_shown, head_in, body_in}
+use Rattle.nntp_theory.specs.{Inner.Together.{IsWellFormed, AgreesWithItself, Together}, Together.{denies_group, number_of_overview, number_in, shows_article}}
+use Rattle.nntp_theory.{specs.Together.{denies_article, GiveOne}, proofs.Members.{In, all_at, all_front, all_back, all_both, all_from, any_in, found_in}}
+use Rattle.nntp_theory.proofs.{Members.{in_map, from_map, contains_in, in_contains, first_found, first_there}, Together.ListedOverviews.{overview_at}}
+use Rattle.nntp_theory.proofs.{Together.ListedOverviews.{overview_of}, GivenNumbers.{MetNumbersStand.{asks_stand}, AskedOfAGroup.{met_by_facts}}}
+use Rattle.nntp_wire.specs.{Listing.{ActiveValue, OverviewValue}, Wildmat.{MatchesName}, Decided.{matches_name}, Name.{IsGroupName, IsMessageId}}
+use Rattle.nntp_wire.{specs.declared.command.What.{What, TheVariants.{Article}}, proofs.DecidedLemmas.{matches_name-iff}}
 
 -- a text is the same as itself
 pub same_itself : (xs : List ℕ) → is_same xs xs ≡ true
@@ -65,6 +66,7 @@ module _ (limit : ℕ) (S : Spool) (facts : List Fact) (spool : IsSpool limit S)
   -- an id that a fact shows is S's
   id_by_one : (name : Name) (n : ℕ) (id : Id) (fact : Fact) → Holds S fact → id_in name n fact ≡ Some id → get (numbers S name) n ≡ Some id
   id_by_one name n id (IdAt g m other) h e = grind (arith, same_text g name, eqb-true)
+  id_by_one name n id (OverviewsAre g r os) h e = let o = overview_at g name r os n id e in grind (arith, all_at _ o.overview os h.1 o.there)
   id_by_one name n id fact h e = cc
 
   -- an id that is shown is S's
@@ -74,6 +76,7 @@ module _ (limit : ℕ) (S : Spool) (facts : List Fact) (spool : IsSpool limit S)
   -- and stands at its number
   number_by_one : (name : Name) (id : Id) (n : ℕ) (fact : Fact) → Holds S fact → number_in name id fact ≡ Some n → get (numbers S name) n ≡ Some id
   number_by_one name id n (IdAt g m other) h e = grind (arith, same_text g name, same_text other id)
+  number_by_one name id n (OverviewsAre g r os) h e = let o = overview_of g name r os id n e in grind (arith, all_at _ o.overview os h.1 o.there)
   number_by_one name id n fact h e = cc
 
   -- what is sent of an article in S
@@ -84,6 +87,9 @@ module _ (limit : ℕ) (S : Spool) (facts : List Fact) (spool : IsSpool limit S)
   article_by_one : (id : Id) (fact : Fact) → Holds S fact → shows_article id fact ≡ true → IsSome (get S.articles id)
   article_by_one id (IdAt name n other) h t = grind (arith, same_text other id, spool.ids_have_articles name n other h)
   article_by_one id (TextIs what other lines) h t = grind (arith, same_text other id, article_of what other lines h)
+  article_by_one id (OverviewsAre name r os) h t =
+      let f = found_in (λ o. is_same o.id id) os t in
+      grind (arith, same_text f.0.id id, spool.ids_have_articles name f.0.number f.0.id (all_at _ f.0 os h.1 f.1))
   article_by_one id fact h t = cc
 
   -- and isn't denied
@@ -145,13 +151,36 @@ module _ (limit : ℕ) (S : Spool) (facts : List Fact) (spool : IsSpool limit S)
       all_from (λ line. IsGroupName line.name) lines
       (λ line i. spool.names line.name ((h.0 line.name).0
       (contains_in line.name (map (λ line. line.name) lines) (in_map (λ line. line.name) line lines i))).0)
+  well_formed (OverviewsAre name r os) h =
+      all_from (λ o. IsMessageId o.id) os (λ o i. spool.ids o.id (spool.ids_have_articles name o.number o.id (all_at _ o os h.1 i)))
   well_formed fact h = grind (arith, article_of, sent_lines)
+
+  -- overviews agree with one another, as S has one id at a number, and one number for an id
+  agrees_with_itself : (fact : Fact) → Holds S fact → AgreesWithItself fact
+  agrees_with_itself (OverviewsAre name r os) h = all_from _ os (λ o i. (id_given o i, number_given o i))
+    where
+      in_S : (o : OverviewValue) → In o os → get (numbers S name) o.number ≡ Some o.id
+      in_S o i = all_at _ o os h.1 i
+
+      id_given : (o : OverviewValue) → In o os → first_given (id_of_overview o.number) os ≡ Some o.id
+      id_given o i =
+          let z = first_there (id_of_overview o.number) os o o.id i (grind (arith, eq-eqb)) in
+          let w = first_found (id_of_overview o.number) os z.0 z.1 in
+          grind (arith, in_S o i, in_S w.0 w.1, eqb-true)
+
+      number_given : (o : OverviewValue) → In o os → first_given (number_of_overview o.id) os ≡ Some o.number
+      number_given o i =
+          let z = first_there (number_of_overview o.id) os o o.number i (grind (arith, same_itself)) in
+          let w = first_found (number_of_overview o.id) os z.0 z.1 in
+          grind (arith, in_S o i, in_S w.0 w.1, same_text w.0.id o.id, spool.one_to_one name w.0.number o.number o.id)
+  agrees_with_itself fact h = tt
 
   -- what is said stands together
   pub stand : Together facts
   stand =
       record {
         well_formed = all_from IsWellFormed facts (λ fact i. well_formed fact (of_fact fact i));
+        lists = all_from AgreesWithItself facts (λ fact i. agrees_with_itself fact (of_fact fact i));
         groups = λ name t. false_from_ne_true _ (λ d. let f = found_in (denies_group name) facts d in denied_by_one name f.0 (of_fact f.0 f.1) (group_in_S name t) f.2);
         numbers = λ name. asks_stand (asks_of name facts) (numbers S name) (met_by_facts S name facts holds) (λ n j. (spool.numbers_in_limit name n j).0);
         ids = λ name n. give_one (λ id. get (numbers S name) n ≡ Some id) (λ x y e f. let q : Some x ≡ Some y = sym e ∙ f in cc)

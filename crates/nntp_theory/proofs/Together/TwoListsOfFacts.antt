@@ -35,7 +35,7 @@ apart_denied shows denies facts more apart d = grind (arith, false_from_ne_true,
 -- ---- what is given
 
 -- what the first of both gives
-pub given_append : {A : Type 0} (f : Fact → Option A) (xs ys : List Fact) → first_given f (xs ++ ys) ≡ option_or (first_given f xs) (first_given f ys)
+pub given_append : {A B : Type 0} (f : B → Option A) (xs ys : List B) → first_given f (xs ++ ys) ≡ option_or (first_given f xs) (first_given f ys)
 given_append f [] ys = refl
 given_append {A} f (x ∷ xs) ys = grind (arith, given_append f xs ys)
 

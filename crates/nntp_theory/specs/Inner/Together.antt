@@ -1,12 +1,12 @@
 -- What is said with the words of `Together.antt`, and needn't be believed.
-use Rattle.std.specs.{Prelude.{◌≡◌, ℕ, Bool, false, ◌||◌, IsTrue, IsFalse, List, ◌++◌, Option, None, IfSome, ⊤}, List.{AllByRecursion, list_any}}
+use Rattle.std.specs.{Prelude.{◌≡◌, ℕ, Bool, false, ◌||◌, IsTrue, IsFalse, List, ◌++◌, Option, None, Some, IfSome, ⊤}, List.{AllByRecursion, list_any}}
 use Rattle.std.specs.Option.{option_or}
 use Rattle.nntp_wire.specs.Name.{IsGroupName, IsMessageId}
 use Rattle.nntp_article.specs.{Article.Parts.{Id, Line}, Session.Spool.{Name, Numbers, is_line}}
 use Rattle.nntp_said.specs.{Asks.{Ask}, Facts.{Fact, ThereIs, IdAt, TextIs, OverviewsAre, GroupsAre}}
-use Rattle.nntp_theory.specs.Given.{demand, is_denied, IsGivenNumber, HasGivenNumbers, asks_of, is_shown_group, first_given, id_in, is_mentioned, is_sent}
-use Rattle.nntp_theory.specs.{Given.{head_in, body_in}, Together.{is_possible, MeetsDemand, IsFewFor, denies_group, number_in, shows_article, denies_article}}
-use Rattle.nntp_theory.specs.Together.{GiveOne}
+use Rattle.nntp_theory.specs.Given.{demand, is_denied, IsGivenNumber, HasGivenNumbers, asks_of, is_shown_group, first_given, id_of_overview, id_in}
+use Rattle.nntp_theory.specs.{Given.{is_mentioned, is_sent, head_in, body_in}, Together.{is_possible, MeetsDemand, IsFewFor, denies_group, number_of_overview}}
+use Rattle.nntp_theory.specs.Together.{number_in, shows_article, denies_article, GiveOne}
 
 -- ---- the numbers of one group
 
@@ -28,9 +28,16 @@ IsWellFormed (OverviewsAre name range overviews) = AllByRecursion (λ o. IsMessa
 IsWellFormed (GroupsAre p lines) = AllByRecursion (λ line. IsGroupName line.name) lines
 IsWellFormed fact = ⊤
 
+-- overviews agree with one another: at the number of each its own id is shown, and for its id its own number
+abbrev pub AgreesWithItself : Fact → Type 0
+AgreesWithItself (OverviewsAre name range overviews) =
+    AllByRecursion (λ o. (first_given (id_of_overview o.number) overviews ≡ Some o.id) × (first_given (number_of_overview o.id) overviews ≡ Some o.number)) overviews
+AgreesWithItself fact = ⊤
+
 -- what is said stands together: nothing is both shown and denied, and what is shown twice is shown alike
 pub record Together (facts : List Fact) : Type 0 where
   pub well_formed : AllByRecursion IsWellFormed facts
+  pub lists : AllByRecursion AgreesWithItself facts
   pub groups : (name : Name) → IsTrue (is_shown_group facts name) → IsFalse (list_any (denies_group name) facts)
   pub numbers : (name : Name) → AsksStand (asks_of name facts)
   pub ids : (name : Name) (n : ℕ) → GiveOne (id_in name n) facts
@@ -122,6 +129,7 @@ JoinArticles facts more = (id : Id) → JoinArticle (said_of facts id) (said_of 
 -- more facts join those before
 pub record Join (facts more : List Fact) : Type 0 where
   pub well_formed : AllByRecursion IsWellFormed more
+  pub lists : AllByRecursion AgreesWithItself more
   pub names : JoinNames facts more
   pub numbers : JoinNumbers facts more
   pub ids : JoinIds facts more
