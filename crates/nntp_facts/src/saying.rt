@@ -1,5 +1,5 @@
 //! What an answer says of the spool (RFC 3977, sections 6 and 7.6.3).
-ghost use Rattle.std.specs.Prelude.{◌≡◌, List, [], ◌∷◌, None, Some, option_map, IsTrue};
+ghost use Rattle.std.specs.Prelude.{◌≡◌, ◌<◌, ◌^◌, ℕ, get_or, List, [], ◌∷◌, None, Some, option_map, IsTrue};
 ghost use Rattle.nntp_wire.specs.Name.{IsGroupName};
 ghost use Rattle.nntp_wire.specs.Inner.View.{asked};
 ghost use Rattle.nntp_wire.specs.Inner.AnswerView.{response};
@@ -303,7 +303,8 @@ impl<'s> Saying<'s> {
 
 /// Returns the numbers that an answer shows: the one that it gives, or those that it lists.
 pub(crate) fn numbers_shown<'s>(answer: &'s Answer<'s>, listed: &'s [u64]) -> &'s [u64]
-    ensures { result.now ≡ numbers_shown listed.now (response answer.now) }
+    ensures shown { result.now ≡ numbers_shown listed.now (response answer.now) }
+    ensures small { (i : ℕ) → get_or listed.now i 0 < 2 ^ 64 }
 {
     match answer {
         Answer::Sent { number, .. } => slice::from_ref(number),

@@ -1,12 +1,12 @@
 -- What overviews of a range say of the numbers and ids of their group.
 use Rattle.std.proofs.Common.{◌≡◌, ℕ, ◌<◌, Bool, true, false, ◌==◌, not, cond, IsTrue, List, [], ◌∷◌, ◌++◌, Option, None, Some, inl, inr, refl}
-use Rattle.std.proofs.{Common.{sym, ap, subst, ◌∙◌, arith}, lemmas.Bool.{true≢false, and_parts, eqb-true, eq-eqb, ltb-true, false_from_ne_true, not-true}}
-use Rattle.std.specs.{Prelude.{nat_lt}, List.{list_all}, Option.{option_or}, Cmp.Lexicographic.{same_text}}
+use Rattle.std.proofs.{Common.{sym, ap, subst, ◌∙◌, arith}, lemmas.Bool.{true≢false, and_parts, eqb-true, ltb-true, false_from_ne_true, not-true}}
+use Rattle.std.specs.{Prelude.{nat_lt, is_some, option_map}, List.{list_all}, Option.{option_or}, Cmp.Lexicographic.{same_text}}
 use Rattle.nntp_wire.specs.{Listing.{OverviewValue}, declared.range.Range.{Range}}
 use Rattle.nntp_article.specs.{Article.Parts.{Id}, Session.{Spool.{Name}, Machine.{is_same, is_ascending, all_differ, overview_numbers, overview_ids}}}
 use Rattle.nntp_said.specs.{Asks.{ListsIn}, Facts.{OverviewsAre}}
 use Rattle.nntp_theory.specs.{Given.{asks_of, first_given, id_of_overview, id_in}, Together.{number_of_overview, number_in}, Inner.Together.{said_of, AgreesWithItself}}
-use Rattle.nntp_theory.proofs.{Members.{In, all_from, each_of, first_found, in_map}, Together.{FactsOfASpoolStand.{same_itself}, TwoListsOfFacts.{or_none}}}
+use Rattle.nntp_theory.proofs.{Members.{In, each_of, first_found, in_map}, Together.{ListedOverviews.{apart_agree}, TwoListsOfFacts.{or_none}}}
 use Rattle.nntp_facts.specs.Inner.{ListedOverviews.{HaveOwn, id_listed, place_listed}, KeptSaying.{said_listed}}
 
 -- ---- what the first gives
@@ -20,6 +20,29 @@ none_gives {A} f (y ∷ xs) e x i = by (f y) refl e i (λ e. none_gives f xs e x
     by (Some z) is e i rest = absurd (cc)
     by None is e (inl same) rest = subst (λ x. f x ≡ None) same is
     by None is e (inr i) rest = rest e i
+
+-- ---- of those that are left, where none in front gave one
+
+module _ {A B X : Type 0} (f : B → Option A) (value : X → A) (x : B) (rest left all : List B) (steps : left ≡ x ∷ rest) (same : first_given f left ≡ first_given f all)
+    (o : Option X) (here : option_map value o ≡ f x) where
+  given : first_given f all ≡ option_or (option_map value o) (first_given f rest)
+  given = sym same ∙ ap (first_given f) steps ∙ ap (λ g. option_or g (first_given f rest)) (sym here)
+
+  -- the next one gives the first
+  pub first_here : is_some o ≡ true → option_map value o ≡ first_given f all
+  first_here some = by o some given
+    where
+      by : (o : Option X) → is_some o ≡ true → first_given f all ≡ option_or (option_map value o) (first_given f rest) → option_map value o ≡ first_given f all
+      by None some is = absurd (true≢false (sym some))
+      by (Some y) some is = sym is
+
+  -- or none
+  pub first_behind : is_some o ≡ false → first_given f rest ≡ first_given f all
+  first_behind none = by o none given
+    where
+      by : (o : Option X) → is_some o ≡ false → first_given f all ≡ option_or (option_map value o) (first_given f rest) → first_given f rest ≡ first_given f all
+      by None none is = sym is
+      by (Some y) none is = absurd (true≢false none)
 
 -- ---- of overviews
 
@@ -82,26 +105,9 @@ module _ (x : OverviewValue) (xs : List OverviewValue) (own : HaveOwn (x ∷ xs)
     other_id : is_same x.id o.id ≡ false
     other_id = not-true (is_same x.id o.id) (each_of (λ other. not (is_same x.id other)) (overview_ids xs) o.id ids_parts.0 (in_map (λ (o : OverviewValue). o.id) o xs i))
 
--- each gives its own id and number
-pub id_given_at : (os : List OverviewValue) → HaveOwn os → (o : OverviewValue) → In o os → id_listed os o.number ≡ Some o.id
-id_given_at [] own o i = absurd i
-id_given_at (x ∷ xs) own o (inl same) =
-    subst (λ (o : OverviewValue). id_listed (x ∷ xs) o.number ≡ Some o.id) same (ap (λ b. option_or (cond b (Some x.id) None) (id_listed xs x.number)) (eq-eqb x.number x.number refl))
-id_given_at (x ∷ xs) own o (inr i) =
-    ap (λ b. option_or (cond b (Some x.id) None) (id_listed xs o.number)) (other_number x xs own o i) ∙ id_given_at xs (own_behind x xs own) o i
-
-pub place_given_at : (os : List OverviewValue) → HaveOwn os → (o : OverviewValue) → In o os → place_listed os o.id ≡ Some o.number
-place_given_at [] own o i = absurd i
-place_given_at (x ∷ xs) own o (inl same) =
-    subst (λ (o : OverviewValue). place_listed (x ∷ xs) o.id ≡ Some o.number) same (ap (λ b. option_or (cond b (Some x.number) None) (place_listed xs x.id)) (same_itself x.id))
-place_given_at (x ∷ xs) own o (inr i) =
-    ap (λ b. option_or (cond b (Some x.number) None) (place_listed xs o.id)) (other_id x xs own o i) ∙ place_given_at xs (own_behind x xs own) o i
-
 -- so they agree with one another
 pub own_agree : (here : Name) (r : Range) (os : List OverviewValue) → HaveOwn os → AgreesWithItself (OverviewsAre here r os)
-own_agree here r os own =
-    all_from (λ o. (first_given (id_of_overview o.number) os ≡ Some o.id) × (first_given (number_of_overview o.id) os ≡ Some o.number)) os
-    (λ o i. (id_given_at os own o i, place_given_at os own o i))
+own_agree here r os own = apart_agree here r os own.numbers own.ids
 
 -- those in front of one give neither its number an id, nor its id a number
 pub none_in_front : (front : List OverviewValue) (o : OverviewValue) (rest : List OverviewValue) → HaveOwn (front ++ o ∷ rest) → (id_listed front o.number ≡ None) × (place_listed front o.id ≡ None)

@@ -1,18 +1,25 @@
 -- When overviews join what was said, and what is kept then.
-use Rattle.std.proofs.Common.{◌≡◌, ℕ, Bool, true, false, ◌||◌, ◌==◌, cond, IsTrue, List, [], ◌∷◌, ◌++◌, Option, None, Some, MatchOption, inl, inr, refl, sym, ap}
-use Rattle.std.proofs.{Common.{subst, ◌∙◌, append-nil, arith}, lemmas.{Bool.{true≢false, or_left, cases_Bool, false_from_ne_true}, List.Folds.{list_any-append}}, Math.Bool.{or-false}}
-use Rattle.std.specs.{Prelude.{◌↔◌, IfSome, IsFalse}, List.{AllByRecursion, list_any}, Option.{option_or}, Cmp.Lexicographic.{same_text}}
+use Rattle.std.proofs.Common.{◌≡◌, ℕ, Bool, true, false, not, ◌||◌, ◌&&◌, ◌==◌, cond, IsTrue, List, [], ◌∷◌, ◌++◌, Option, None, Some, MatchOption, inl, inr, refl, sym, ap}
+use Rattle.std.proofs.{Common.{subst, ◌∙◌, append-nil, arith}, lemmas.{Bool.{true≢false, and_parts, and_from, not-true, eqb-true, eq-eqb}, List.Folds.{list_any-append}}, Math.Bool.{or-false}}
+use Rattle.std.specs.{Prelude.{◌↔◌, IfSome, IsFalse}, List.{AllByRecursion, list_any}, Option.{option_or, option_map_or}, Cmp.Lexicographic.{same_text}}
 use Rattle.nntp_wire.specs.{Listing.{OverviewValue}, declared.range.Range.{Range}}
 use Rattle.nntp_article.specs.{Article.Parts.{Id}, Session.{Spool.{Name}, Machine.{is_same, overview_numbers}}}
 use Rattle.nntp_said.specs.{Asks.{Ask, ListsIn}, Facts.{Fact, OverviewsAre}}
 use Rattle.nntp_theory.specs.{Given.{asks_of, shows_group, is_shown_group, first_given, id_of_overview, id_in}, Together.{number_of_overview, number_in, denies_article, shows_article}}
-use Rattle.nntp_theory.specs.Inner.Together.{AsksStand, IsWellFormed, GiveSame, JoinIds, JoinArticle, Together, Join, SaidOfArticle, said_of, said_nothing, join_said}
-use Rattle.nntp_theory.proofs.{Members.{In, all_at, all_from, any_in, found_in}, Together.{FactsOfASpoolStand.{same_itself}, FactsJoin.{asks_append}}}
+use Rattle.nntp_theory.specs.Inner.Together.{AsksStand, IsWellFormed, JoinNumbers, JoinIds, JoinArticle, Together, Join, SaidOfArticle, said_of, said_nothing, join_said}
+use Rattle.nntp_theory.proofs.{Members.{In, all_at, all_from, all_back, any_in, found_in}, Together.{FactsOfASpoolStand.{same_itself}, FactsJoin.{asks_append}}}
 use Rattle.nntp_theory.proofs.Together.TwoListsOfFacts.{given_append, or_none, any_silent}
-use Rattle.nntp_facts.specs.Inner.{Kept.{Told, told, AreKept, with_part, Changes, MayShow, Agree, id_of, place_of, said_kept}, Saying.{OfGroup, Exists, overviews_facts}}
-use Rattle.nntp_facts.specs.Inner.{ListedOverviews.{HaveOwn, OverviewJoins, id_listed, place_listed}, KeptSaying.{MayListOf, MayGive, with_ids, said_in, said_listed}, Articles.{unsent}}
-use Rattle.nntp_facts.proofs.Keeping.{ListedOverviews.{listed_asks, listed_ids, listed_places, listed_said, id_giver, place_giver, id_given_at, place_given_at, own_agree, none_in_front}}
+use Rattle.nntp_facts.specs.Inner.{Kept.{Kept, IsKept, Told, told, AreKept, AreKeptNames, AreKeptArticles, with_part, Changes, MayShow, Agree}, Saying.{Exists}}
+use Rattle.nntp_facts.specs.Inner.{Kept.{said_kept}, KeptSaying.{AreKeptThen, IsArticleAdded}}
+use Rattle.nntp_facts.proofs.Keeping.{KeptNamesAndGroups.{names_kept}, KeptArticles.{Articles, denied_kept}}
+use Rattle.std.specs.FinMap.{get}
+use Rattle.nntp_facts.specs.Inner.{ListedOverviews.{HaveOwn, OverviewJoins, id_listed, place_listed}, KeptSaying.{MayListOf, MayGive, may_give, with_ids, said_in, said_listed}, Articles.{unsent}}
+use Rattle.nntp_facts.proofs.Keeping.{ListedOverviews.{listed_asks, listed_ids, listed_places, listed_said, id_giver, place_giver, own_agree, none_in_front}}
 use Rattle.nntp_facts.proofs.Keeping.{FactsOfOneGroup.{IsOr, asked_here, asked_elsewhere}, PartsJoin.{agree_told}, SaidOfArticles.{said_append, nothing_joins}, SilentFacts.{numbers_join}}
+
+-- what is said of an id that has an article joins where it isn't denied
+there_joins : (before : SaidOfArticle) → before.is_denied ≡ false → JoinArticle before (said_kept (Some unsent))
+there_joins before free = record { shown = λ t. free; denied = λ t. absurd (true≢false (sym t)); head = tt; body = tt }
 
 module _ (facts : List Fact) (name : Name) (r : Range) (os : List OverviewValue) where
   -- the overviews as a fact, and as an ask
@@ -38,14 +45,14 @@ module _ (facts : List Fact) (name : Name) (r : Range) (os : List OverviewValue)
       id_there n None e = tt
       id_there n (Some id) e =
           let g = id_giver os n id e in
-          subst (λ id. IsOr (first_given (id_in name n) facts) id) g.2.1 (subst (λ n. IsOr (first_given (id_in name n) facts) g.0.id) g.2.0
+          subst (λ id. IsOr (first_given (id_in name n) facts) id) g.3 (subst (λ n. IsOr (first_given (id_in name n) facts) g.0.id) g.2
           (all_at (λ o. MayShow (told facts name) (Some (o.number, o.id))) g.0 os may g.1).0)
 
       place_there : (id : Id) (o : Option ℕ) → place_listed os id ≡ o → IfSome o (λ x. IsOr (first_given (number_in name id) facts) x)
       place_there id None e = tt
       place_there id (Some n) e =
           let g = place_giver os id n e in
-          subst (λ n. IsOr (first_given (number_in name id) facts) n) g.2.0 (subst (λ id. IsOr (first_given (number_in name id) facts) g.0.number) g.2.1
+          subst (λ n. IsOr (first_given (number_in name id) facts) n) g.2 (subst (λ id. IsOr (first_given (number_in name id) facts) g.0.number) g.3
           (all_at (λ o. MayShow (told facts name) (Some (o.number, o.id))) g.0 os may g.1).1)
 
       ids : (other : Name) (n : ℕ) (b : Bool) → is_same name other ≡ b → IfSome (cond b (id_listed os n) None) (λ x. IsOr (first_given (id_in other n) facts) x)
@@ -64,20 +71,20 @@ module _ (facts : List Fact) (name : Name) (r : Range) (os : List OverviewValue)
   places_here : (id : Id) → first_given (number_in name id) more ≡ place_listed os id
   places_here id = listed_places name r os name id ∙ ap (λ b. cond b (place_listed os id) None) (same_itself name)
 
+  -- each gives its own id and number
+  pub each_own : HaveOwn os → (o : OverviewValue) → In o os → (id_listed os o.number ≡ Some o.id) × (place_listed os o.id ≡ Some o.number)
+  each_own own o i = all_at (λ o. (id_listed os o.number ≡ Some o.id) × (place_listed os o.id ≡ Some o.number)) o os (own_agree name r os own) i
+
   may_from : HaveOwn os → JoinIds facts more → (o : OverviewValue) → In o os → MayShow (told facts name) (Some (o.number, o.id))
   may_from own j o i = (
-    subst (λ x. IfSome x (λ x. IsOr (first_given (id_in name o.number) facts) x)) (ids_here o.number ∙ id_given_at os own o i) (j.ids name o.number),
-    subst (λ x. IfSome x (λ x. IsOr (first_given (number_in name o.id) facts) x)) (places_here o.id ∙ place_given_at os own o i) (j.ids_once name o.id),
+    subst (λ x. IfSome x (λ x. IsOr (first_given (id_in name o.number) facts) x)) (ids_here o.number ∙ (each_own own o i).0) (j.ids name o.number),
+    subst (λ x. IfSome x (λ x. IsOr (first_given (number_in name o.id) facts) x)) (places_here o.id ∙ (each_own own o i).1) (j.ids_once name o.id),
   )
 
   -- ---- articles
 
   said_more : (id : Id) → said_of more id ≡ said_listed os id
   said_more id = listed_said name r os id
-
-  -- what is said of an id that has an article joins where it isn't denied
-  there_joins : (before : SaidOfArticle) → before.is_denied ≡ false → JoinArticle before (said_kept (Some unsent))
-  there_joins before free = record { shown = λ t. free; denied = λ t. absurd (true≢false (sym t)); head = tt; body = tt }
 
   articles_from : ((o : OverviewValue) → In o os → IsFalse (list_any (denies_article o.id) facts)) → (id : Id) → JoinArticle (said_of facts id) (said_of more id)
   articles_from free id = subst (JoinArticle (said_of facts id)) (sym (said_more id)) (by (list_any (λ o. is_same o.id id) os) refl)
@@ -115,6 +122,7 @@ module _ (facts : List Fact) (name : Name) (r : Range) (os : List OverviewValue)
     },
   )
     where
+      numbers : JoinNumbers facts more ↔ AsksStand (asks_of name facts ++ asks)
       numbers = numbers_join facts more name asks t (asked_here name asks more asked_there) (asked_elsewhere name asks more asked_there)
 
   -- so each overview's id may be given
@@ -241,3 +249,98 @@ one_more_said front o before id =
     by : (a b : Bool) → join_said (join_said before (cond a (said_kept (Some unsent)) said_nothing)) (cond b (said_kept (Some unsent)) said_nothing)
         ≡ join_said before (cond (a || (b || false)) (said_kept (Some unsent)) said_nothing)
     by a b = grind (arith, or-false, or_none)
+
+-- ---- what is kept
+
+module _ (facts : List Fact) (name : Name) (r : Range) (os : List OverviewValue) where
+  -- all is kept where the groups and articles are kept with the overviews, and of names what was
+  pub overviews_kept : is_shown_group facts name ≡ true → (old new : Kept) → IsKept facts old → new.names ≡ old.names → AreKept (with_ids (numbers_told facts name r os) name os) new.groups
+      → ((id : Id) → join_said (said_of facts id) (said_listed os id) ≡ said_kept (get new.articles id)) → IsKept (facts ++ OverviewsAre name r os ∷ []) new
+  overviews_kept shown old new kept names groups articles = record {
+    groups = subst (λ tells. AreKept tells new.groups) (λ i other. all_told facts name r os shown other i) groups;
+    names = subst (AreKeptNames (facts ++ OverviewsAre name r os ∷ [])) (sym names) (names_kept facts (OverviewsAre name r os ∷ []) old.names (λ other. refl) kept.names);
+    articles = λ id. said_append facts (OverviewsAre name r os ∷ []) id ∙ ap (join_said (said_of facts id)) (listed_said name r os id) ∙ articles id;
+  }
+
+-- before the first overview nothing more is told
+pub none_yet : (tells : Name → Told) (name : Name) → (tells name).is_shown ≡ true → (other : Name) → with_ids tells name [] other ≡ tells other
+none_yet tells name shown other = by (is_same name other) refl
+  where
+    here : with_listed (tells name) [] ≡ tells name
+    here = λ i. record { is_shown = sym shown i; asks = (tells name).asks; ids = λ n. or_none ((tells name).ids n) i; places = λ id. or_none ((tells name).places id) i }
+
+    by : (b : Bool) → is_same name other ≡ b → cond b (with_listed (tells name) []) (tells other) ≡ tells other
+    by true e = here ∙ ap tells (same_text name other (sym e))
+    by false e = refl
+
+module _ (facts : List Fact) (tells : Name → Told) (name : Name) (front : List OverviewValue) (o : OverviewValue) (rest : List OverviewValue) where
+  -- any range
+  abbrev all_numbers : Range
+  all_numbers = record { first = 0; last = None }
+
+  -- the facts with the overviews in front
+  abbrev pub so_far : List Fact
+  so_far = facts ++ OverviewsAre name all_numbers front ∷ []
+
+  said_so_far : (id : Id) → said_of so_far id ≡ join_said (said_of facts id) (said_listed front id)
+  said_so_far id = said_append facts (OverviewsAre name all_numbers front ∷ []) id ∙ ap (join_said (said_of facts id)) (listed_said name all_numbers front id)
+
+  pub articles_so_far : (articles : Articles) → ((id : Id) → join_said (said_of facts id) (said_listed front id) ≡ said_kept (get articles id)) → AreKeptArticles so_far articles
+  articles_so_far articles kept id = said_so_far id ∙ kept id
+
+  pub articles_next : (articles : Articles) → AreKeptThen so_far (Some (o.id, Exists)) articles
+      → (id : Id) → join_said (said_of facts id) (said_listed (front ++ o ∷ []) id) ≡ said_kept (get articles id)
+  articles_next articles kept id =
+      sym (one_more_said front o (said_of facts id) id) ∙ ap (λ s. join_said s (said_in (Some (o.id, Exists)) id)) (sym (said_so_far id)) ∙ kept id
+
+  -- the next one may be given
+  pub may_give_next : (os : List OverviewValue) → os ≡ front ++ o ∷ rest → HaveOwn os → AllByRecursion (MayGive facts (tells name)) os → MayGive so_far (with_ids tells name front name) o
+  may_give_next os whole own may =
+      let given : MayGive facts (tells name) o = (all_back (MayGive facts (tells name)) front (o ∷ rest) (subst (AllByRecursion (MayGive facts (tells name))) whole may)).0 in
+      next_given tells name front facts o rest (subst HaveOwn whole own) given so_far (any_silent (denies_article o.id) facts (OverviewsAre name all_numbers front ∷ []) refl ∙ given.free)
+
+-- an id that isn't denied is added
+pub surely_added : (facts : List Fact) (id : Id) (old new : Articles) (does : Bool) → IsFalse (list_any (denies_article id) facts) → IsArticleAdded facts (Some (id, Exists)) old new does
+    → (does ≡ true) × AreKeptThen facts (Some (id, Exists)) new
+surely_added facts id old new true free added = (refl, added.1)
+surely_added facts id old new false free added = absurd (added.0 (λ q. by q (is_same id q) refl))
+  where
+    by : (q : Id) (b : Bool) → is_same id q ≡ b → JoinArticle (said_of facts q) (cond b (said_kept (Some unsent)) said_nothing)
+    by q true e = there_joins (said_of facts q) (subst (λ q. IsFalse (list_any (denies_article q) facts)) (same_text id q (sym e)) free)
+    by q false e = nothing_joins (said_of facts q)
+
+-- ---- tests
+
+-- nothing is kept, or the same
+same_if : {B : Type 0} (test : B → Bool) (v : B) → ((y : B) → IsTrue (test y) ↔ (v ≡ y)) → (x : Option B) → IsTrue (option_map_or test x true) ↔ IfSome x (λ y. v ≡ y)
+same_if test v is None = (λ t. tt, λ h. refl)
+same_if test v is (Some y) = is y
+
+-- an overview joins where it may be given
+pub gives_joins : (facts : List Fact) (name : Name) (k : Kept) (o : OverviewValue) → IsKept facts k → IsTrue (may_give (told facts name) k.articles o) ↔ OverviewJoins facts name o
+gives_joins facts name k o kept = (
+  λ t.
+      let p = and_parts (is_id && is_number) (not is_lacked) t in
+      let q = and_parts is_id is_number p.0 in
+      record { id = (ids.0 q.0, places.0 q.1); free = lacked ∙ not-true is_lacked p.1 },
+  λ j. and_from (is_id && is_number) (not is_lacked) (and_from is_id is_number (ids.1 j.id.0) (places.1 j.id.1)) (ap not (sym lacked ∙ j.free)),
+)
+  where
+    is_id : Bool
+    is_id = option_map_or (λ other. is_same other o.id) ((told facts name).ids o.number) true
+
+    is_number : Bool
+    is_number = option_map_or (λ other. other == o.number) ((told facts name).places o.id) true
+
+    is_lacked : Bool
+    is_lacked = option_map_or (λ a. a.is_denied) (get k.articles o.id) false
+
+    lacked : list_any (denies_article o.id) facts ≡ option_map_or (λ a. a.is_denied) (get k.articles o.id) false
+    lacked = denied_kept facts k.articles o.id kept.articles
+
+    ids : IsTrue (option_map_or (λ other. is_same other o.id) ((told facts name).ids o.number) true) ↔ IsOr ((told facts name).ids o.number) o.id
+    ids = same_if (λ other. is_same other o.id) o.id
+        (λ y. (λ t. sym (same_text y o.id (sym t)), λ e. subst (λ y. is_same y o.id ≡ true) e (same_itself o.id))) ((told facts name).ids o.number)
+
+    places : IsTrue (option_map_or (λ other. other == o.number) ((told facts name).places o.id) true) ↔ IsOr ((told facts name).places o.id) o.number
+    places = same_if (λ other. other == o.number) o.number (λ y. (λ t. sym (eqb-true y o.number t), λ e. eq-eqb y o.number (sym e))) ((told facts name).places o.id)

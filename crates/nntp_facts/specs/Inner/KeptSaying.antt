@@ -1,6 +1,6 @@
 -- What each part of an answer has to join, and what is kept then.
-use Rattle.std.specs.{Prelude.{◌≡◌, ℕ, Bool, true, if◌then◌else◌, List, [], ◌∷◌, ◌++◌, Option, None, Some, MatchOption, IfSome, IsTrue, IsFalse, ⊤}, List.{list_any}}
-use Rattle.std.specs.Option.{option_or}
+use Rattle.std.specs.{Prelude.{◌≡◌, ◌&&◌, ◌==◌, not, ℕ, Bool, true, false, if◌then◌else◌, List, [], ◌∷◌, ◌++◌, Option, None, Some, MatchOption, IfSome, IsTrue, IsFalse, ⊤}, List.{list_any}}
+use Rattle.std.specs.Option.{option_or, option_map_or}
 use Rattle.nntp_wire.specs.{Listing.{OverviewValue}, declared.range.Range.{Range}}
 use Rattle.std.specs.{Ordering.{nat_cmp}, Cmp.Lexicographic.{slice_cmp}, FinMap.{FinMap, get}}
 use Rattle.nntp_article.specs.{Article.Parts.{Id}, Session.{Spool.{Name}, Machine.{is_same, head_fits, overview_numbers}}}
@@ -43,6 +43,11 @@ with_ids tells name overviews other = if is_same name other then record {
   ids = λ n. option_or ((tells name).ids n) (id_listed overviews n);
   places = λ id. option_or ((tells name).places id) (place_listed overviews id);
 } else tells other
+
+-- the test whether the number of an overview may have its id beside what is told of the group, and the id isn't denied
+abbrev pub may_give : Told → FinMap (slice_cmp nat_cmp) KeptArticle → OverviewValue → Bool
+may_give t articles o = option_map_or (λ other. is_same other o.id) (t.ids o.number) true && option_map_or (λ other. other == o.number) (t.places o.id) true && not
+    (option_map_or (λ a. a.is_denied) (get articles o.id) false)
 
 -- the number of an overview may have its id beside what is told of the group, which is shown, and the id isn't denied
 pub record MayGive (facts : List Fact) (t : Told) (o : OverviewValue) : Type 0 where

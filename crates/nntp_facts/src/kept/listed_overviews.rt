@@ -9,7 +9,7 @@ ghost use Rattle.nntp_article.specs.Session.Spool.{Name};
 ghost use Rattle.nntp_said.specs.Facts.{Fact};
 ghost use Rattle.nntp_theory.specs.Inner.Together.{IsWellFormed, Join, Together, join_said, said_of};
 ghost use Rattle.nntp_facts.specs.Inner.Kept.{AreAdded, AreKept, AreKeptArticles, AreKeptWith, IsKept, Told, said_kept};
-ghost use Rattle.nntp_facts.specs.Inner.KeptSaying.{AreKeptThen, MayGive, MayListOf, said_listed, with_ids};
+ghost use Rattle.nntp_facts.specs.Inner.KeptSaying.{AreKeptThen, MayGive, MayListOf, may_give, said_listed, with_ids};
 ghost use Rattle.nntp_facts.specs.Inner.ListedOverviews.{HaveOwn, OverviewJoins};
 ghost use Rattle.nntp_facts.specs.Inner.Saying.{Exists, overviews_facts};
 ghost use Rattle.nntp_facts.specs.Inner.SayingView.{of_group};
@@ -114,7 +114,7 @@ impl<A: Allocator> Kept<A> {
 
     /// Tells whether the number of the overview may have its id in the group, and this isn't denied.
     fn may_give(&self, name: &[u8], overview: &OverviewLine<'_>) -> bool
-        ensures { (facts : List Fact) → IsKept facts self.now → IsTrue result ↔ OverviewJoins facts name.now (overview_value overview.now) }
+        ensures { (tells : Name → Told) → AreKept tells self.now.groups → result ≡ may_give (tells name.now) self.now.articles (overview_value overview.now) }
     {
         let id = overview.id.as_str();
         self.groups.may_have(name, overview.number, id)

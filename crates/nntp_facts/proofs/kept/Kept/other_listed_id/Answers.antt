@@ -1,0 +1,21 @@
+use Rattle.std.proofs.Common.{◌≡◌, sym, subst, ◌∙◌}
+use Rattle.nntp_wire.specs.{Listing.{OverviewValue, overviews_of}, Inner.View.{overview_value}}
+use Rattle.nntp_facts.specs.Inner.{PointView.{point_of}, Points.{other_id_at}}
+use Rattle.nntp_facts.proofs.Keeping.ListedOverviews.{first_here, first_behind}
+use Rattle.nntp_facts.proofs.kept.Kept.other_listed_id.Goals as goal
+
+pub returns-then-is_some : goal.returns-then-is_some
+returns-then-is_some g c tells kept =
+    first_here (λ (o : OverviewValue). other_id_at (tells c.args.name.now).ids c.args.name.now (o.number, o.id)) point_of (overview_value c.in-Some.overview) c.next.new.self
+    c.loop-overview.overview-iterator (overviews_of c.args.block.now) c.in-Some.ensures.steps (c.loop-overview.invariant.2 tells kept) c.other_id_at-point.result (c.other_id_at-point.ensures tells kept)
+    (sym c.is_some.ensures ∙ c.if-is_some.true)
+
+pub loop-overview-preserved : goal.loop-overview-preserved
+loop-overview-preserved g c = (
+  tt,
+  tt,
+  λ tells kept.
+      first_behind (λ (o : OverviewValue). other_id_at (tells c.args.name.now).ids c.args.name.now (o.number, o.id)) point_of (overview_value c.in-Some.overview) c.next.new.self
+      c.loop-overview.overview-iterator (overviews_of c.args.block.now) c.in-Some.ensures.steps (c.loop-overview.invariant.2 tells kept) c.other_id_at-point.result (c.other_id_at-point.ensures tells kept)
+      (sym c.is_some.ensures ∙ c.if-is_some.false),
+)
