@@ -217,15 +217,15 @@ module _ (profile : Profile) (facts : List Fact) (k : Kept) (t : Statement) (mor
   pub no_part : (part : Part) (o : Option (Id × OfArticle)) → t.saying.article ≡ o → IfSome o (λ a. part_of part (said_kept (Some (kept_by a.1))) ≡ None) → IsFree (part_rank part)
   no_part part o e none = part_free part (λ id. subst (IsAlike part id) (sym (of t.saying.overviews id)) tt)
     where
+      by : (o : Option (Id × OfArticle)) → IfSome o (λ a. part_of part (said_kept (Some (kept_by a.1))) ≡ None) → (id : Id) → part_of part (said_in o id) ≡ None
+      by o none id = grind (arith, none_of)
+
       of_listed : (b : Bool) → part_of part (cond b (said_kept (Some unsent)) said_nothing) ≡ None
       of_listed b = grind (arith, none_of)
 
       of : (os : Overviews) (id : Id) → part_of part (option_map_or (λ o. said_listed o.1 id) os (said_in t.saying.article id)) ≡ None
       of None id = ap (λ a. part_of part (said_in a id)) e ∙ by o none id
       of (Some l) id = of_listed (list_any (λ v. is_same v.id id) l.1)
-
-      by : (o : Option (Id × OfArticle)) → IfSome o (λ a. part_of part (said_kept (Some (kept_by a.1))) ≡ None) → (id : Id) → part_of part (said_in o id) ≡ None
-      by o none id = grind (arith, none_of)
 
   -- of one that sends it, if it sends one
   module _ (part : Part) (id : Id) (what : What) (lines : Option (List Line)) (e : t.saying.article ≡ Some (id, Sends what lines)) (sent : Option (List Line))

@@ -71,7 +71,7 @@ module _ (profile : Profile) (facts : List Fact) (k : Kept) (t : Statement) (mor
       ap (λ o. option_map_or (λ h. cond (is_same h.name name) (id_said t.saying h.id m) None) o None) e
       ∙ ap (λ (o : Overviews). cond (is_same g.name name) (option_map_or (λ o. id_listed o.1 m) o (id_of g.id m)) None) plain
 
-  no_id : (g : OfGroup) → t.saying.group ≡ Some g → t.saying.overviews ≡ None → g.id ≡ None → IsFree 5
+  pub no_id : (g : OfGroup) → t.saying.group ≡ Some g → t.saying.overviews ≡ None → g.id ≡ None → IsFree 5
   no_id g e plain is = grind (arith, id_free, plain_id, none_if)
 
   id_here : (g : OfGroup) (n : ℕ) (id : Id) (name : Name) (m : ℕ) → t.saying.group ≡ Some g → t.saying.overviews ≡ None → g.id ≡ Some (n, id)
@@ -103,7 +103,7 @@ module _ (profile : Profile) (facts : List Fact) (k : Kept) (t : Statement) (mor
       ap (λ o. option_map_or (λ h. cond (is_same h.name name) (place_said t.saying h.id id) None) o None) e
       ∙ ap (λ (o : Overviews). cond (is_same g.name name) (option_map_or (λ o. place_listed o.1 id) o (place_of g.id id)) None) plain
 
-  no_place : (g : OfGroup) → t.saying.group ≡ Some g → t.saying.overviews ≡ None → g.id ≡ None → IsFree 6
+  pub no_place : (g : OfGroup) → t.saying.group ≡ Some g → t.saying.overviews ≡ None → g.id ≡ None → IsFree 6
   no_place g e plain is = grind (arith, place_free, plain_place, none_if)
 
   place_here : (g : OfGroup) (n : ℕ) (id : Id) (name : Name) (other : Id) → t.saying.group ≡ Some g → t.saying.overviews ≡ None → g.id ≡ Some (n, id)
