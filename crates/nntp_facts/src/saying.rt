@@ -234,7 +234,13 @@ impl<'s> Saying<'s> {
     }
 
     /// Says too that the overviews of the group's numbers in the range are these.
-    fn add_overviews(&mut self, name: &'s [u8], range: Range, block: &'s Block<'s>, shown: &'s [u64])
+    fn add_overviews(
+        &mut self,
+        name: &'s [u8],
+        range: Range,
+        block: &'s Block<'s>,
+        shown: &'s [u64],
+    )
         ensures { saying_of self.new ≡ saying_with shown.now (OverviewsAre name.now range (overviews_of block.now)) (saying_of self.old) }
     {
         let lines = NumberLines::Overviews(block);

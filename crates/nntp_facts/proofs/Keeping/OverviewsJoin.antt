@@ -13,9 +13,13 @@ use Rattle.nntp_facts.specs.Inner.{Kept.{Kept, IsKept, Told, told, AreKept, AreK
 use Rattle.nntp_facts.specs.Inner.{Kept.{said_kept}, KeptSaying.{AreKeptThen, IsArticleAdded}}
 use Rattle.nntp_facts.proofs.Keeping.{KeptNamesAndGroups.{names_kept}, KeptArticles.{Articles, denied_kept}}
 use Rattle.std.specs.FinMap.{get}
-use Rattle.nntp_facts.specs.Inner.{ListedOverviews.{HaveOwn, OverviewJoins, id_listed, place_listed}, KeptSaying.{MayListOf, MayGive, may_give, with_ids, said_in, said_listed}, Articles.{unsent}}
+use Rattle.nntp_facts.specs.Inner.{ListedOverviews.{HaveOwn, OverviewJoins, id_listed, place_listed}, KeptSaying.{MayListOf, MayGive, may_give, with_overviews, said_in, said_listed}, Articles.{unsent}}
 use Rattle.nntp_facts.proofs.Keeping.{ListedOverviews.{listed_asks, listed_ids, listed_places, listed_said, id_giver, place_giver, own_agree, none_in_front}}
 use Rattle.nntp_facts.proofs.Keeping.{FactsOfOneGroup.{IsOr, asked_here, asked_elsewhere}, PartsJoin.{agree_told}, SaidOfArticles.{said_append, nothing_joins}, SilentFacts.{numbers_join}}
+
+-- what is told of a group, once its numbers have the ids of these overviews
+abbrev pub with_listed : Told → List OverviewValue → Told
+with_listed t os = record { is_shown = true; asks = t.asks; ids = λ n. option_or (t.ids n) (id_listed os n); places = λ id. option_or (t.places id) (place_listed os id) }
 
 -- what is said of an id that has an article joins where it isn't denied
 there_joins : (before : SaidOfArticle) → before.is_denied ≡ false → JoinArticle before (said_kept (Some unsent))
@@ -141,17 +145,16 @@ module _ (facts : List Fact) (name : Name) (r : Range) (os : List OverviewValue)
 
   -- ---- what is told of groups then
 
+  -- what is told of the group with the asks
+  abbrev pub asked_told : Told
+  asked_told = record { is_shown = true; asks = asks_of name facts ++ asks; ids = (told facts name).ids; places = (told facts name).places }
+
   -- the asks are told of the group, and nothing of others
   abbrev pub numbers_told : Name → Told
-  numbers_told other = cond (is_same name other) (record {
-    is_shown = true;
-    asks = asks_of name facts ++ asks;
-    ids = (told facts name).ids;
-    places = (told facts name).places;
-  }) (told facts other)
+  numbers_told other = cond (is_same name other) asked_told (told facts other)
 
-  pub here_told : numbers_told name ≡ record { is_shown = true; asks = asks_of name facts ++ asks; ids = (told facts name).ids; places = (told facts name).places }
-  here_told = ap (λ b. cond b (record { is_shown = true; asks = asks_of name facts ++ asks; ids = (told facts name).ids; places = (told facts name).places }) (told facts name)) (same_itself name)
+  pub here_told : numbers_told name ≡ asked_told
+  here_told = ap (λ b. cond b asked_told (told facts name)) (same_itself name)
 
   pub numbers_change : Changes (told facts) numbers_told name (with_part (told facts name) asks None)
   numbers_change = record {
@@ -161,52 +164,47 @@ module _ (facts : List Fact) (name : Name) (r : Range) (os : List OverviewValue)
       ids = λ n. sym (or_none ((told facts name).ids n)) i;
       places = λ id. sym (or_none ((told facts name).places id)) i;
     });
-    elsewhere = λ other apart. ap (λ b. cond b (record { is_shown = true; asks = asks_of name facts ++ asks; ids = (told facts name).ids; places = (told facts name).places }) (told facts other)) apart;
+    elsewhere = λ other apart. ap (λ b. cond b asked_told (told facts other)) apart;
   }
 
   -- with the ids this is all that is told then
-  pub all_told : is_shown_group facts name ≡ true → (other : Name) → with_ids numbers_told name os other ≡ told (facts ++ more) other
+  pub all_told : is_shown_group facts name ≡ true → (other : Name) → with_overviews numbers_told name os other ≡ told (facts ++ more) other
   all_told shown other = by (is_same name other) refl
     where
       shown_still : (other : Name) → is_shown_group (facts ++ more) other ≡ is_shown_group facts other
       shown_still other = any_silent (shows_group other) facts more refl
 
-      here : record { is_shown = true; asks = (numbers_told name).asks; ids = λ n. option_or ((numbers_told name).ids n) (id_listed os n); places = λ id. option_or ((numbers_told name).places id) (place_listed os id) } ≡ told (facts ++ more) name
-      here = ap (λ (t : Told). record { is_shown = true; asks = t.asks; ids = λ n. option_or (t.ids n) (id_listed os n); places = λ id. option_or (t.places id) (place_listed os id) }) here_told
+      here : with_listed (numbers_told name) os ≡ told (facts ++ more) name
+      here = ap (λ t. with_listed t os) here_told
           ∙ (λ i. record {
-        is_shown = sym (shown_still name ∙ shown) i;
-        asks = sym (asks_append name facts more ∙ ap (λ more. asks_of name facts ++ more) (asked_here name asks more asked_there)) i;
-        ids = λ n. sym (given_append (id_in name n) facts more ∙ ap (λ o. option_or (first_given (id_in name n) facts) o) (ids_here n)) i;
-        places = λ id. sym (given_append (number_in name id) facts more ∙ ap (λ o. option_or (first_given (number_in name id) facts) o) (places_here id)) i;
-      })
+            is_shown = sym (shown_still name ∙ shown) i;
+            asks = sym (asks_append name facts more ∙ ap (λ more. asks_of name facts ++ more) (asked_here name asks more asked_there)) i;
+            ids = λ n. sym (given_append (id_in name n) facts more ∙ ap (λ o. option_or (first_given (id_in name n) facts) o) (ids_here n)) i;
+            places = λ id. sym (given_append (number_in name id) facts more ∙ ap (λ o. option_or (first_given (number_in name id) facts) o) (places_here id)) i;
+          })
 
       by : (b : Bool) → is_same name other ≡ b
-          → cond b (record { is_shown = true; asks = (numbers_told name).asks; ids = λ n. option_or ((numbers_told name).ids n) (id_listed os n);
-          places = λ id. option_or ((numbers_told name).places id) (place_listed os id) }) (numbers_told other) ≡ told (facts ++ more) other
+          → cond b (with_listed (numbers_told name) os) (numbers_told other) ≡ told (facts ++ more) other
       by true e = here ∙ ap (told (facts ++ more)) (same_text name other (sym e))
       by false e =
-          ap (λ b. cond b (record { is_shown = true; asks = asks_of name facts ++ asks; ids = (told facts name).ids; places = (told facts name).places }) (told facts other)) e ∙ (λ i. record {
-        is_shown = sym (shown_still other) i;
-        asks = sym (asks_append other facts more ∙ ap (λ more. asks_of other facts ++ more) (asked_elsewhere name asks more asked_there other e) ∙ append-nil (asks_of other facts)) i;
-        ids = λ n. sym (given_append (id_in other n) facts more ∙ ap (λ o. option_or (first_given (id_in other n) facts) o)
-            (listed_ids name r os other n ∙ ap (λ b. cond b (id_listed os n) None) e) ∙ or_none (first_given (id_in other n) facts)) i;
-        places = λ id. sym (given_append (number_in other id) facts more ∙ ap (λ o. option_or (first_given (number_in other id) facts) o)
-            (listed_places name r os other id ∙ ap (λ b. cond b (place_listed os id) None) e) ∙ or_none (first_given (number_in other id) facts)) i;
-      })
+          ap (λ b. cond b asked_told (told facts other)) e ∙ (λ i. record {
+            is_shown = sym (shown_still other) i;
+            asks = sym (asks_append other facts more ∙ ap (λ more. asks_of other facts ++ more) (asked_elsewhere name asks more asked_there other e) ∙ append-nil (asks_of other facts)) i;
+            ids = λ n. sym (given_append (id_in other n) facts more ∙ ap (λ o. option_or (first_given (id_in other n) facts) o)
+                (listed_ids name r os other n ∙ ap (λ b. cond b (id_listed os n) None) e) ∙ or_none (first_given (id_in other n) facts)) i;
+            places = λ id. sym (given_append (number_in other id) facts more ∙ ap (λ o. option_or (first_given (number_in other id) facts) o)
+                (listed_places name r os other id ∙ ap (λ b. cond b (place_listed os id) None) e) ∙ or_none (first_given (number_in other id) facts)) i;
+          })
 
 -- ---- one overview after the other
 
--- what is told of a group, once its numbers have the ids of these overviews
-abbrev pub with_listed : Told → List OverviewValue → Told
-with_listed t os = record { is_shown = true; asks = t.asks; ids = λ n. option_or (t.ids n) (id_listed os n); places = λ id. option_or (t.places id) (place_listed os id) }
-
 module _ (tells : Name → Told) (name : Name) (front : List OverviewValue) where
-  pub with_here : with_ids tells name front name ≡ with_listed (tells name) front
+  pub with_here : with_overviews tells name front name ≡ with_listed (tells name) front
   with_here = ap (λ b. cond b (with_listed (tells name) front) (tells name)) (same_itself name)
 
   -- one more is told as a part is
   pub one_more_given : (o : OverviewValue)
-      → Changes (with_ids tells name front) (with_ids tells name (front ++ o ∷ [])) name (with_part (with_ids tells name front name) [] (Some (o.number, o.id)))
+      → Changes (with_overviews tells name front) (with_overviews tells name (front ++ o ∷ [])) name (with_part (with_overviews tells name front name) [] (Some (o.number, o.id)))
   one_more_given o = record {
     here = ap (λ b. cond b (with_listed (tells name) (front ++ o ∷ [])) (tells name)) (same_itself name) ∙ step ∙ ap (λ t. with_part t [] (Some (o.number, o.id))) (sym with_here);
     elsewhere = λ other apart. ap (λ b. cond b (with_listed (tells name) (front ++ o ∷ [])) (tells other)) apart ∙ sym (ap (λ b. cond b (with_listed (tells name) front) (tells other)) apart);
@@ -227,7 +225,7 @@ module _ (tells : Name → Told) (name : Name) (front : List OverviewValue) wher
 
   -- what may be given of the next one beside what was told before, may be given beside those in front too
   pub next_given : (facts : List Fact) (o : OverviewValue) (rest : List OverviewValue) → HaveOwn (front ++ o ∷ rest) → MayGive facts (tells name) o
-      → (before : List Fact) → IsFalse (list_any (denies_article o.id) before) → MayGive before (with_ids tells name front name) o
+      → (before : List Fact) → IsFalse (list_any (denies_article o.id) before) → MayGive before (with_overviews tells name front name) o
   next_given facts o rest own g before free =
       let none = none_in_front front o rest own in
       let ids : (with_listed (tells name) front).ids o.number ≡ (tells name).ids o.number = ap (option_or ((tells name).ids o.number)) none.0 ∙ or_none ((tells name).ids o.number) in
@@ -254,7 +252,7 @@ one_more_said front o before id =
 
 module _ (facts : List Fact) (name : Name) (r : Range) (os : List OverviewValue) where
   -- all is kept where the groups and articles are kept with the overviews, and of names what was
-  pub overviews_kept : is_shown_group facts name ≡ true → (old new : Kept) → IsKept facts old → new.names ≡ old.names → AreKept (with_ids (numbers_told facts name r os) name os) new.groups
+  pub overviews_kept : is_shown_group facts name ≡ true → (old new : Kept) → IsKept facts old → new.names ≡ old.names → AreKept (with_overviews (numbers_told facts name r os) name os) new.groups
       → ((id : Id) → join_said (said_of facts id) (said_listed os id) ≡ said_kept (get new.articles id)) → IsKept (facts ++ OverviewsAre name r os ∷ []) new
   overviews_kept shown old new kept names groups articles = record {
     groups = subst (λ tells. AreKept tells new.groups) (λ i other. all_told facts name r os shown other i) groups;
@@ -263,7 +261,7 @@ module _ (facts : List Fact) (name : Name) (r : Range) (os : List OverviewValue)
   }
 
 -- before the first overview nothing more is told
-pub none_yet : (tells : Name → Told) (name : Name) → (tells name).is_shown ≡ true → (other : Name) → with_ids tells name [] other ≡ tells other
+pub none_yet : (tells : Name → Told) (name : Name) → (tells name).is_shown ≡ true → (other : Name) → with_overviews tells name [] other ≡ tells other
 none_yet tells name shown other = by (is_same name other) refl
   where
     here : with_listed (tells name) [] ≡ tells name
@@ -294,7 +292,7 @@ module _ (facts : List Fact) (tells : Name → Told) (name : Name) (front : List
       sym (one_more_said front o (said_of facts id) id) ∙ ap (λ s. join_said s (said_in (Some (o.id, Exists)) id)) (sym (said_so_far id)) ∙ kept id
 
   -- the next one may be given
-  pub may_give_next : (os : List OverviewValue) → os ≡ front ++ o ∷ rest → HaveOwn os → AllByRecursion (MayGive facts (tells name)) os → MayGive so_far (with_ids tells name front name) o
+  pub may_give_next : (os : List OverviewValue) → os ≡ front ++ o ∷ rest → HaveOwn os → AllByRecursion (MayGive facts (tells name)) os → MayGive so_far (with_overviews tells name front name) o
   may_give_next os whole own may =
       let given : MayGive facts (tells name) o = (all_back (MayGive facts (tells name)) front (o ∷ rest) (subst (AllByRecursion (MayGive facts (tells name))) whole may)).0 in
       next_given tells name front facts o rest (subst HaveOwn whole own) given so_far (any_silent (denies_article o.id) facts (OverviewsAre name all_numbers front ∷ []) refl ∙ given.free)

@@ -36,8 +36,8 @@ pub record MayListOf (facts : List Fact) (g : OfGroup) (range : Range) (overview
   pub own : HaveOwn overviews
 
 -- what is told of groups, once the numbers of one have the ids of these overviews
-abbrev pub with_ids : (Name → Told) → Name → List OverviewValue → Name → Told
-with_ids tells name overviews other = if is_same name other then record {
+abbrev pub with_overviews : (Name → Told) → Name → List OverviewValue → Name → Told
+with_overviews tells name overviews other = if is_same name other then record {
   is_shown = true;
   asks = (tells name).asks;
   ids = λ n. option_or ((tells name).ids n) (id_listed overviews n);

@@ -43,17 +43,19 @@ abbrev pub denies_name : Name → Statement → Bool
 denies_name name t = option_map_or (λ g. is_same g name) t.saying.there_is_no false || option_map_or (λ l. option_map_or (λ w. matches_name w name) l.0 true && not
     (is_listed l.1 name)) t.saying.groups false
 
--- the id that it shows at the number, by an overview or otherwise
+-- the id that a saying shows at a number of its group, by an overview or otherwise
 abbrev pub id_said : Saying → Option (ℕ × Id) → ℕ → Option Id
 id_said s id n = option_map_or (λ o. id_listed o.1 n) s.overviews (id_of id n)
 
+-- the id that it shows at the number
 abbrev pub id_told : Name → ℕ → Statement → Option Id
 id_told name n t = option_map_or (λ g. if is_same g.name name then id_said t.saying g.id n else None) t.saying.group None
 
--- the number at which it shows the id
+-- the number at which a saying shows an id of its group
 abbrev pub place_said : Saying → Option (ℕ × Id) → Id → Option ℕ
 place_said s at id = option_map_or (λ o. place_listed o.1 id) s.overviews (place_of at id)
 
+-- the number at which it shows the id
 abbrev pub place_told : Name → Id → Statement → Option ℕ
 place_told name id t = option_map_or (λ g. if is_same g.name name then place_said t.saying g.id id else None) t.saying.group None
 

@@ -9,7 +9,7 @@ ghost use Rattle.nntp_article.specs.Session.Spool.{Name};
 ghost use Rattle.nntp_said.specs.Facts.{Fact};
 ghost use Rattle.nntp_theory.specs.Inner.Together.{IsWellFormed, Join, Together, join_said, said_of};
 ghost use Rattle.nntp_facts.specs.Inner.Kept.{AreAdded, AreKept, AreKeptArticles, AreKeptWith, IsKept, Told, said_kept};
-ghost use Rattle.nntp_facts.specs.Inner.KeptSaying.{AreKeptThen, MayGive, MayListOf, may_give, said_listed, with_ids};
+ghost use Rattle.nntp_facts.specs.Inner.KeptSaying.{AreKeptThen, MayGive, MayListOf, may_give, said_listed, with_overviews};
 ghost use Rattle.nntp_facts.specs.Inner.ListedOverviews.{HaveOwn, OverviewJoins};
 ghost use Rattle.nntp_facts.specs.Inner.Saying.{Exists, overviews_facts};
 ghost use Rattle.nntp_facts.specs.Inner.SayingView.{of_group};
@@ -73,7 +73,7 @@ impl<A: Allocator + Copy> Kept<A> {
         ensures kept { OnOk result ((facts : List Fact) (tells : Name → Told) → AreKept tells self.old.groups → AreKeptArticles facts self.old.articles
             → (tells name.now).is_shown ≡ true → HaveOwn (map overview_value overviews.now)
             → AllByRecursion (MayGive facts (tells name.now)) (map overview_value overviews.now)
-            → AreKept (with_ids tells name.now (map overview_value overviews.now)) self.new.groups
+            → AreKept (with_overviews tells name.now (map overview_value overviews.now)) self.new.groups
             × ((id : Id) → join_said (said_of facts id) (said_listed (map overview_value overviews.now) id) ≡ said_kept (get self.new.articles id))) }
     {
         for overview in overviews {

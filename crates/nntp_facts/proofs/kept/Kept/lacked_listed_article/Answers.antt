@@ -17,9 +17,9 @@ pub loop-overview-preserved : goal.loop-overview-preserved
 loop-overview-preserved g c =
     let here = subst (λ id. option_map point_of c.lacked_article-point.result ≡ cond (option_map_or (λ a. a.is_denied) (get c.args.self.now.articles id) false) (Some (Article id)) None)
     c.as_str.ensures.value c.lacked_article-point.ensures in (
-  tt,
-  tt,
-  first_behind (λ (o : OverviewValue). cond (option_map_or (λ a. a.is_denied) (get c.args.self.now.articles o.id) false) (Some (Article o.id)) None) point_of (overview_value c.in-Some.overview)
-      c.next.new.self c.loop-overview.overview-iterator (overviews_of c.args.block.now) c.in-Some.ensures.steps c.loop-overview.invariant.2 c.lacked_article-point.result
-      here (sym c.is_some.ensures ∙ c.if-is_some.false),
-)
+      tt,
+      tt,
+      first_behind (λ (o : OverviewValue). cond (option_map_or (λ a. a.is_denied) (get c.args.self.now.articles o.id) false) (Some (Article o.id)) None) point_of (overview_value c.in-Some.overview)
+          c.next.new.self c.loop-overview.overview-iterator (overviews_of c.args.block.now) c.in-Some.ensures.steps c.loop-overview.invariant.2 c.lacked_article-point.result
+          here (sym c.is_some.ensures ∙ c.if-is_some.false),
+    )
