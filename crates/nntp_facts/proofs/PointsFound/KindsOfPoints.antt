@@ -1,23 +1,20 @@
 -- Points of each kind, where what an answer says conflicts with what is kept.
-use Rattle.std.proofs.Common.{arith, ℕ, Bool, true, false, not, cond, IsTrue, List, [], ◌≡◌, ◌∷◌, ◌++◌, ◌&&◌, ◌||◌, ◌<◌, ◌==◌, ◌⊎◌, Option, None, Some, inl}
+use Rattle.std.proofs.Common.{arith, ℕ, Bool, true, false, not, cond, IsTrue, List, [], ◌≡◌, ◌∷◌, ◌++◌, ◌&&◌, ◌||◌, ◌<◌, ◌⊎◌, Option, None, Some, inl}
 use Rattle.std.proofs.{Common.{inr, refl, sym, ap, subst, ◌∙◌, append-nil}, lemmas.Bool.{true≢false, cases_Bool, and_parts, or_cases, or_left, or_right}}
-use Rattle.std.{proofs.lemmas.{Bool.{eq-eqb, eqb-true, not-true}, List.Folds.{list_any-append}}, specs.Prelude.{IfSome, IsFalse, MatchOption, option_map}}
+use Rattle.std.{proofs.lemmas.{Bool.{not-true}, List.Folds.{list_any-append}}, specs.Prelude.{IfSome, IsFalse, MatchOption, option_map}}
 use Rattle.std.specs.{List.{AllByRecursion, list_any, list_all}, Option.{option_map_or, option_or}, Cmp.Lexicographic.{same_text}}
 use Rattle.nntp_wire.specs.{Listing.{ActiveValue}, Decided.{matches_name}, declared.marks.Marks.TheVariants.{Lenient}}
-use Rattle.nntp_article.specs.{Article.Parts.{Id}, Session.{Spool.{Name}, Machine.{is_same, names_differ}}, declared.session.profile.Profile.{Profile}}
+use Rattle.nntp_article.specs.{Session.{Spool.{Name}, Machine.{is_same, names_differ}}, declared.session.profile.Profile.{Profile}}
 use Rattle.nntp_said.specs.{Asks.{Ask, Bounds, Estimates}, Facts.{Fact, ThereIs, Asks, GroupsAre, group_of}}
-use Rattle.nntp_theory.specs.Given.{asks_of, shows_group, is_shown_group, first_given, id_in, is_known, is_denied, demand, IsGivenNumber}
-use Rattle.nntp_theory.specs.{Together.{is_possible, MeetsDemand, GiveOne, denies_group, number_in}, Conflict.{widest, the_group, Point, Step, Group, Number}}
-use Rattle.nntp_theory.{specs.Conflict.{Count, First, IdOf, PlaceOf, rank, ConflictAt, AreTooMany}, proofs.Members.{all_at, all_from, found_in}}
+use Rattle.nntp_theory.specs.Given.{asks_of, shows_group, is_shown_group, first_given, is_known, is_denied, demand, IsGivenNumber}
+use Rattle.nntp_theory.specs.{Together.{is_possible, MeetsDemand, GiveOne, denies_group}, Conflict.{widest, the_group, Point, Step, Group, Number}}
+use Rattle.nntp_theory.{specs.Conflict.{Count, First, rank, ConflictAt, AreTooMany}, proofs.Members.{all_at, all_from, found_in}}
 use Rattle.nntp_theory.proofs.{Conflicts.{at_point}, PointsByRank.{of_rank}, Together.{FactsJoin.{asks_append}, FactsOfASpoolStand.{same_itself}}}
-use Rattle.nntp_theory.proofs.Together.TwoListsOfFacts.{give_one_both, give_same_of_both, none_if}
 use Rattle.nntp_numbers.specs.Inner.Part.{Says}
-use Rattle.nntp_facts.specs.Inner.{Kept.{Kept, id_of, place_of}, Saying.{OfGroup, asked_id, IsAlone}, ListedGroups.{is_listed, MayList, NoneIsMissing}}
-use Rattle.nntp_facts.specs.Inner.Points.{Statement, TellsAlone, IsPointOf, IsPointIn, IsBeside, IsAbout, is_impossible, shows_name, denies_name, id_said, id_told}
-use Rattle.nntp_facts.specs.Inner.ListedOverviews.{id_listed, place_listed}
-use Rattle.nntp_facts.proofs.Keeping.OverviewsTold.{Overviews}
-use Rattle.nntp_facts.{specs.Inner.Points.{place_said, place_told, other_id_at, other_place_of, bounds_of}, proofs.Keeping.ListedGroups.{no_bounds, bounds_at}}
-use Rattle.nntp_facts.proofs.PointsFound.StatementsRead.{shown_told, denied_told, asks_some, asks_listed, asks_none, id_given, place_given}
+use Rattle.nntp_facts.specs.Inner.{Kept.{Kept}, Saying.{OfGroup, asked_id, IsAlone}, ListedGroups.{is_listed, MayList, NoneIsMissing}}
+use Rattle.nntp_facts.specs.Inner.Points.{Statement, TellsAlone, IsPointOf, IsPointIn, IsBeside, IsAbout, is_impossible, shows_name, denies_name}
+use Rattle.nntp_facts.{specs.Inner.Points.{bounds_of}, proofs.Keeping.ListedGroups.{no_bounds, bounds_at}}
+use Rattle.nntp_facts.proofs.PointsFound.StatementsRead.{shown_told, denied_told, asks_some, asks_listed, asks_none}
 
 -- an ask can't be met
 abbrev pub cannot : Ask → Bool

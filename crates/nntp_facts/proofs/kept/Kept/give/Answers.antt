@@ -1,4 +1,4 @@
-use Rattle.std.proofs.{Common.{◌≡◌, ℕ, true, false, [], Some, sym, ap, subst, ◌∙◌}, lemmas.Bool.{true≢false}}
+use Rattle.std.proofs.{Common.{◌≡◌, ℕ, true, [], Some, sym, ap, subst, ◌∙◌}, lemmas.Bool.{true≢false}}
 use Rattle.std.specs.{Prelude.{IsFalse, option_map}, List.{list_any}, Rc.{rc_str_bytes}}
 use Rattle.nntp_theory.specs.Together.{denies_article}
 use Rattle.nntp_article.specs.Article.Parts.{Id}

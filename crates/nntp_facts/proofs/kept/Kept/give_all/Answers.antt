@@ -1,4 +1,4 @@
-use Rattle.std.proofs.{Common.{◌≡◌, ◌+◌, [], ◌∷◌, ◌++◌, Some, map, take, drop, refl, sym, ap, subst, ◌∙◌, arith, take_all}, lemmas.List.{take-append-drop, map-append}}
+use Rattle.std.proofs.{Common.{◌≡◌, ◌+◌, [], ◌∷◌, ◌++◌, map, take, drop, refl, sym, ap, subst, ◌∙◌, arith, take_all}, lemmas.List.{take-append-drop, map-append}}
 use Rattle.std.specs.FinMap.{get}
 use Rattle.nntp_wire.specs.{Listing.{OverviewValue}, Inner.View.{overview_value}}
 use Rattle.nntp_article.proofs.SessionLemmas.LinesLeft.{next_left, one_more}

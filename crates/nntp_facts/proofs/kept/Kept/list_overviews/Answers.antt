@@ -1,4 +1,4 @@
-use Rattle.std.{proofs.{Common.{◌≡◌, true, false, [], ◌∷◌, ◌++◌, None, map, refl, sym, ap, subst, ◌∙◌}, lemmas.Bool.{true≢false}}}
+use Rattle.std.{proofs.{Common.{◌≡◌, true, None, map, sym, ap, subst, ◌∙◌}, lemmas.Bool.{true≢false}}}
 use Rattle.nntp_wire.specs.Inner.View.{overview_value}
 use Rattle.nntp_theory.proofs.OkResults.{on_ok}
 use Rattle.nntp_facts.specs.Inner.{Kept.{Kept as KeptValue, IsKept, Told, told, Agree, MayShow, Changes, with_part}, KeptSaying.{IsTextOf}, SayingView.{of_group}}

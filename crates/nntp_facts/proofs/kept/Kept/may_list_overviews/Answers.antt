@@ -1,7 +1,6 @@
-use Rattle.std.{proofs.{Common.{◌≡◌, ◌++◌, true, None, Option, map, sym, subst, ◌∙◌}, lemmas.Bool.{true≢false}}, specs.Prelude.{◌↔◌, IsTrue}}
+use Rattle.std.{proofs.{Common.{map, sym, subst, ◌∙◌}, lemmas.Bool.{true≢false}}}
 use Rattle.nntp_wire.specs.Inner.View.{overview_value}
-use Rattle.nntp_theory.specs.{Given.{asks_of}, Inner.Together.{AsksStand}}
-use Rattle.nntp_facts.specs.Inner.{Kept.{IsKept, told, Agree, IsShownAt, MayShow, joins_at_all}, SayingView.{of_group}}
+use Rattle.nntp_facts.specs.Inner.{Kept.{IsKept, told, Agree, IsShownAt, MayShow}, SayingView.{of_group}}
 use Rattle.nntp_facts.proofs.Keeping.OverviewsJoin.{asks, overviews_join}
 use Rattle.nntp_facts.proofs.kept.Kept.may_list_overviews.Goals as goal
 

@@ -1,4 +1,4 @@
-use Rattle.std.{proofs.{Common.{◌≡◌, [], ◌∷◌, Some, sym, ap, subst, ◌∙◌}, lemmas.Result.{IfOk-weaker}}, specs.{Prelude.{option_map}, List.{AllByRecursion}}}
+use Rattle.std.{proofs.{Common.{[], ◌∷◌, Some, sym, ap, subst, ◌∙◌}, lemmas.Result.{IfOk-weaker}}, specs.{Prelude.{option_map}, List.{AllByRecursion}}}
 use Rattle.nntp_article.specs.Inner.Listed.{lists}
 use Rattle.nntp_said.specs.Facts.{GroupsAre}
 use Rattle.nntp_theory.specs.Inner.Together.{IsWellFormed}
