@@ -1,12 +1,13 @@
 -- What overviews of a range say of the numbers and ids of their group.
-use Rattle.std.proofs.Common.{◌≡◌, ℕ, ◌<◌, Bool, true, false, ◌==◌, not, cond, IsTrue, List, [], ◌∷◌, ◌++◌, Option, None, Some, inl, inr, refl}
-use Rattle.std.proofs.{Common.{sym, ap, subst, ◌∙◌, arith}, lemmas.Bool.{true≢false, and_parts, eqb-true, ltb-true, false_from_ne_true, not-true}}
-use Rattle.std.specs.{Prelude.{nat_lt, is_some, option_map}, List.{list_all}, Option.{option_or}, Cmp.Lexicographic.{same_text}}
+use Rattle.std.proofs.Common.{◌≡◌, ℕ, ◌<◌, Bool, true, false, ◌==◌, not, cond, IsTrue, List, [], ◌∷◌, ◌++◌, Option, None, Some, inl, inr, refl, sym, ap, subst}
+use Rattle.std.{proofs.{Common.{◌∙◌, arith}, lemmas.Bool.{true≢false, and_parts, eqb-true, ltb-true, false_from_ne_true, not-true}}, specs.Prelude.{nat_lt}}
+use Rattle.std.specs.{Prelude.{is_some, option_map}, List.{list_all}, Option.{option_or}, Cmp.Lexicographic.{same_text}}
 use Rattle.nntp_wire.specs.{Listing.{OverviewValue}, declared.range.Range.{Range}}
 use Rattle.nntp_article.specs.{Article.Parts.{Id}, Session.{Spool.{Name}, Machine.{is_same, is_ascending, all_differ, overview_numbers, overview_ids}}}
 use Rattle.nntp_said.specs.{Asks.{ListsIn}, Facts.{OverviewsAre}}
-use Rattle.nntp_theory.specs.{Given.{asks_of, first_given, id_of_overview, id_in}, Together.{number_of_overview, number_in}, Inner.Together.{said_of, AgreesWithItself}}
-use Rattle.nntp_theory.proofs.{Members.{In, each_of, first_found, in_map}, Together.{ListedOverviews.{apart_agree}, TwoListsOfFacts.{or_none}}}
+use Rattle.nntp_theory.specs.{Given.{asks_of, first_given, id_of_overview, id_in}, Together.{number_of_overview, number_in}, Inner.Together.{said_of}}
+use Rattle.nntp_theory.{specs.Inner.Together.{AgreesWithItself}, proofs.{Members.{In, each_of, first_found, in_map}, Together.ListedOverviews.{apart_agree}}}
+use Rattle.nntp_theory.proofs.Together.TwoListsOfFacts.{or_none}
 use Rattle.nntp_facts.specs.Inner.{ListedOverviews.{HaveOwn, id_listed, place_listed}, KeptSaying.{said_listed}}
 
 -- ---- what the first gives

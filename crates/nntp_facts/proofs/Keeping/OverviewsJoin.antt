@@ -1,21 +1,23 @@
 -- When overviews join what was said, and what is kept then.
-use Rattle.std.proofs.Common.{◌≡◌, ℕ, Bool, true, false, not, ◌||◌, ◌&&◌, ◌==◌, cond, IsTrue, List, [], ◌∷◌, ◌++◌, Option, None, Some, refl, sym, ap}
-use Rattle.std.proofs.{Common.{subst, ◌∙◌, append-nil, arith}, lemmas.{Bool.{true≢false, and_parts, and_from, not-true, eqb-true, eq-eqb}, List.Folds.{list_any-append}}, Math.Bool.{or-false}}
-use Rattle.std.specs.{Prelude.{◌↔◌, IfSome, IsFalse}, List.{AllByRecursion, list_any}, Option.{option_or, option_map_or}, Cmp.Lexicographic.{same_text}}
+use Rattle.std.proofs.Common.{◌≡◌, ℕ, Bool, true, false, not, ◌||◌, ◌&&◌, ◌==◌, cond, IsTrue, List, [], ◌∷◌, ◌++◌, Option, None, Some, refl, sym, ap, subst}
+use Rattle.std.proofs.{Common.{◌∙◌, append-nil, arith}, lemmas.Bool.{true≢false, and_parts, and_from, not-true, eqb-true, eq-eqb}}
+use Rattle.std.{proofs.{lemmas.List.Folds.{list_any-append}, Math.Bool.{or-false}}, specs.{Prelude.{◌↔◌, IfSome, IsFalse}, List.{AllByRecursion, list_any}}}
+use Rattle.std.specs.{Option.{option_or, option_map_or}, Cmp.Lexicographic.{same_text}, FinMap.{get}}
 use Rattle.nntp_wire.specs.{Listing.{OverviewValue}, declared.range.Range.{Range}}
 use Rattle.nntp_article.specs.{Article.Parts.{Id}, Session.{Spool.{Name}, Machine.{is_same, overview_numbers}}}
 use Rattle.nntp_said.specs.{Asks.{Ask, ListsIn}, Facts.{Fact, OverviewsAre}}
-use Rattle.nntp_theory.specs.{Given.{asks_of, shows_group, is_shown_group, first_given, id_of_overview, id_in}, Together.{number_of_overview, number_in, denies_article}}
-use Rattle.nntp_theory.specs.Inner.Together.{AsksStand, IsWellFormed, JoinNumbers, JoinIds, JoinArticle, Together, Join, SaidOfArticle, said_of, said_nothing, join_said}
-use Rattle.nntp_theory.proofs.{Members.{In, all_at, all_from, all_back, any_in, found_in}, Together.{FactsOfASpoolStand.{same_itself}, FactsJoin.{asks_append}}}
-use Rattle.nntp_theory.proofs.Together.TwoListsOfFacts.{given_append, or_none, any_silent}
-use Rattle.nntp_facts.specs.Inner.{Kept.{Kept, IsKept, Told, told, AreKept, AreKeptNames, AreKeptArticles, with_part, Changes, MayShow, Agree}, Saying.{Exists}}
-use Rattle.nntp_facts.specs.Inner.{Kept.{said_kept}, KeptSaying.{AreKeptThen, IsArticleAdded}}
-use Rattle.nntp_facts.proofs.Keeping.{KeptNamesAndGroups.{names_kept}, KeptArticles.{Articles, denied_kept}}
-use Rattle.std.specs.FinMap.{get}
-use Rattle.nntp_facts.specs.Inner.{ListedOverviews.{HaveOwn, OverviewJoins, id_listed, place_listed}, KeptSaying.{MayGive, may_give, with_overviews, said_in, said_listed}, Articles.{unsent}}
-use Rattle.nntp_facts.proofs.Keeping.{ListedOverviews.{listed_asks, listed_ids, listed_places, listed_said, id_giver, place_giver, own_agree, none_in_front}}
-use Rattle.nntp_facts.proofs.Keeping.{FactsOfOneGroup.{IsOr, asked_here, asked_elsewhere}, PartsJoin.{agree_told}, SaidOfArticles.{said_append, nothing_joins}, SilentFacts.{numbers_join}}
+use Rattle.nntp_theory.specs.{Given.{asks_of, shows_group, is_shown_group, first_given, id_of_overview, id_in}, Together.{number_of_overview, number_in}}
+use Rattle.nntp_theory.specs.{Together.{denies_article}, Inner.Together.{AsksStand, IsWellFormed, JoinNumbers, JoinIds, JoinArticle, Together, Join}}
+use Rattle.nntp_theory.{specs.Inner.Together.{SaidOfArticle, said_of, said_nothing, join_said}, proofs.Members.{In, all_at, all_from, all_back, any_in}}
+use Rattle.nntp_theory.proofs.{Members.{found_in}, Together.{FactsOfASpoolStand.{same_itself}, FactsJoin.{asks_append}, TwoListsOfFacts.{given_append}}}
+use Rattle.nntp_theory.proofs.Together.TwoListsOfFacts.{or_none, any_silent}
+use Rattle.nntp_facts.specs.Inner.Kept.{Kept, IsKept, Told, told, AreKept, AreKeptNames, AreKeptArticles, with_part, Changes, MayShow, Agree, said_kept}
+use Rattle.nntp_facts.specs.Inner.{Saying.{Exists}, KeptSaying.{AreKeptThen, IsArticleAdded, MayGive, may_give, with_overviews, said_in, said_listed}}
+use Rattle.nntp_facts.specs.Inner.{ListedOverviews.{HaveOwn, OverviewJoins, id_listed, place_listed}, Articles.{unsent}}
+use Rattle.nntp_facts.proofs.Keeping.{KeptNamesAndGroups.{names_kept}, KeptArticles.{Articles, denied_kept}, ListedOverviews.{listed_asks, listed_ids}}
+use Rattle.nntp_facts.proofs.Keeping.{ListedOverviews.{listed_places, listed_said, id_giver, place_giver, own_agree, none_in_front}, FactsOfOneGroup.{IsOr}}
+use Rattle.nntp_facts.proofs.Keeping.{FactsOfOneGroup.{asked_here, asked_elsewhere}, PartsJoin.{agree_told}, SaidOfArticles.{said_append, nothing_joins}}
+use Rattle.nntp_facts.proofs.Keeping.SilentFacts.{numbers_join}
 
 -- what is told of a group, once its numbers have the ids of these overviews
 abbrev pub with_listed : Told → List OverviewValue → Told

@@ -1,12 +1,12 @@
 -- What a saying tells, by overviews or otherwise.
-use Rattle.std.proofs.Common.{◌≡◌, ℕ, false, cond, List, [], ◌∷◌, ◌++◌, Option, None, Some, MatchOption, refl, sym, ap, subst, ◌∙◌}
-use Rattle.std.specs.{Prelude.{IfSome}, List.{list_any}, Option.{option_map_or}}
+use Rattle.std.{proofs.Common.{◌≡◌, ℕ, false, cond, List, [], ◌∷◌, ◌++◌, Option, None, Some, MatchOption, refl, sym, ap, subst, ◌∙◌}, specs.Prelude.{IfSome}}
+use Rattle.std.specs.{List.{list_any}, Option.{option_map_or}}
 use Rattle.nntp_wire.specs.{Listing.{OverviewValue}, declared.range.Range.{Range}}
 use Rattle.nntp_article.specs.{Article.Parts.{Id}, Session.{Spool.{Name}, Machine.{is_same, overview_numbers}}}
 use Rattle.nntp_said.specs.{Asks.{Ask, ListsIn}, Facts.{Fact, OverviewsAre}}
 use Rattle.nntp_theory.specs.{Given.{asks_of, is_shown_group, first_given, id_in}, Together.{denies_group, number_in}, Inner.Together.{said_of}}
-use Rattle.nntp_facts.specs.Inner.{Saying.{OfGroup, Saying, asked_id, overviews_facts, facts_in, facts_told, AreOfRange, MaySay}, Points.{id_said, place_said, said_by}}
-use Rattle.nntp_facts.proofs.Keeping.{FactsOfParts.{shown_group, denied_group}, PartsJoin.{said_of_parts, group_is}}
+use Rattle.nntp_facts.specs.Inner.{Saying.{OfGroup, Saying, asked_id, overviews_facts, facts_in, facts_told, AreOfRange, MaySay}, Points.{id_said, place_said}}
+use Rattle.nntp_facts.{specs.Inner.Points.{said_by}, proofs.Keeping.{FactsOfParts.{shown_group, denied_group}, PartsJoin.{said_of_parts, group_is}}}
 use Rattle.nntp_facts.proofs.Keeping.ListedOverviews.{listed_asks, listed_ids, listed_places, listed_said}
 
 -- overviews, if any are said

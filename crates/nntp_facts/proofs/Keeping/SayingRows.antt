@@ -12,8 +12,8 @@ use Rattle.nntp_numbers.specs.Inner.{Part.{Said, Says, AreListable}, PartOf.{IsS
 use Rattle.nntp_numbers.proofs.{SaidInARange.{says_range, says_listed}, SaidOfAsks.{said_small, says_marks, marks_bounded, says_has, says_lacks, says_stands}}
 use Rattle.nntp_numbers.proofs.SaidOfAsks.{says_nowhere, says_up, says_down, says_top, says_bottom}
 use Rattle.nntp_facts.specs.Inner.Saying.{AreListed, Saying, TellsHere, IsSelectedShown, IsShownThen, nothing, numbers_shown, saying_by}
-use Rattle.nntp_facts.{specs.declared.saying.GroupPart.{GroupPart}, proofs.Keeping.FittingAnswers.{listable, may_list, numbered}}
-use Rattle.nntp_facts.specs.Inner.ListedOverviews.{HaveOwn}
+use Rattle.nntp_facts.{specs.{Inner.ListedOverviews.{HaveOwn}, declared.saying.GroupPart.{GroupPart}}, proofs.Keeping.FittingAnswers.{listable, may_list}}
+use Rattle.nntp_facts.proofs.Keeping.FittingAnswers.{numbered}
 use Rattle.nntp_facts.specs.declared.saying.Saying as parts
 use Rattle.nntp_facts.specs.Inner.SayingView as view
 use Rattle.nntp_said.proofs.Rows as rows

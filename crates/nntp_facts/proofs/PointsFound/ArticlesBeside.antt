@@ -7,13 +7,11 @@ use Rattle.nntp_article.specs.{Article.Parts.{Id, Line}, Session.Machine.{is_sam
 use Rattle.nntp_said.specs.Facts.{Fact}
 use Rattle.nntp_theory.specs.{Given.{first_given, head_in, body_in}, Together.{GiveOne, shows_article, denies_article}, Inner.Together.{SaidOfArticle, said_of}}
 use Rattle.nntp_theory.specs.{Inner.Together.{said_nothing, join_said, AreSame}, Conflict.{Point, Article, HeadOf, BodyOf, ConflictAt}}
-use Rattle.nntp_theory.proofs.Members.{any_in, found_in, first_found}
-use Rattle.nntp_theory.proofs.{Conflicts.{at_point}, PointsByRank.{of_rank}, Together.{FactsOfASpoolStand.{same_itself}, TwoListsOfFacts.{give_one_both}}}
-use Rattle.nntp_theory.proofs.Together.TwoListsOfFacts.{give_same_of_both}
-use Rattle.nntp_facts.specs.Inner.{Kept.{Kept, said_kept}, Saying.{OfArticle, Sends, MayBeOf}, KeptSaying.{kept_by, said_in, said_listed}, Points.{Statement, IsPointOf}}
-use Rattle.nntp_facts.specs.Inner.{Points.{IsBeside, said_by}, Articles.{unsent}}
-use Rattle.nntp_facts.proofs.Keeping.{SaidOfArticles.{said_append}, ListedOverviews.{none_gives}, OverviewsTold.{Overviews, plain_by_article}}
-use Rattle.nntp_facts.proofs.PointsFound.StatementsRead.{article_told}
+use Rattle.nntp_theory.proofs.{Members.{any_in, found_in, first_found}, Conflicts.{at_point}, PointsByRank.{of_rank}, Together.FactsOfASpoolStand.{same_itself}}
+use Rattle.nntp_theory.proofs.Together.TwoListsOfFacts.{give_one_both, give_same_of_both}
+use Rattle.nntp_facts.specs.Inner.{Kept.{Kept, said_kept}, Saying.{OfArticle, Sends, MayBeOf}, KeptSaying.{kept_by, said_in, said_listed}, Points.{Statement}}
+use Rattle.nntp_facts.{specs.Inner.{Points.{IsPointOf, IsBeside, said_by}, Articles.{unsent}}, proofs.Keeping.SaidOfArticles.{said_append}}
+use Rattle.nntp_facts.proofs.{Keeping.{ListedOverviews.{none_gives}, OverviewsTold.{Overviews, plain_by_article}}, PointsFound.StatementsRead.{article_told}}
 use Rattle.nntp_facts.proofs.PointsFound.KindsOfPoints.{alone_once}
 
 -- ---- the parts of an article

@@ -4,12 +4,13 @@ use Rattle.std.{proofs.lemmas.Bool.{true≢false, eq-eqb, eqb-true}, specs.{Prel
 use Rattle.nntp_wire.specs.{Listing.{OverviewValue}, declared.range.Range.{Range}}
 use Rattle.nntp_article.specs.{Article.Parts.{Id}, Session.{Spool.{Name}, Machine.{is_same}}, declared.session.profile.Profile.{Profile}}
 use Rattle.nntp_said.specs.Facts.{Fact}
-use Rattle.nntp_theory.specs.{Given.{first_given, id_in}, Together.{GiveOne, number_in}, Conflict.{Point, IdOf, PlaceOf, ConflictAt}}
-use Rattle.nntp_theory.proofs.{Members.{In, all_at, first_found}, PointsByRank.{of_rank}, Together.{FactsOfASpoolStand.{same_itself}, TwoListsOfFacts.{give_one_both, give_same_of_both, none_if}}}
-use Rattle.nntp_facts.specs.Inner.{Kept.{Kept, id_of, place_of}, Saying.{OfGroup}, ListedOverviews.{HaveOwn, id_listed, place_listed}}
-use Rattle.nntp_facts.specs.Inner.Points.{Statement, IsPointOf, IsBeside, id_said, id_told, place_said, place_told, other_id_at, other_place_of}
-use Rattle.nntp_facts.proofs.{Keeping.{OverviewsTold.{Overviews, of_range}, ListedOverviews.{none_gives, own_agree, id_giver, place_giver}}, PointsFound.{KindsOfPoints.{alone_once}}}
-use Rattle.nntp_facts.proofs.PointsFound.StatementsRead.{id_given, place_given}
+use Rattle.nntp_theory.{specs.{Given.{first_given, id_in}, Together.{GiveOne, number_in}, Conflict.{Point, IdOf, PlaceOf, ConflictAt}}, proofs.Members.{In}}
+use Rattle.nntp_theory.proofs.{Members.{all_at, first_found}, PointsByRank.{of_rank}, Together.FactsOfASpoolStand.{same_itself}}
+use Rattle.nntp_theory.proofs.Together.TwoListsOfFacts.{give_one_both, give_same_of_both, none_if}
+use Rattle.nntp_facts.specs.Inner.{Kept.{Kept, id_of, place_of}, Saying.{OfGroup}, ListedOverviews.{HaveOwn, id_listed, place_listed}, Points.{Statement}}
+use Rattle.nntp_facts.specs.Inner.Points.{IsPointOf, IsBeside, id_said, id_told, place_said, place_told, other_id_at, other_place_of}
+use Rattle.nntp_facts.proofs.Keeping.{OverviewsTold.{Overviews, of_range}, ListedOverviews.{none_gives, own_agree, id_giver, place_giver}}
+use Rattle.nntp_facts.proofs.PointsFound.{KindsOfPoints.{alone_once}, StatementsRead.{id_given, place_given}}
 
 -- ---- tests
 

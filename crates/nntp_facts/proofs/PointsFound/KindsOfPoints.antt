@@ -1,20 +1,20 @@
 -- Points of each kind, where what an answer says conflicts with what is kept.
-use Rattle.std.proofs.Common.{arith, ℕ, Bool, true, false, not, cond, IsTrue, List, [], ◌≡◌, ◌∷◌, ◌++◌, ◌&&◌, ◌||◌, ◌<◌, ◌⊎◌, Option, None, Some, inl}
-use Rattle.std.proofs.{Common.{inr, refl, sym, ap, subst, ◌∙◌, append-nil}, lemmas.Bool.{true≢false, cases_Bool, and_parts, or_cases, or_left, or_right}}
-use Rattle.std.{proofs.lemmas.{Bool.{not-true}, List.Folds.{list_any-append}}, specs.Prelude.{IfSome, IsFalse, MatchOption, option_map}}
-use Rattle.std.specs.{List.{AllByRecursion, list_any, list_all}, Option.{option_map_or, option_or}, Cmp.Lexicographic.{same_text}}
+use Rattle.std.proofs.Common.{arith, ℕ, Bool, true, false, not, cond, IsTrue, List, [], ◌≡◌, ◌∷◌, ◌++◌, ◌&&◌, ◌||◌, ◌<◌, ◌⊎◌, Option, None, Some, inl, inr}
+use Rattle.std.proofs.{Common.{refl, sym, ap, subst, ◌∙◌, append-nil}, lemmas.Bool.{true≢false, cases_Bool, and_parts, or_cases, or_left, or_right, not-true}}
+use Rattle.std.{proofs.lemmas.List.Folds.{list_any-append}, specs.{Prelude.{IfSome, IsFalse, MatchOption, option_map}, List.{AllByRecursion, list_any}}}
+use Rattle.std.specs.{List.{list_all}, Option.{option_map_or, option_or}, Cmp.Lexicographic.{same_text}}
 use Rattle.nntp_wire.specs.{Listing.{ActiveValue}, Decided.{matches_name}, declared.marks.Marks.TheVariants.{Lenient}}
 use Rattle.nntp_article.specs.{Session.{Spool.{Name}, Machine.{is_same, names_differ}}, declared.session.profile.Profile.{Profile}}
 use Rattle.nntp_said.specs.{Asks.{Ask, Bounds, Estimates}, Facts.{Fact, ThereIs, Asks, GroupsAre, group_of}}
-use Rattle.nntp_theory.specs.Given.{asks_of, shows_group, is_shown_group, first_given, is_known, is_denied, demand, IsGivenNumber}
-use Rattle.nntp_theory.specs.{Together.{is_possible, MeetsDemand, GiveOne, denies_group}, Conflict.{widest, the_group, Point, Step, Group, Number}}
-use Rattle.nntp_theory.{specs.Conflict.{Count, First, rank, ConflictAt, AreTooMany}, proofs.Members.{all_at, all_from, found_in}}
-use Rattle.nntp_theory.proofs.{Conflicts.{at_point}, PointsByRank.{of_rank}, Together.{FactsJoin.{asks_append}, FactsOfASpoolStand.{same_itself}}}
+use Rattle.nntp_theory.specs.{Given.{asks_of, shows_group, is_shown_group, first_given, is_known, is_denied, demand, IsGivenNumber}, Together.{is_possible}}
+use Rattle.nntp_theory.specs.{Together.{MeetsDemand, GiveOne, denies_group}, Conflict.{widest, the_group, Point, Step, Group, Number, Count, First, rank}}
+use Rattle.nntp_theory.{specs.Conflict.{ConflictAt, AreTooMany}, proofs.{Members.{all_at, all_from, found_in}, Conflicts.{at_point}, PointsByRank.{of_rank}}}
+use Rattle.nntp_theory.proofs.Together.{FactsJoin.{asks_append}, FactsOfASpoolStand.{same_itself}}
 use Rattle.nntp_numbers.specs.Inner.Part.{Says}
-use Rattle.nntp_facts.specs.Inner.{Kept.{Kept}, Saying.{OfGroup, asked_id, IsAlone}, ListedGroups.{is_listed, MayList, NoneIsMissing}}
-use Rattle.nntp_facts.specs.Inner.Points.{Statement, TellsAlone, IsPointOf, IsPointIn, IsBeside, IsAbout, is_impossible, shows_name, denies_name}
-use Rattle.nntp_facts.{specs.Inner.Points.{bounds_of}, proofs.Keeping.ListedGroups.{no_bounds, bounds_at}}
-use Rattle.nntp_facts.proofs.PointsFound.StatementsRead.{shown_told, denied_told, asks_some, asks_listed, asks_none}
+use Rattle.nntp_facts.specs.Inner.{Kept.{Kept}, Saying.{OfGroup, asked_id, IsAlone}, ListedGroups.{is_listed, MayList, NoneIsMissing}, Points.{Statement}}
+use Rattle.nntp_facts.specs.Inner.Points.{TellsAlone, IsPointOf, IsPointIn, IsBeside, IsAbout, is_impossible, shows_name, denies_name, bounds_of}
+use Rattle.nntp_facts.proofs.{Keeping.ListedGroups.{no_bounds, bounds_at}, PointsFound.StatementsRead.{shown_told, denied_told, asks_some, asks_listed}}
+use Rattle.nntp_facts.proofs.PointsFound.StatementsRead.{asks_none}
 
 -- an ask can't be met
 abbrev pub cannot : Ask → Bool

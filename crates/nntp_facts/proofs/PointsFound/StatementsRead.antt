@@ -1,17 +1,16 @@
 -- What facts say that answers tell by themselves, read off what is looked at.
-use Rattle.std.proofs.Common.{◌≡◌, ℕ, Bool, true, false, ◌||◌, ◌&&◌, not, cond, List, [], ◌∷◌, ◌++◌, Option, None, Some, MatchOption, ◌⊎◌, refl, sym, ap, subst, ◌∙◌, append-nil}
-use Rattle.std.{proofs.{Common.{arith}, lemmas.List.Folds.{list_any-append}}, specs.{Prelude.{IfSome, option_map}, List.{list_any}, Option.{option_map_or}}}
-use Rattle.nntp_wire.specs.{Listing.{ActiveValue}, declared.marks.Marks.TheVariants.{Lenient}}
+use Rattle.std.proofs.Common.{◌≡◌, ℕ, Bool, true, false, ◌||◌, ◌&&◌, not, cond, List, [], ◌∷◌, ◌++◌, Option, None, Some, MatchOption, ◌⊎◌, refl, sym, ap, subst}
+use Rattle.std.{proofs.{Common.{◌∙◌, append-nil, arith}, lemmas.List.Folds.{list_any-append}}, specs.{Prelude.{IfSome, option_map}, List.{list_any}}}
+use Rattle.std.specs.Option.{option_map_or}
+use Rattle.nntp_wire.specs.{Listing.{ActiveValue}, declared.marks.Marks.TheVariants.{Lenient}, Decided.{matches_name}}
 use Rattle.nntp_article.specs.{Article.Parts.{Id}, Session.{Spool.{Name}, Machine.{is_same}}, declared.session.profile.Profile.{Profile}}
 use Rattle.nntp_said.specs.{Asks.{Ask, Estimates}, Facts.{Fact, ThereIs, Asks, GroupsAre}}
 use Rattle.nntp_theory.specs.{Given.{asks_of, shows_group, is_shown_group, first_given, id_in}, Together.{denies_group, number_in}, Inner.Together.{said_of}}
 use Rattle.nntp_theory.{specs.Conflict.{widest, the_group}, proofs.Together.FactsJoin.{asks_append}}
-use Rattle.nntp_facts.specs.Inner.{Saying.{OfGroup, Saying, asked_id, facts_in, facts_told, IsAlone}, ListedGroups.{MayList}}
-use Rattle.nntp_facts.specs.Inner.{ListedGroups.{is_listed}, Points.{Statement, TellsAlone, shows_name, denies_name, id_said, id_told, place_said, place_told, said_by}}
-use Rattle.nntp_facts.specs.Inner.Points.{bounds_of}
-use Rattle.nntp_facts.proofs.Keeping.{PartsJoin.{no_group_is}, OverviewsTold.{plain_told, plain_alone, shown_by_told, denied_by_told, said_by_told, asks_by_told}}
-use Rattle.nntp_facts.proofs.Keeping.OverviewsTold.{ids_by_told, places_by_told}
-use Rattle.nntp_wire.specs.Decided.{matches_name}
+use Rattle.nntp_facts.specs.Inner.{Saying.{OfGroup, Saying, asked_id, facts_in, facts_told, IsAlone}, ListedGroups.{MayList, is_listed}, Points.{Statement}}
+use Rattle.nntp_facts.specs.Inner.Points.{TellsAlone, shows_name, denies_name, id_said, id_told, place_said, place_told, said_by, bounds_of}
+use Rattle.nntp_facts.proofs.Keeping.{PartsJoin.{no_group_is}, OverviewsTold.{plain_told, plain_alone, shown_by_told, denied_by_told, said_by_told}}
+use Rattle.nntp_facts.proofs.Keeping.OverviewsTold.{asks_by_told, ids_by_told, places_by_told}
 
 or_no : (b : Bool) → (b || false) ≡ b
 or_no b = grind arith

@@ -1,16 +1,16 @@
 -- What each part of an answer has to join, and what is kept then.
-use Rattle.std.specs.{Prelude.{◌≡◌, ◌&&◌, ◌==◌, not, ℕ, Bool, true, false, if◌then◌else◌, List, [], ◌∷◌, ◌++◌, Option, None, Some, MatchOption, IfSome, IsTrue, IsFalse, ⊤}, List.{list_any}}
-use Rattle.std.specs.Option.{option_or, option_map_or}
+use Rattle.std.specs.Prelude.{◌≡◌, ◌&&◌, ◌==◌, not, ℕ, Bool, true, false, if◌then◌else◌, List, [], ◌∷◌, ◌++◌, Option, None, Some, MatchOption, IfSome, IsTrue}
+use Rattle.std.specs.{Prelude.{IsFalse, ⊤}, List.{list_any}, Option.{option_or, option_map_or}, Ordering.{nat_cmp}, Cmp.Lexicographic.{slice_cmp}}
+use Rattle.std.specs.FinMap.{FinMap, get}
 use Rattle.nntp_wire.specs.{Listing.{OverviewValue}, declared.range.Range.{Range}}
-use Rattle.std.specs.{Ordering.{nat_cmp}, Cmp.Lexicographic.{slice_cmp}, FinMap.{FinMap, get}}
 use Rattle.nntp_article.specs.{Article.Parts.{Id}, Session.{Spool.{Name}, Machine.{is_same, head_fits, overview_numbers}}}
 use Rattle.nntp_said.specs.{Asks.{Ask, ListsIn}, Facts.{Fact}}
 use Rattle.nntp_theory.specs.{Given.{asks_of, is_shown_group}, Inner.Together.{AsksStand, SaidOfArticle, said_of, said_nothing, join_said, JoinArticle}}
 use Rattle.nntp_theory.specs.Together.{denies_group, shows_article, denies_article}
 use Rattle.nntp_numbers.specs.Inner.{Part.{Says, only_has}, Summary.{AddsNothing}}
 use Rattle.nntp_facts.specs.Inner.{Saying.{OfGroup, OfArticle, Lacks, Exists, Sends, Saying, asked_id}, Kept.{KeptGroup, Told, told, Agree, MayShow}}
-use Rattle.nntp_facts.specs.Inner.ListedOverviews.{HaveOwn, id_listed, place_listed}
-use Rattle.nntp_facts.specs.Inner.{Kept.{KeptArticle, said_kept, IsAddedIf}, Articles.{head_sent, body_sent, denied, unsent, with_sent}}
+use Rattle.nntp_facts.specs.Inner.{Kept.{KeptArticle, said_kept, IsAddedIf}, ListedOverviews.{HaveOwn, id_listed, place_listed}, Articles.{head_sent}}
+use Rattle.nntp_facts.specs.Inner.Articles.{body_sent, denied, unsent, with_sent}
 
 -- ---- of a group
 

@@ -1,14 +1,14 @@
 -- What a bad answer and accepted ones say, each by itself, as points of conflict are looked for.
-use Rattle.std.specs.Prelude.{◌≡◌, true, false, ◌<◌, ◌||◌, ◌&&◌, ◌==◌, not, ℕ, Bool, List, [], ◌∷◌, ◌++◌, Option, None, Some, option_map, if◌then◌else◌, MatchOption}
-use Rattle.std.specs.{List.{AllByRecursion, flat_map}, Option.{option_map_or}}
+use Rattle.std.specs.Prelude.{◌≡◌, true, false, ◌<◌, ◌||◌, ◌&&◌, ◌==◌, not, ℕ, Bool, List, [], ◌∷◌, ◌++◌, Option, None, Some, option_map, if◌then◌else◌}
+use Rattle.std.specs.{Prelude.{MatchOption}, List.{AllByRecursion, flat_map}, Option.{option_map_or}}
 use Rattle.nntp_article.specs.{Article.Parts.{Id}, Session.{Spool.{Name}, Machine.{is_same}}, declared.session.profile.Profile.{Profile}}
 use Rattle.nntp_article.specs.Inner.Misfit.{numbers_of}
 use Rattle.nntp_wire.specs.{Decided.{matches_name}, Listing.{ActiveValue}}
 use Rattle.nntp_said.specs.{Asks.{Ask, Bounds}, Facts.{Fact, group_of}}
-use Rattle.nntp_theory.specs.{Inner.{Together.{IsWellFormed, AgreeWithin, Together, SaidOfArticle}, Conflict.{FitsThere}}, Conflict.{Placed, told, with_group, Point, Number}}
-use Rattle.nntp_theory.specs.Conflict.{Count, First, IdOf, PlaceOf, rank, ConflictAt}
-use Rattle.nntp_facts.specs.Inner.{Kept.{id_of, place_of, Kept, IsKept}, ListedGroups.{is_listed}, ListedOverviews.{id_listed, place_listed}}
-use Rattle.nntp_facts.specs.Inner.{Noted.{FactsKept, profile_kept}, KeptSaying.{said_in, said_listed}, Saying.{Saying, Tells}}
+use Rattle.nntp_theory.specs.{Inner.{Together.{IsWellFormed, AgreeWithin, Together, SaidOfArticle}, Conflict.{FitsThere}}, Conflict.{Placed, told, with_group}}
+use Rattle.nntp_theory.specs.Conflict.{Point, Number, Count, First, IdOf, PlaceOf, rank, ConflictAt}
+use Rattle.nntp_facts.specs.Inner.{Kept.{id_of, place_of, Kept, IsKept}, ListedGroups.{is_listed}, ListedOverviews.{id_listed, place_listed}, Noted.{FactsKept}}
+use Rattle.nntp_facts.specs.Inner.{Noted.{profile_kept}, KeptSaying.{said_in, said_listed}, Saying.{Saying, Tells}}
 
 -- ---- what the last answer of a conflict says
 

@@ -1,7 +1,6 @@
 use Rattle.std.{proofs.{Common.{◌≡◌, true, false, Option, is_some, refl, sym, ap, subst, ◌∙◌, arith}, Math.Path.{ap₂}}, specs.Prelude.{is_none}}
 use Rattle.nntp_wire.specs.Inner.{View.{asked}, AnswerView.{response}}
-use Rattle.nntp_article.specs.{Session.Machine.{visible_after}, Inner.Listed.{lists_of}}
-use Rattle.nntp_article.proofs.SessionLemmas.Misfits.{fits_by_reason}
+use Rattle.nntp_article.{specs.{Session.Machine.{visible_after}, Inner.Listed.{lists_of}}, proofs.SessionLemmas.Misfits.{fits_by_reason}}
 use Rattle.nntp_said.specs.Asks.{position_after}
 use Rattle.nntp_facts.{specs.Inner.{Kept.{AreAdded}, Noted.{profile_kept, HasNotedBehind}}, proofs.Keeping.NotedExchange.{unfit, weighed, refused, accepted}}
 use Rattle.nntp_facts.proofs.facts.Facts.note_listing.Goals as goal

@@ -1,10 +1,9 @@
-use Rattle.std.proofs.{Common.{◌≡◌, ℕ, true, [], Some, sym, ap, subst, ◌∙◌}, lemmas.Bool.{true≢false}}
-use Rattle.std.specs.{Prelude.{IsFalse, option_map}, List.{list_any}, Rc.{rc_str_bytes}}
-use Rattle.nntp_theory.specs.Together.{denies_article}
+use Rattle.std.{proofs.{Common.{◌≡◌, ℕ, true, [], Some, sym, ap, subst, ◌∙◌}, lemmas.Bool.{true≢false}}, specs.{Prelude.{IsFalse, option_map}, List.{list_any}}}
+use Rattle.std.specs.Rc.{rc_str_bytes}
+use Rattle.nntp_theory.{specs.Together.{denies_article}, proofs.OkResults.{on_ok}}
 use Rattle.nntp_article.specs.Article.Parts.{Id}
-use Rattle.nntp_theory.proofs.OkResults.{on_ok}
-use Rattle.nntp_facts.specs.Inner.{Kept.{AreKept, AreKeptArticles, AreKeptWith, Agree, MayShow}, KeptSaying.{AreKeptThen, IsTextOf}, Saying.{Exists}, SayingView.{id_at}}
-use Rattle.nntp_facts.proofs.Keeping.OverviewsJoin.{surely_added}
+use Rattle.nntp_facts.specs.Inner.{Kept.{AreKept, AreKeptArticles, AreKeptWith, Agree, MayShow}, KeptSaying.{AreKeptThen, IsTextOf}, Saying.{Exists}}
+use Rattle.nntp_facts.{specs.Inner.SayingView.{id_at}, proofs.Keeping.OverviewsJoin.{surely_added}}
 use Rattle.nntp_facts.proofs.kept.Kept.give.Goals as goal
 
 pub returns-clause-kept : goal.returns-clause-kept

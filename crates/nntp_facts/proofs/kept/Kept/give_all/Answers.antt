@@ -1,11 +1,10 @@
-use Rattle.std.proofs.{Common.{◌≡◌, ◌+◌, [], ◌∷◌, ◌++◌, map, take, drop, refl, sym, ap, subst, ◌∙◌, arith, take_all}, lemmas.List.{take-append-drop, map-append}}
-use Rattle.std.specs.FinMap.{get}
+use Rattle.std.proofs.{Common.{◌≡◌, ◌+◌, [], ◌∷◌, ◌++◌, map, take, drop, refl, sym, ap, subst, ◌∙◌, arith, take_all}, lemmas.List.{take-append-drop}}
+use Rattle.std.{proofs.lemmas.List.{map-append}, specs.FinMap.{get}}
 use Rattle.nntp_wire.specs.{Listing.{OverviewValue}, Inner.View.{overview_value}}
-use Rattle.nntp_article.proofs.SessionLemmas.LinesLeft.{next_left, one_more}
-use Rattle.nntp_article.specs.Article.Parts.{Id}
+use Rattle.nntp_article.{proofs.SessionLemmas.LinesLeft.{next_left, one_more}, specs.Article.Parts.{Id}}
 use Rattle.nntp_theory.specs.Inner.Together.{join_said, said_of}
-use Rattle.nntp_facts.specs.Inner.{Kept.{AreKept, said_kept}, KeptSaying.{said_listed, with_overviews}}
-use Rattle.nntp_facts.proofs.Keeping.{OverviewsJoin.{none_yet, so_far, articles_so_far, articles_next, may_give_next, one_more_given}, SaidOfArticles.{nothing_more}}
+use Rattle.nntp_facts.{specs.Inner.{Kept.{AreKept, said_kept}, KeptSaying.{said_listed, with_overviews}}, proofs.Keeping.OverviewsJoin.{none_yet, so_far}}
+use Rattle.nntp_facts.proofs.Keeping.{OverviewsJoin.{articles_so_far, articles_next, may_give_next, one_more_given}, SaidOfArticles.{nothing_more}}
 use Rattle.nntp_facts.proofs.kept.Kept.give_all.Goals as goal
 
 pub loop-overview-init : goal.loop-overview-init

@@ -1,11 +1,10 @@
-use Rattle.std.proofs.Common.{◌≡◌, true, map, take}
-use Rattle.std.specs.{List.{AllByRecursion}, FinMap.{get}}
+use Rattle.std.{proofs.Common.{◌≡◌, true, map, take}, specs.{List.{AllByRecursion}, FinMap.{get}, Prelude.{List}}}
 use Rattle.nntp_wire.specs.Inner.View.{overview_value}
 use Rattle.nntp_article.specs.{Article.Parts.{Id}, Session.Spool.{Name}}
 use Rattle.nntp_said.specs.Facts.{Fact}
 use Rattle.nntp_theory.specs.Inner.Together.{join_said, said_of}
-use Rattle.nntp_facts.specs.Inner.{Kept.{AreKept, AreKeptArticles, Told, said_kept}, KeptSaying.{MayGive, said_listed, with_overviews}, ListedOverviews.{HaveOwn}}
-use Rattle.std.specs.Prelude.{List}
+use Rattle.nntp_facts.specs.Inner.{Kept.{AreKept, AreKeptArticles, Told, said_kept}, KeptSaying.{MayGive, said_listed, with_overviews}}
+use Rattle.nntp_facts.specs.Inner.ListedOverviews.{HaveOwn}
 use Rattle.nntp_facts.proofs.kept.Kept.give_all.Given as goal
 
 -- the overviews so far are told and kept

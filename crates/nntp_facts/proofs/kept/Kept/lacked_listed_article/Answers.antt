@@ -1,8 +1,7 @@
 use Rattle.std.{proofs.Common.{◌≡◌, cond, false, Some, None, sym, subst, ◌∙◌}, specs.{Prelude.{option_map}, Option.{option_map_or}, FinMap.{get}}}
 use Rattle.nntp_wire.specs.{Listing.{OverviewValue, overviews_of}, Inner.View.{overview_value}}
 use Rattle.nntp_theory.specs.Conflict.{Article}
-use Rattle.nntp_facts.specs.Inner.PointView.{point_of}
-use Rattle.nntp_facts.proofs.Keeping.ListedOverviews.{first_here, first_behind}
+use Rattle.nntp_facts.{specs.Inner.PointView.{point_of}, proofs.Keeping.ListedOverviews.{first_here, first_behind}}
 use Rattle.nntp_facts.proofs.kept.Kept.lacked_listed_article.Goals as goal
 
 pub returns-then-is_some : goal.returns-then-is_some

@@ -1,8 +1,9 @@
-use Rattle.std.{proofs.{Common.{◌≡◌, true, None, map, sym, ap, subst, ◌∙◌}, lemmas.Bool.{true≢false}}}
+use Rattle.std.proofs.{Common.{◌≡◌, true, None, map, sym, ap, subst, ◌∙◌}, lemmas.Bool.{true≢false}}
 use Rattle.nntp_wire.specs.Inner.View.{overview_value}
 use Rattle.nntp_theory.proofs.OkResults.{on_ok}
-use Rattle.nntp_facts.specs.Inner.{Kept.{Kept as KeptValue, IsKept, Told, told, Agree, MayShow, Changes, with_part}, KeptSaying.{IsTextOf}, SayingView.{of_group}}
-use Rattle.nntp_facts.proofs.Keeping.OverviewsJoin.{asks, numbers_told, numbers_change, here_told, all_given, overviews_kept}
+use Rattle.nntp_facts.specs.Inner.{Kept.{Kept as KeptValue, IsKept, Told, told, Agree, MayShow, Changes, with_part}, KeptSaying.{IsTextOf}}
+use Rattle.nntp_facts.{specs.Inner.SayingView.{of_group}, proofs.Keeping.OverviewsJoin.{asks, numbers_told, numbers_change, here_told, all_given}}
+use Rattle.nntp_facts.proofs.Keeping.OverviewsJoin.{overviews_kept}
 use Rattle.nntp_facts.proofs.kept.Kept.list_overviews.Goals as goal
 
 pub returns : goal.returns

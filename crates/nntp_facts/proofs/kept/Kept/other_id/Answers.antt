@@ -1,6 +1,6 @@
 use Rattle.std.{proofs.Common.{ap, sym, subst, ◌++◌}, specs.Prelude.{option_map}}
-use Rattle.nntp_facts.specs.Inner.{Kept.{told}, Points.{IsPointOf}, PointView.{point_of}, SayingView.{of_group, id_at, overviews_said}, StatementView.{statement_of}}
-use Rattle.nntp_facts.proofs.PointsFound.IdsBeside.{no_ids, no_id, id_point, listed_id_point}
+use Rattle.nntp_facts.specs.Inner.{Kept.{told}, Points.{IsPointOf}, PointView.{point_of}, SayingView.{of_group, id_at, overviews_said}}
+use Rattle.nntp_facts.{specs.Inner.StatementView.{statement_of}, proofs.PointsFound.IdsBeside.{no_ids, no_id, id_point, listed_id_point}}
 use Rattle.nntp_facts.proofs.kept.Kept.other_id.Goals as goal
 
 pub returns-in_default : goal.returns-in_default

@@ -1,8 +1,7 @@
 use Rattle.std.{proofs.Common.{◌≡◌, Option, ap, sym, subst, ◌∙◌}, specs.Prelude.{option_map}}
 use Rattle.nntp_wire.specs.{Listing.{OverviewValue, overviews_of}, Inner.View.{overview_value}}
 use Rattle.nntp_theory.specs.{Given.{first_given}, Conflict.{Point}}
-use Rattle.nntp_facts.specs.Inner.{PointView.{point_of}, Points.{other_id_at}}
-use Rattle.nntp_facts.proofs.Keeping.ListedOverviews.{first_here, first_behind}
+use Rattle.nntp_facts.{specs.Inner.{PointView.{point_of}, Points.{other_id_at}}, proofs.Keeping.ListedOverviews.{first_here, first_behind}}
 use Rattle.nntp_facts.proofs.kept.Kept.other_listed_id.Goals as goal
 
 pub returns-then-is_some : goal.returns-then-is_some

@@ -1,6 +1,6 @@
 use Rattle.std.{proofs.Common.{ap, sym, subst, ◌++◌}, specs.Prelude.{option_map}}
-use Rattle.nntp_facts.specs.Inner.{Kept.{told}, Points.{IsPointOf}, PointView.{point_of}, SayingView.{of_group, id_at, overviews_said}, StatementView.{statement_of}}
-use Rattle.nntp_facts.proofs.PointsFound.IdsBeside.{no_places, no_place, place_point, listed_place_point}
+use Rattle.nntp_facts.specs.Inner.{Kept.{told}, Points.{IsPointOf}, PointView.{point_of}, SayingView.{of_group, id_at, overviews_said}}
+use Rattle.nntp_facts.{specs.Inner.StatementView.{statement_of}, proofs.PointsFound.IdsBeside.{no_places, no_place, place_point, listed_place_point}}
 use Rattle.nntp_facts.proofs.kept.Kept.other_place.Goals as goal
 
 pub returns-in_default : goal.returns-in_default
