@@ -33,36 +33,15 @@ of_part s name d placed may id = grind (arith, nothing_more, there_said, text_sa
 
 -- of the parts none is a list of overviews
 parts_agree : (s : Saying) (asks : List Ask) → AllByRecursion AgreesWithItself (facts_in s asks)
-parts_agree s asks =
-    all_both AgreesWithItself (sent_facts s.article) _ (sent s.article) (all_both AgreesWithItself (there_facts s.there_is) _ (there s.there_is)
-    (all_both AgreesWithItself (group_facts s.group asks) _ (of s.group) (all_both AgreesWithItself (missing_facts s.there_is_no) _ (missing s.there_is_no)
-    (all_both AgreesWithItself (lack_facts s.article) _ (lack s.article) (groups s.groups)))))
+parts_agree s asks = by s.article s.there_is s.group s.there_is_no s.groups
   where
-    sent : (a : Option (Id × OfArticle)) → AllByRecursion AgreesWithItself (sent_facts a)
-    sent a = grind arith
+    of : (name : Name) (id : Option (ℕ × Id)) (asks : List Ask) → AllByRecursion AgreesWithItself (map (Asks name) asks ++ id_facts name id)
+    of name id [] = grind arith
+    of name id (ask ∷ asks) = (tt, of name id asks)
 
-    lack : (a : Option (Id × OfArticle)) → AllByRecursion AgreesWithItself (lack_facts a)
-    lack a = grind arith
-
-    there : (o : Option Name) → AllByRecursion AgreesWithItself (there_facts o)
-    there o = grind arith
-
-    missing : (o : Option Name) → AllByRecursion AgreesWithItself (missing_facts o)
-    missing o = grind arith
-
-    groups : (o : Option (Option (List ℕ) × List ActiveValue)) → AllByRecursion AgreesWithItself (groups_facts o)
-    groups o = grind arith
-
-    asked : (name : Name) (asks : List Ask) → AllByRecursion AgreesWithItself (map (Asks name) asks)
-    asked name [] = tt
-    asked name (ask ∷ asks) = (tt, asked name asks)
-
-    at : (name : Name) (id : Option (ℕ × Id)) → AllByRecursion AgreesWithItself (id_facts name id)
-    at name id = grind arith
-
-    of : (g : Option OfGroup) → AllByRecursion AgreesWithItself (group_facts g asks)
-    of None = tt
-    of (Some g) = all_both AgreesWithItself (map (Asks g.name) asks) (id_facts g.name g.id) (asked g.name asks) (at g.name g.id)
+    by : (a : Option (Id × OfArticle)) (t : Option Name) (g : Option OfGroup) (m : Option Name) (l : Option (Option (List ℕ) × List ActiveValue))
+        → AllByRecursion AgreesWithItself (sent_facts a ++ (there_facts t ++ (group_facts g asks ++ (missing_facts m ++ (lack_facts a ++ groups_facts l)))))
+    by a t g m l = grind (arith, all_both, of)
 
 -- ids and numbers of what is told agree where facts stand together
 pub agree_told : (facts : List Fact) → Together facts → (name : Name) (id : Option (ℕ × Id)) → Agree (told facts name).ids (told facts name).places id

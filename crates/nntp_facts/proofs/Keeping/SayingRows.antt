@@ -80,28 +80,6 @@ module _ (v : Visible) (facts : List Fact) (is_shown : IsSelectedShown v facts) 
       → Row shown (Asks (here v) ask ∷ [])
   ask_row shown ask there says small = record { tells = record { asks = ask ∷ []; same = refl; may = assumption (says small, here_shown (ask ∷ []) there) }; group = refl; there = inr refl }
 
-  -- overviews of numbers of the selected group
-  overviews_row : (range : Range) (os : List OverviewValue) → IsTrue (is_some v.selected)
-      → (IsSmall (part_with (overview_numbers os) (ListsIn range (overview_numbers os)) nothing_said) → Says (part_with (overview_numbers os) (ListsIn range (overview_numbers os)) nothing_said)
-      (ListsIn range (overview_numbers os) ∷ [])) → HaveOwn os → Row (overview_numbers os) (OverviewsAre (here v) range os ∷ [])
-  overviews_row range os there says own small = record {
-    tells = record {
-      asks = ListsIn range (overview_numbers os) ∷ [];
-      same = refl;
-      may = record {
-        numbers = says small;
-        shown = here_shown (ListsIn range (overview_numbers os) ∷ []) there;
-        there = tt;
-        placed = tt;
-        article = tt;
-        overviews = record { lists = refl; own = own; group = refl; there_is = refl; there_is_no = refl; article = refl; groups = refl };
-        groups = tt;
-      };
-    };
-    group = refl;
-    there = inr refl;
-  }
-
   -- a step
   step_row : (ask : Ask) (n : ℕ) (id : Id) → IsTrue (is_some v.selected) → (IsSmall (part_with (n ∷ []) ask nothing_said) → Says (part_with (n ∷ []) ask nothing_said) (ask ∷ Has n ∷ []))
       → Row (n ∷ []) (Asks (here v) ask ∷ IdAt (here v) n id ∷ [])
@@ -143,9 +121,10 @@ module _ (v : Visible) (facts : List Fact) (is_shown : IsSelectedShown v facts) 
       ask_row [] (ListsIn range []) (known f) (λ small. says_listed range [] fit small (listable profile range [] (refl, refl))) small
   said_row {profile} fit (rows.within range lines known) f small =
       let os = overviews_of lines in
-      let ns = overview_numbers os in
-      overviews_row range os (known f).0 (λ small. says_listed range ns fit small (listable profile range ns (known f).1))
-      (record { numbers = (known f).1.0; ids = (known f).2 }) small
+      let asks = ListsIn range (overview_numbers os) ∷ [] in
+      let says = says_listed range (overview_numbers os) fit small (listable profile range (overview_numbers os) (known f).1) in
+      let own : HaveOwn os = record { numbers = (known f).1.0; ids = (known f).2 } in
+      record { tells = record { asks = asks; same = refl; may = assumption (says, here_shown asks (known f).0, own) }; group = refl; there = inr refl }
   said_row fit (rows.lacks code n known) f small = ask_row [] (Lacks n) (known f) (λ small. says_lacks [] n small.last) small
   said_row {profile} fit (rows.marks m name known) f small =
       tells_marks facts name _ profile.marks m _ _ (says_marks [] profile.marks m small.high) (marks_bounded profile.marks m small.high) refl refl

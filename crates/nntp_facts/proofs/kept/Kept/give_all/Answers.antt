@@ -1,10 +1,10 @@
 use Rattle.std.proofs.{Common.{◌≡◌, ◌+◌, [], ◌∷◌, ◌++◌, map, take, drop, refl, sym, ap, subst, ◌∙◌, arith, take_all}, lemmas.List.{take-append-drop}}
-use Rattle.std.{proofs.lemmas.List.{map-append}, specs.FinMap.{get}}
+use Rattle.std.{proofs.lemmas.List.{map-append}, specs.{FinMap.{get}, List.{AllByRecursion}}}
 use Rattle.nntp_wire.specs.{Listing.{OverviewValue}, Inner.View.{overview_value}}
 use Rattle.nntp_article.{proofs.SessionLemmas.LinesLeft.{next_left, one_more}, specs.Article.Parts.{Id}}
 use Rattle.nntp_theory.specs.Inner.Together.{join_said, said_of}
-use Rattle.nntp_facts.{specs.Inner.{Kept.{AreKept, said_kept}, KeptSaying.{said_listed, with_overviews}}, proofs.Keeping.OverviewsJoin.{none_yet, so_far}}
-use Rattle.nntp_facts.proofs.Keeping.{OverviewsJoin.{articles_so_far, articles_next, may_give_next, one_more_given}, SaidOfArticles.{nothing_more}}
+use Rattle.nntp_facts.{specs.Inner.{Kept.{AreKept, said_kept}, KeptSaying.{MayGive, said_listed, with_overviews}, ListedOverviews.{HaveOwn}}, proofs.Keeping.OverviewsJoin.{none_yet, so_far}}
+use Rattle.nntp_facts.proofs.Keeping.{OverviewsJoin.{said_so_far, said_next, may_give_next, one_more_given}, SaidOfArticles.{nothing_more}}
 use Rattle.nntp_facts.proofs.kept.Kept.give_all.Goals as goal
 
 pub loop-overview-init : goal.loop-overview-init
@@ -31,13 +31,12 @@ loop-overview-preserved g c = (
       let whole : all ≡ front ++ o ∷ rest =
       ap (map overview_value) (sym (take-append-drop i overviews)) ∙ map-append overview_value (take i overviews) (drop i overviews) ∙ ap (λ left. front ++ left) steps in
       let so = c.loop-overview.invariant.1 facts tells kept articles shown own may in
-      let given = c.in_ok-give.ensures.kept (so_far facts tells name front o rest) (with_overviews tells name front) so.0
-      (articles_so_far facts tells name front o rest c.loop-overview.self.articles so.1)
-      (may_give_next facts tells name front o rest all whole own may) in
+      let given = c.in_ok-give.ensures.kept (so_far facts tells name front o) (with_overviews tells name front) so.0 (λ id. said_so_far facts tells name front o id ∙ so.1 id)
+      (may_give_next facts tells name front o rest (subst HaveOwn whole own) (subst (AllByRecursion (MayGive facts (tells name))) whole may)) in
       subst (λ os. AreKept (with_overviews tells name os) c.give.new.self.groups × ((id : Id) → join_said (said_of facts id) (said_listed os id) ≡ said_kept (get c.give.new.self.articles id)))
       (sym (one_more overview_value overviews i c.overview-item.result c.loop-overview-test.true c.overview-item.is)) (
-        given.0 (with_overviews tells name (front ++ o ∷ [])) (one_more_given tells name front o),
-        articles_next facts tells name front o rest c.give.new.self.articles given.1,
+        given.0 (with_overviews tells name (front ++ o ∷ [])) (one_more_given facts tells name front o),
+        λ id. said_next facts tells name front o id ∙ given.1 id,
       ),
 )
 
