@@ -33,15 +33,18 @@ of_part s name d placed may id = grind (arith, nothing_more, there_said, text_sa
 
 -- of the parts none is a list of overviews
 parts_agree : (s : Saying) (asks : List Ask) → AllByRecursion AgreesWithItself (facts_in s asks)
-parts_agree s asks = by s.article s.there_is s.group s.there_is_no s.groups
+parts_agree s asks = front s.article s.there_is _ (of s.group asks _ (back s.article s.there_is_no s.groups))
   where
-    of : (name : Name) (id : Option (ℕ × Id)) (asks : List Ask) → AllByRecursion AgreesWithItself (map (Asks name) asks ++ id_facts name id)
-    of name id [] = grind arith
-    of name id (ask ∷ asks) = (tt, of name id asks)
+    front : (a : Option (Id × OfArticle)) (o : Option Name) (more : List Fact) → AllByRecursion AgreesWithItself more → AllByRecursion AgreesWithItself (sent_facts a ++ (there_facts o ++ more))
+    front a o more h = grind arith
 
-    by : (a : Option (Id × OfArticle)) (t : Option Name) (g : Option OfGroup) (m : Option Name) (l : Option (Option (List ℕ) × List ActiveValue))
-        → AllByRecursion AgreesWithItself (sent_facts a ++ (there_facts t ++ (group_facts g asks ++ (missing_facts m ++ (lack_facts a ++ groups_facts l)))))
-    by a t g m l = grind (arith, all_both, of)
+    of : (g : Option OfGroup) (asks : List Ask) (more : List Fact) → AllByRecursion AgreesWithItself more → AllByRecursion AgreesWithItself (group_facts g asks ++ more)
+    of None asks more h = h
+    of (Some g) [] more h = grind arith
+    of (Some g) (ask ∷ asks) more h = (tt, of (Some g) asks more h)
+
+    back : (a : Option (Id × OfArticle)) (o : Option Name) (l : Option (Option (List ℕ) × List ActiveValue)) → AllByRecursion AgreesWithItself (missing_facts o ++ (lack_facts a ++ groups_facts l))
+    back a o l = grind arith
 
 -- ids and numbers of what is told agree where facts stand together
 pub agree_told : (facts : List Fact) → Together facts → (name : Name) (id : Option (ℕ × Id)) → Agree (told facts name).ids (told facts name).places id
