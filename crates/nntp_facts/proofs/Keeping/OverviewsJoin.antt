@@ -34,6 +34,10 @@ put_there tells name t = ap (λ b. cond b t (tells name)) (same_itself name)
 pub put_changes : (tells before : Name → Told) (name : Name) (t u : Told) → ((other : Name) → is_same name other ≡ false → before other ≡ tells other) → t ≡ u → Changes before (put tells name t) name u
 put_changes tells before name t u same is = record { here = put_there tells name t ∙ is; elsewhere = λ other apart. ap (λ b. cond b t (tells other)) apart ∙ sym (same other apart) }
 
+-- these overviews are told and kept
+abbrev pub AreGiven : List Fact → (Name → Told) → Name → List OverviewValue → Kept → Type 0
+AreGiven facts tells name os k = AreKept (with_overviews tells name os) k.groups × ((id : Id) → join_said (said_of facts id) (said_listed os id) ≡ said_kept (get k.articles id))
+
 module _ (facts : List Fact) (name : Name) (r : Range) (os : List OverviewValue) where
   -- the overviews as a fact, and as an ask
   abbrev pub more : List Fact
@@ -128,20 +132,14 @@ module _ (facts : List Fact) (name : Name) (r : Range) (os : List OverviewValue)
             ids = λ n. given (id_in name n) (id_listed os n) (listed_ids name r os name n ∙ ap (λ b. cond b (id_listed os n) None) (same_itself name)) i;
             places = λ id. given (number_in name id) (place_listed os id) (listed_places name r os name id ∙ ap (λ b. cond b (place_listed os id) None) (same_itself name)) i;
           }) ∙ ap (told (facts ++ more)) (same_text name other (sym e))
-      by false e = ap (λ b. cond b asked_told (told facts other)) e ∙ sym (told_same facts more other (record {
-            not_shown = refl;
-            no_asks = asked_elsewhere name asks more (listed_asks name r os) other e;
-            no_ids = λ n. listed_ids name r os other n ∙ ap (λ b. cond b (id_listed os n) None) e;
-            no_places = λ id. listed_places name r os other id ∙ ap (λ b. cond b (place_listed os id) None) e;
-          }))
+      by false e = ap (λ b. cond b asked_told (told facts other)) e ∙ sym (told_same facts more other (grind (arith, e)))
 
   -- all is kept where the groups and articles are kept with the overviews, and of names what was
-  pub overviews_kept : is_shown_group facts name ≡ true → (old new : Kept) → IsKept facts old → new.names ≡ old.names → AreKept (with_overviews (put (told facts) name asked_told) name os) new.groups
-      → ((id : Id) → join_said (said_of facts id) (said_listed os id) ≡ said_kept (get new.articles id)) → IsKept (facts ++ more) new
-  overviews_kept shown old new kept names groups articles = record {
-    groups = subst (λ tells. AreKept tells new.groups) (λ i other. all_told shown other i) groups;
+  pub overviews_kept : is_shown_group facts name ≡ true → (old new : Kept) → IsKept facts old → new.names ≡ old.names → AreGiven facts (put (told facts) name asked_told) name os new → IsKept (facts ++ more) new
+  overviews_kept shown old new kept names given = record {
+    groups = subst (λ tells. AreKept tells new.groups) (λ i other. all_told shown other i) given.0;
     names = subst (AreKeptNames (facts ++ more)) (sym names) (names_kept facts more old.names (λ other. refl) kept.names);
-    articles = λ id. said_append facts more id ∙ ap (join_said (said_of facts id)) (listed_said name r os id) ∙ articles id;
+    articles = λ id. said_append facts more id ∙ ap (join_said (said_of facts id)) (listed_said name r os id) ∙ given.1 id;
   }
 
 -- ---- one overview after the other
@@ -184,12 +182,12 @@ module _ (facts : List Fact) (tells : Name → Told) (name : Name) (front : List
 
   -- the article of one more is said
   pub said_next : (id : Id) → join_said (said_of facts id) (said_listed (front ++ o ∷ []) id) ≡ join_said (said_of so_far id) (said_in (Some (o.id, Exists)) id)
-  said_next id = ap (λ b. join_said (said_of facts id) (cond b (said_kept (Some unsent)) said_nothing)) (list_any-append (λ (v : OverviewValue). is_same v.id id) front (o ∷ []))
-      ∙ by (list_any (λ v. is_same v.id id) front) (is_same o.id id) (said_of facts id) ∙ ap (λ s. join_said s (said_in (Some (o.id, Exists)) id)) (sym (said_so_far id))
+  said_next id = by (list_any (λ v. is_same v.id id) front) (is_same o.id id) (said_of facts id) (said_of so_far id) (said_so_far id)
+      (list_any-append (λ (v : OverviewValue). is_same v.id id) front (o ∷ []))
     where
-      by : (a b : Bool) (before : SaidOfArticle) → join_said before (cond (a || (b || false)) (said_kept (Some unsent)) said_nothing)
-          ≡ join_said (join_said before (cond a (said_kept (Some unsent)) said_nothing)) (cond b (said_kept (Some unsent)) said_nothing)
-      by a b before = grind (arith, or-false, or_none)
+      by : (a b : Bool) {c : Bool} (before then : SaidOfArticle) → then ≡ join_said before (cond a (said_kept (Some unsent)) said_nothing) → c ≡ (a || (b || false))
+          → join_said before (cond c (said_kept (Some unsent)) said_nothing) ≡ join_said then (cond b (said_kept (Some unsent)) said_nothing)
+      by a b before then is e = grind (arith, or-false, or_none)
 
   -- what may be given of the next one beside what was told before, may be given beside those in front too
   pub may_give_next : (rest : List OverviewValue) → HaveOwn (front ++ o ∷ rest) → AllByRecursion (MayGive facts (tells name)) (front ++ o ∷ rest) → MayGive so_far (with_overviews tells name front name) o

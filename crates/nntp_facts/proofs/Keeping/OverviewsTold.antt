@@ -56,49 +56,47 @@ module _ (facts : List Fact) (s : Saying) (asks : List Ask) (may : MaySay facts 
 
   -- what is read off facts is that of the overviews, or that of the other parts
   read_told : {M : Type 0} (read : List Fact → M) (value : Overviews → M) → read (facts_in s asks) ≡ value None
-      → ((o : Range × List OverviewValue) → s.overviews ≡ Some o → (g : OfGroup) → s.group ≡ Some g → read (OverviewsAre g.name o.0 o.1 ∷ []) ≡ value (Some o))
-      → read (facts_told s asks) ≡ value s.overviews
+      → ((o : Range × List OverviewValue) → s.overviews ≡ Some o → read (overviews_facts s.group o) ≡ value (Some o)) → read (facts_told s asks) ≡ value s.overviews
   read_told {M} read value plain listed = by s.overviews refl
     where
-      by : (o : Overviews) → s.overviews ≡ o → read (facts_told s asks) ≡ value s.overviews
-      by None e = ap read (plain_told e) ∙ plain ∙ sym (ap value e)
-      by (Some o) e = let g = group_there o e in ap read (overviews_told o e g.0 g.1) ∙ listed o e g.0 g.1 ∙ sym (ap value e)
+      by : (o : Overviews) → s.overviews ≡ o → read (option_map_or (overviews_facts s.group) o (facts_in s asks)) ≡ value o
+      by None e = plain
+      by (Some o) e = listed o e
 
   -- ---- where no groups are listed
 
   module _ (no_list : s.groups ≡ None) where
+    -- overviews show no group and deny none
+    silent : (g : Option OfGroup) (o : Range × List OverviewValue) (name : Name) → (is_shown_group (overviews_facts g o) name ≡ false) × (list_any (denies_group name) (overviews_facts g o) ≡ false)
+    silent g o name = grind arith
+
     pub shown_by_told : (name : Name) → is_shown_group (facts_told s asks) name ≡ option_map_or (λ g. is_same g name) s.there_is false
     shown_by_told name =
         read_told (λ facts. is_shown_group facts name) (λ o. option_map_or (λ g. is_same g name) s.there_is false) (shown_group s asks no_list name)
-        (λ o e g is. sym (ap (λ o. option_map_or (λ g. is_same g name) o false) (of_range o e).there_is))
+        (λ o e. (silent s.group o name).0 ∙ sym (ap (λ o. option_map_or (λ g. is_same g name) o false) (of_range o e).there_is))
 
     pub denied_by_told : (name : Name) → list_any (denies_group name) (facts_told s asks) ≡ option_map_or (λ g. is_same g name) s.there_is_no false
     denied_by_told name =
         read_told (list_any (denies_group name)) (λ o. option_map_or (λ g. is_same g name) s.there_is_no false) (denied_group s asks no_list name)
-        (λ o e g is. sym (ap (λ o. option_map_or (λ g. is_same g name) o false) (of_range o e).there_is_no))
+        (λ o e. (silent s.group o name).1 ∙ sym (ap (λ o. option_map_or (λ g. is_same g name) o false) (of_range o e).there_is_no))
 
     pub said_by_told : (id : Id) → said_of (facts_told s asks) id ≡ said_by s id
     said_by_told id =
         read_told (λ facts. said_of facts id) (λ (o : Overviews). said_by (record s { overviews = o }) id) (said_of_parts facts s asks no_list may id)
-        (λ o e g is. listed_said g.name o.0 o.1 id)
+        (λ o e. let g = group_there o e in ap (λ g. said_of (overviews_facts g o) id) g.1 ∙ listed_said g.0.name o.0 o.1 id)
 
     module _ (g : OfGroup) (is : s.group ≡ Some g) where
-      -- what is read of overviews is that of the group's
-      of_listed : {M : Type 0} (read : List Fact → M) (value : M) (o : Range × List OverviewValue) (h : OfGroup) → s.group ≡ Some h → read (OverviewsAre g.name o.0 o.1 ∷ []) ≡ value
-          → read (OverviewsAre h.name o.0 o.1 ∷ []) ≡ value
-      of_listed read value o h there given = grind arith
-
       pub asks_by_told : (name : Name) → asks_of name (facts_told s asks) ≡ cond (is_same g.name name) (asks ++ asked_id g.id) []
       asks_by_told name =
-          read_told (asks_of name) (λ o. cond (is_same g.name name) (asks ++ asked_id g.id) []) ((group_is facts s asks no_list may g is).0 name)
-          (λ o e h there. of_listed (asks_of name) _ o h there (listed_asks g.name o.0 o.1 name ∙ ap (λ asks. cond (is_same g.name name) asks []) (sym (asks_there o e g is))))
+          read_told (asks_of name) (λ o. cond (is_same g.name name) (asks ++ asked_id g.id) []) ((group_is facts s asks no_list may g is).0 name) (λ o e.
+          ap (λ g. asks_of name (overviews_facts g o)) is ∙ listed_asks g.name o.0 o.1 name ∙ ap (λ asks. cond (is_same g.name name) asks []) (sym (asks_there o e g is)))
 
       pub ids_by_told : (name : Name) (n : ℕ) → first_given (id_in name n) (facts_told s asks) ≡ cond (is_same g.name name) (id_said s g.id n) None
       ids_by_told name n =
           read_told (first_given (id_in name n)) (λ (o : Overviews). cond (is_same g.name name) (id_said (record s { overviews = o }) g.id n) None)
-          ((group_is facts s asks no_list may g is).1.ids name n) (λ o e h there. of_listed (first_given (id_in name n)) _ o h there (listed_ids g.name o.0 o.1 name n))
+          ((group_is facts s asks no_list may g is).1.ids name n) (λ o e. ap (λ g. first_given (id_in name n) (overviews_facts g o)) is ∙ listed_ids g.name o.0 o.1 name n)
 
       pub places_by_told : (name : Name) (id : Id) → first_given (number_in name id) (facts_told s asks) ≡ cond (is_same g.name name) (place_said s g.id id) None
       places_by_told name id =
           read_told (first_given (number_in name id)) (λ (o : Overviews). cond (is_same g.name name) (place_said (record s { overviews = o }) g.id id) None)
-          ((group_is facts s asks no_list may g is).1.places name id) (λ o e h there. of_listed (first_given (number_in name id)) _ o h there (listed_places g.name o.0 o.1 name id))
+          ((group_is facts s asks no_list may g is).1.places name id) (λ o e. ap (λ g. first_given (number_in name id) (overviews_facts g o)) is ∙ listed_places g.name o.0 o.1 name id)

@@ -98,19 +98,6 @@ module _ (v : Visible) (facts : List Fact) (is_shown : IsSelectedShown v facts) 
     there = inl refl;
   }
 
-  -- an article at a number
-  at_row : (what : What) (s : Success) → IsTrue (head_fits what s.id s.block) → IsTrue (is_some v.selected) → s.number < 2 ^ 64 → 1 ≤ s.number
-      → Row (s.number ∷ []) (TextIs what s.id s.block ∷ IdAt (here v) s.number s.id ∷ [])
-  at_row what s fits there few some small = grind (arith, says_has s.number few some)
-
-  -- the article at the position
-  here_row : (at : Position) (what : What) (s : Success) → IsTrue (head_fits what s.id s.block) → IsTrue (is_some v.selected) → 1 ≤ s.number
-      → Row (s.number ∷ []) (TextIs what s.id s.block ∷ Asks (here v) (StandsAt at s.number) ∷ IdAt (here v) s.number s.id ∷ [])
-  here_row at what s fits there some small =
-      let asks : List Ask = StandsAt at s.number ∷ [] in
-      let stands = says_stands at s.number small some in
-      record { tells = record { asks = asks; same = refl; may = assumption (stands, here_shown asks there, fits) }; group = refl; there = inr refl }
-
   -- a row of the table whose condition holds
   said_row : {profile : Profile} {at : Position} {Fits : Type 0} {a : Response} {more : List Fact} → ((i : ℕ) → get_or (numbers_of a) i 0 < 2 ^ 64)
       → rows.Row profile v at Fits a more → Fits → Row (numbers_shown (numbers_of a) a) more
@@ -137,10 +124,12 @@ module _ (v : Visible) (facts : List Fact) (is_shown : IsSelectedShown v facts) 
   said_row fit (rows.text a what s gives known) f small = record { tells = record { asks = []; same = refl; may = assumption (known f) }; group = refl; there = tt }
   said_row {profile} fit (rows.text_at a what s gives known) f small =
       subst (λ shown. Row shown (TextIs what s.id s.block ∷ IdAt (here v) s.number s.id ∷ [])) (sym (number_given gives))
-      (λ small. at_row what s (known f).0 (known f).1.0 small.last (numbered profile s.number (known f).1.1) small) small
+      (λ small. let says = says_has s.number small.last (numbered profile s.number (known f).1.1) in
+      record { tells = record { asks = []; same = refl; may = assumption (says, here_shown [] (known f).1.0, (known f).0) }; group = refl; there = inr refl }) small
   said_row {profile} {at} fit (rows.text_here a what s gives known) f small =
       subst (λ shown. Row shown (TextIs what s.id s.block ∷ Asks (here v) (StandsAt at s.number) ∷ IdAt (here v) s.number s.id ∷ [])) (sym (number_given gives))
-      (here_row at what s (known f).0 (known f).1.0 (numbered profile s.number (known f).1.1)) small
+      (λ small. let asks = StandsAt at s.number ∷ [] in let stands = says_stands at s.number small (numbered profile s.number (known f).1.1) in
+      record { tells = record { asks = asks; same = refl; may = assumption (stands, here_shown asks (known f).1.0, (known f).0) }; group = refl; there = inr refl }) small
   said_row {profile} fit (rows.active p lines known) f small =
       record { tells = record { asks = []; same = refl; may = assumption (may_list profile p (active_groups lines) (known f).0 (known f).1) }; group = refl; there = tt }
   said_row fit r f small = record { tells = record { asks = []; same = refl; may = assumption }; group = refl; there = tt }

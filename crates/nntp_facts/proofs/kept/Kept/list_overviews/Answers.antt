@@ -18,7 +18,6 @@ returns g c = on_ok c.give_all.result (λ given facts range kept together may jo
     (λ not_shown. absurd (true≢false (sym may.shown ∙ not_shown)))
     (subst (Agree (told facts name).ids (told facts name).places) (sym may.id) tt) (subst (MayShow (told facts name)) (sym may.id) tt) (put (told facts) name t)
     (put_changes (told facts) (told facts) name t _ (λ other apart. refl) (subst (λ id. t ≡ with_part (told facts name) (asks facts name range os) id) (sym may.id) (asked_part facts name range os))) in
-    let gives = given facts (put (told facts) name t) numbers k.articles (ap (λ (t : Told). t.is_shown) here) may.own
-    (subst (λ t. AllByRecursion (MayGive facts t) os) (sym here) (all_given facts name range os together may.own joins)) in
-    overviews_kept facts name range os may.shown c.args.self.now c.give_all.new.self kept
-    (c.give_all.ensures.names ∙ ap (λ (k : KeptValue). k.names) c.self.view_is) gives.0 gives.1) c.give_all.ensures.kept
+    overviews_kept facts name range os may.shown c.args.self.now c.give_all.new.self kept (c.give_all.ensures.names ∙ ap (λ (k : KeptValue). k.names) c.self.view_is)
+    (given facts (put (told facts) name t) numbers k.articles (ap (λ (t : Told). t.is_shown) here) may.own
+    (subst (λ t. AllByRecursion (MayGive facts t) os) (sym here) (all_given facts name range os together may.own joins)))) c.give_all.ensures.kept
