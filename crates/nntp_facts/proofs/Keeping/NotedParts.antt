@@ -1,13 +1,12 @@
 -- What is kept in all, where the parts of an answer are noted.
-use Rattle.std.proofs.Common.{◌≡◌, ℕ, Bool, true, false, IsTrue, List, [], ◌∷◌, ◌++◌, Option, None, Some, inl, inr, refl, sym, ap, subst, ◌∙◌, arith}
+use Rattle.std.proofs.Common.{◌≡◌, ℕ, Bool, true, false, IsTrue, List, [], ◌∷◌, ◌++◌, Option, None, Some, refl, sym, ap, subst, ◌∙◌, arith}
 use Rattle.std.{proofs.lemmas.Bool.{true≢false}, specs.{Prelude.{◌↔◌, IfSome}, List.{AllByRecursion}, Option.{option_map_or}}}
-use Rattle.nntp_article.specs.{Article.Parts.{Id}, Session.Machine.{overview_numbers}, Inner.Listed.{Lists}}
+use Rattle.nntp_article.specs.{Article.Parts.{Id}, Inner.Listed.{Lists}}
 use Rattle.nntp_wire.specs.{Listing.{ActiveValue, OverviewValue}, declared.range.Range.{Range}}
-use Rattle.nntp_said.specs.{Asks.{Ask, ListsIn}, Facts.{Fact, OverviewsAre, GroupsAre}}
-use Rattle.nntp_theory.specs.{Given.{is_shown_group}, Inner.Together.{IsWellFormed, said_of, join_said, Together, Join}}
-use Rattle.nntp_numbers.specs.Inner.Part.{Says}
-use Rattle.nntp_facts.specs.Inner.{ListedGroups.{MayList}, Saying.{OfGroup, OfArticle, Saying, facts_in, AreListed, IsToExist, MayBeOf, Tells, IsShownThen}}
-use Rattle.nntp_facts.specs.Inner.{Saying.{MaySay, asked_id, listing_group, overviews_facts}, Kept.{Kept, IsKept, AreKeptNames, AreKeptGroups, AreAdded}}
+use Rattle.nntp_said.specs.{Asks.{Ask}, Facts.{Fact, OverviewsAre, GroupsAre}}
+use Rattle.nntp_theory.specs.{Inner.Together.{IsWellFormed, said_of, join_said, Together, Join}}
+use Rattle.nntp_facts.specs.Inner.{ListedGroups.{MayList}, Saying.{OfGroup, OfArticle, Saying, facts_in, AreListed, IsToExist, MayBeOf, Tells}}
+use Rattle.nntp_facts.specs.Inner.{Saying.{MaySay, listing_group, overviews_facts}, Kept.{Kept, IsKept, AreKeptNames, AreKeptGroups, AreAdded}}
 use Rattle.nntp_facts.specs.Inner.{ListedOverviews.{HaveOwn}, KeptSaying.{MayListOf, IsTextOf, JoinGroups, MayBeSaid, ArticleJoins, IsArticleAdded}}
 use Rattle.nntp_facts.proofs.Keeping.OverviewsTold.{Overviews, plain_told, plain_if, group_there, of_range, overviews_told, no_id_there, asks_there}
 use Rattle.nntp_facts.proofs.Keeping.{PartsJoin.{parts_join, said_of_parts}, SaidOfArticles.{said_append}, KeptArticles.{Articles}}

@@ -1,6 +1,6 @@
 -- When overviews join what was said, and what is kept then.
 use Rattle.std.proofs.Common.{◌≡◌, ℕ, Bool, true, false, not, ◌||◌, ◌&&◌, ◌==◌, cond, IsTrue, List, [], ◌∷◌, ◌++◌, Option, None, Some, refl, sym, ap, subst}
-use Rattle.std.proofs.{Common.{◌∙◌, append-nil, arith}, lemmas.Bool.{true≢false, and_parts, or_left, eqb-true, eq-eqb}}
+use Rattle.std.proofs.{Common.{◌∙◌, append-nil, arith}, lemmas.Bool.{true≢false, or_left, eqb-true, eq-eqb}}
 use Rattle.std.{proofs.{lemmas.List.Folds.{list_any-append}, Math.Bool.{or-false}}, specs.{Prelude.{◌↔◌, IfSome, IsFalse}, List.{AllByRecursion, list_any}}}
 use Rattle.std.specs.{Option.{option_or, option_map_or}, Cmp.Lexicographic.{same_text}, FinMap.{get}}
 use Rattle.nntp_wire.specs.{Listing.{OverviewValue}, declared.range.Range.{Range}}
@@ -11,7 +11,7 @@ use Rattle.nntp_theory.specs.{Together.{denies_article}, Inner.Together.{AsksSta
 use Rattle.nntp_theory.{specs.Inner.Together.{SaidOfArticle, said_of, said_nothing, join_said}, proofs.Members.{In, all_at, all_from, all_back, any_in}}
 use Rattle.nntp_theory.proofs.{Members.{found_in}, Together.{FactsOfASpoolStand.{same_itself}, FactsJoin.{asks_append}, TwoListsOfFacts.{given_append}}}
 use Rattle.nntp_theory.proofs.Together.{TwoListsOfFacts.{or_none, any_silent}, ListedOverviews.{overview_at, overview_of}}
-use Rattle.nntp_facts.specs.Inner.Kept.{Kept, IsKept, Told, told, AreKept, AreKeptNames, AreKeptArticles, KeptArticle, with_part, Changes, MayShow, IsFree, said_kept}
+use Rattle.nntp_facts.specs.Inner.Kept.{Kept, IsKept, Told, told, AreKept, AreKeptNames, AreKeptArticles, KeptArticle, with_part, Changes, MayShow, said_kept}
 use Rattle.nntp_facts.specs.Inner.{Saying.{Exists}, KeptSaying.{AreKeptThen, IsArticleAdded, MayGive, may_give, with_overviews, said_in, said_listed}}
 use Rattle.nntp_facts.specs.Inner.{ListedOverviews.{HaveOwn, OverviewJoins, id_listed, place_listed}, Articles.{unsent}}
 use Rattle.nntp_facts.proofs.Keeping.{KeptNamesAndGroups.{names_kept}, KeptArticles.{Articles, MayKeep, article_joins, denied_kept}, ListedOverviews.{listed_asks, listed_ids}}

@@ -1,14 +1,14 @@
 -- When the parts of an answer join what was said, and what is kept then.
-use Rattle.std.proofs.Common.{◌≡◌, ℕ, true, false, cond, List, [], ◌∷◌, ◌++◌, map, Option, None, Some, is_some, MatchOption, refl, sym, ap, subst, ◌∙◌, arith}
+use Rattle.std.proofs.Common.{◌≡◌, ℕ, true, false, cond, List, [], ◌∷◌, ◌++◌, Option, None, Some, is_some, MatchOption, refl, sym, ap, subst, ◌∙◌, arith}
 use Rattle.std.{proofs.lemmas.{Bool.{true≢false, or_left, or_right}, List.Folds.{list_any-append}}, specs.Prelude.{◌↔◌, IsFalse, IfSome}}
 use Rattle.std.specs.{Option.{option_map_or, option_or}, List.{AllByRecursion, list_any}, Cmp.Lexicographic.{same_text}}
 use Rattle.nntp_article.specs.{Article.Parts.{Id}, Session.{Spool.{Name}, Machine.{is_same}}}
 use Rattle.nntp_wire.specs.Listing.{ActiveValue}
-use Rattle.nntp_said.specs.{Asks.{Ask}, Facts.{Fact, Asks}}
+use Rattle.nntp_said.specs.{Asks.{Ask}, Facts.{Fact}}
 use Rattle.nntp_theory.specs.{Given.{asks_of, is_shown_group, first_given, id_in}, Inner.Together.{IsWellFormed, AgreesWithItself, said_of, said_nothing}}
 use Rattle.nntp_theory.specs.{Inner.Together.{join_said, Together, JoinNames, JoinNumbers, JoinIds, JoinArticle, Join}, Together.{denies_group, number_in}}
 use Rattle.nntp_theory.proofs.Together.{TwoListsOfFacts.{given_append}, FactsJoin.{asks_append}, FactsOfASpoolStand.{same_itself}}
-use Rattle.nntp_theory.proofs.{Ids.OnePlaceOfAnId.{agree_together, shown_with_id}, Members.{all_both}}
+use Rattle.nntp_theory.proofs.{Ids.OnePlaceOfAnId.{agree_together, shown_with_id}}
 use Rattle.nntp_facts.specs.Inner.Saying.{OfGroup, OfArticle, Lacks, Exists, Saying, asked_id, sent_facts, lack_facts, there_facts, missing_facts, groups_facts}
 use Rattle.nntp_facts.specs.Inner.{Saying.{id_facts, group_facts, facts_in, MaySay, IsToExist, MayBeOf, IsShownThen}, Kept.{told, Told, IsUntold, AreKept}}
 use Rattle.nntp_facts.specs.Inner.{Kept.{AreKeptGroups, with_part, Changes, Agree, IsShownAt, MayShow, AreKeptWith, id_of, place_of}, KeptSaying.{GroupJoins}}

@@ -1,4 +1,4 @@
-use Rattle.std.proofs.{Common.{◌≡◌, true, None, map, refl, sym, ap, subst, ◌∙◌}, lemmas.Bool.{true≢false}}
+use Rattle.std.proofs.{Common.{◌≡◌, None, map, refl, sym, ap, subst, ◌∙◌}, lemmas.Bool.{true≢false}}
 use Rattle.std.specs.List.{AllByRecursion}
 use Rattle.nntp_wire.specs.Inner.View.{overview_value}
 use Rattle.nntp_theory.proofs.OkResults.{on_ok}

@@ -1,6 +1,6 @@
 use Rattle.std.proofs.{Common.{map, sym, subst, arith}, lemmas.Bool.{true≢false}}
 use Rattle.nntp_wire.specs.Inner.View.{overview_value}
-use Rattle.nntp_facts.{specs.Inner.{Kept.{IsKept, told, Agree, IsShownAt, MayShow}, SayingView.{of_group}}, proofs.Keeping.OverviewsJoin.{asks, overviews_join}}
+use Rattle.nntp_facts.{specs.Inner.{Kept.{IsKept, told}, SayingView.{of_group}}, proofs.Keeping.OverviewsJoin.{asks, overviews_join}}
 use Rattle.nntp_facts.proofs.kept.Kept.may_list_overviews.Goals as goal
 
 pub returns-then-at_all : goal.returns-then-at_all
