@@ -1,12 +1,11 @@
 -- What overviews of a range say of the numbers and ids of their group.
-use Rattle.std.proofs.Common.{◌≡◌, ℕ, true, false, cond, List, [], ◌∷◌, ◌++◌, Option, None, Some, inl, refl}
-use Rattle.std.{proofs.{Common.{arith}, lemmas.Bool.{and_parts}}}
-use Rattle.std.specs.{Prelude.{is_some, option_map}}
+use Rattle.std.proofs.{Common.{◌≡◌, ℕ, true, false, cond, List, [], ◌∷◌, ◌++◌, Option, None, Some, inl, refl, arith}, lemmas.Bool.{and_parts}}
+use Rattle.std.specs.Prelude.{is_some, option_map}
 use Rattle.nntp_wire.specs.{Listing.{OverviewValue}, declared.range.Range.{Range}}
 use Rattle.nntp_article.specs.{Article.Parts.{Id}, Session.{Spool.{Name}, Machine.{is_same, is_ascending, all_differ, overview_numbers, overview_ids}}}
 use Rattle.nntp_said.specs.{Asks.{ListsIn}, Facts.{OverviewsAre}}
-use Rattle.nntp_theory.specs.{Given.{asks_of, first_given, id_in}, Together.{number_in}, Inner.Together.{said_of}}
-use Rattle.nntp_theory.{specs.Inner.Together.{AgreesWithItself}, proofs.{Members.{In, each_of, first_there, in_map, in_back}, Together.ListedOverviews.{apart_agree, overview_at, overview_of}}}
+use Rattle.nntp_theory.{specs.{Given.{asks_of, first_given, id_in}, Together.{number_in}, Inner.Together.{said_of, AgreesWithItself}}, proofs.Members.{In}}
+use Rattle.nntp_theory.proofs.{Members.{each_of, first_there, in_map, in_back}, Together.ListedOverviews.{apart_agree, overview_at, overview_of}}
 use Rattle.nntp_theory.proofs.Together.TwoListsOfFacts.{or_none}
 use Rattle.nntp_facts.specs.Inner.{ListedOverviews.{HaveOwn, id_listed, place_listed}, KeptSaying.{said_listed}}
 

@@ -4,9 +4,9 @@ use Rattle.std.{proofs.lemmas.Bool.{true≢false}, specs.{Prelude.{◌↔◌, If
 use Rattle.nntp_article.specs.{Article.Parts.{Id}, Inner.Listed.{Lists}}
 use Rattle.nntp_wire.specs.{Listing.{ActiveValue, OverviewValue}, declared.range.Range.{Range}}
 use Rattle.nntp_said.specs.{Asks.{Ask}, Facts.{Fact, OverviewsAre, GroupsAre}}
-use Rattle.nntp_theory.specs.{Inner.Together.{IsWellFormed, said_of, join_said, Together, Join}}
-use Rattle.nntp_facts.specs.Inner.{ListedGroups.{MayList}, Saying.{OfGroup, OfArticle, Saying, facts_in, AreListed, IsToExist, MayBeOf, Tells}}
-use Rattle.nntp_facts.specs.Inner.{Saying.{MaySay, listing_group, overviews_facts}, Kept.{Kept, IsKept, AreKeptNames, AreKeptGroups, AreAdded}}
+use Rattle.nntp_theory.specs.Inner.Together.{IsWellFormed, said_of, join_said, Together, Join}
+use Rattle.nntp_facts.specs.Inner.{ListedGroups.{MayList}, Saying.{OfGroup, OfArticle, Saying, facts_in, AreListed, IsToExist, MayBeOf, Tells, MaySay}}
+use Rattle.nntp_facts.specs.Inner.{Saying.{listing_group, overviews_facts}, Kept.{Kept, IsKept, AreKeptNames, AreKeptGroups, AreAdded}}
 use Rattle.nntp_facts.specs.Inner.{ListedOverviews.{HaveOwn}, KeptSaying.{MayListOf, IsTextOf, JoinGroups, MayBeSaid, ArticleJoins, IsArticleAdded}}
 use Rattle.nntp_facts.proofs.Keeping.OverviewsTold.{Overviews, plain_told, plain_if, group_there, of_range, overviews_told, no_id_there, asks_there}
 use Rattle.nntp_facts.proofs.Keeping.{PartsJoin.{parts_join, said_of_parts}, SaidOfArticles.{said_append}, KeptArticles.{Articles}}

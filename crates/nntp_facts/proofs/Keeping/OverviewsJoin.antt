@@ -1,21 +1,21 @@
 -- When overviews join what was said, and what is kept then.
 use Rattle.std.proofs.Common.{◌≡◌, ℕ, Bool, true, false, not, ◌||◌, ◌&&◌, ◌==◌, cond, IsTrue, List, [], ◌∷◌, ◌++◌, Option, None, Some, refl, sym, ap, subst}
-use Rattle.std.proofs.{Common.{◌∙◌, append-nil, arith}, lemmas.Bool.{true≢false, or_left, eqb-true, eq-eqb}}
-use Rattle.std.{proofs.{lemmas.List.Folds.{list_any-append}, Math.Bool.{or-false}}, specs.{Prelude.{◌↔◌, IfSome, IsFalse}, List.{AllByRecursion, list_any}}}
-use Rattle.std.specs.{Option.{option_or, option_map_or}, Cmp.Lexicographic.{same_text}, FinMap.{get}}
+use Rattle.std.proofs.{Common.{◌∙◌, append-nil, arith}, lemmas.{Bool.{true≢false, or_left, eqb-true, eq-eqb}, List.Folds.{list_any-append}}}
+use Rattle.std.{proofs.Math.Bool.{or-false}, specs.{Prelude.{◌↔◌, IfSome, IsFalse}, List.{AllByRecursion, list_any}, Option.{option_or, option_map_or}}}
+use Rattle.std.specs.{Cmp.Lexicographic.{same_text}, FinMap.{get}}
 use Rattle.nntp_wire.specs.{Listing.{OverviewValue}, declared.range.Range.{Range}}
 use Rattle.nntp_article.specs.{Article.Parts.{Id}, Session.{Spool.{Name}, Machine.{is_same, overview_numbers}}}
 use Rattle.nntp_said.specs.{Asks.{Ask, ListsIn}, Facts.{Fact, OverviewsAre}}
 use Rattle.nntp_theory.specs.{Given.{asks_of, shows_group, is_shown_group, first_given, id_of_overview, id_in}, Together.{number_of_overview, number_in}}
-use Rattle.nntp_theory.specs.{Together.{denies_article}, Inner.Together.{AsksStand, IsWellFormed, JoinNumbers, JoinIds, Together, Join}}
-use Rattle.nntp_theory.{specs.Inner.Together.{SaidOfArticle, said_of, said_nothing, join_said}, proofs.Members.{In, all_at, all_from, all_back, any_in}}
-use Rattle.nntp_theory.proofs.{Members.{found_in}, Together.{FactsOfASpoolStand.{same_itself}, FactsJoin.{asks_append}, TwoListsOfFacts.{given_append}}}
-use Rattle.nntp_theory.proofs.Together.{TwoListsOfFacts.{or_none, any_silent}, ListedOverviews.{overview_at, overview_of}}
+use Rattle.nntp_theory.specs.{Together.{denies_article}, Inner.Together.{AsksStand, IsWellFormed, JoinNumbers, JoinIds, Together, Join, SaidOfArticle, said_of}}
+use Rattle.nntp_theory.{specs.Inner.Together.{said_nothing, join_said}, proofs.Members.{In, all_at, all_from, all_back, any_in, found_in}}
+use Rattle.nntp_theory.proofs.Together.{FactsOfASpoolStand.{same_itself}, FactsJoin.{asks_append}, TwoListsOfFacts.{given_append, or_none, any_silent}}
+use Rattle.nntp_theory.proofs.Together.ListedOverviews.{overview_at, overview_of}
 use Rattle.nntp_facts.specs.Inner.Kept.{Kept, IsKept, Told, told, AreKept, AreKeptNames, AreKeptArticles, KeptArticle, with_part, Changes, MayShow, said_kept}
 use Rattle.nntp_facts.specs.Inner.{Saying.{Exists}, KeptSaying.{AreKeptThen, IsArticleAdded, MayGive, may_give, with_overviews, said_in, said_listed}}
 use Rattle.nntp_facts.specs.Inner.{ListedOverviews.{HaveOwn, OverviewJoins, id_listed, place_listed}, Articles.{unsent}}
-use Rattle.nntp_facts.proofs.Keeping.{KeptNamesAndGroups.{names_kept}, KeptArticles.{Articles, MayKeep, article_joins, denied_kept}, ListedOverviews.{listed_asks, listed_ids}}
-use Rattle.nntp_facts.proofs.Keeping.{ListedOverviews.{listed_places, listed_said, own_agree, none_in_front}, FactsOfOneGroup.{IsOr}}
+use Rattle.nntp_facts.proofs.Keeping.{KeptNamesAndGroups.{names_kept}, KeptArticles.{Articles, MayKeep, article_joins, denied_kept}}
+use Rattle.nntp_facts.proofs.Keeping.{ListedOverviews.{listed_asks, listed_ids, listed_places, listed_said, own_agree, none_in_front}, FactsOfOneGroup.{IsOr}}
 use Rattle.nntp_facts.proofs.Keeping.{FactsOfOneGroup.{asked_here, asked_elsewhere}, PartsJoin.{agree_told}, SaidOfArticles.{said_append}}
 use Rattle.nntp_facts.proofs.Keeping.SilentFacts.{numbers_join, told_same}
 
@@ -127,11 +127,11 @@ module _ (facts : List Fact) (name : Name) (r : Range) (os : List OverviewValue)
       by : (b : Bool) → is_same name other ≡ b
           → cond b (with_listed (put (told facts) name asked_told name) os) (put (told facts) name asked_told other) ≡ told (facts ++ more) other
       by true e = ap (λ t. with_listed t os) (put_there (told facts) name asked_told) ∙ (λ i. record {
-            is_shown = sym (any_silent (shows_group name) facts more refl ∙ shown) i;
-            asks = sym (asks_append name facts more ∙ ap (λ more. asks_of name facts ++ more) (asked_here name asks more (listed_asks name r os))) i;
-            ids = λ n. given (id_in name n) (id_listed os n) (listed_ids name r os name n ∙ ap (λ b. cond b (id_listed os n) None) (same_itself name)) i;
-            places = λ id. given (number_in name id) (place_listed os id) (listed_places name r os name id ∙ ap (λ b. cond b (place_listed os id) None) (same_itself name)) i;
-          }) ∙ ap (told (facts ++ more)) (same_text name other (sym e))
+        is_shown = sym (any_silent (shows_group name) facts more refl ∙ shown) i;
+        asks = sym (asks_append name facts more ∙ ap (λ more. asks_of name facts ++ more) (asked_here name asks more (listed_asks name r os))) i;
+        ids = λ n. given (id_in name n) (id_listed os n) (listed_ids name r os name n ∙ ap (λ b. cond b (id_listed os n) None) (same_itself name)) i;
+        places = λ id. given (number_in name id) (place_listed os id) (listed_places name r os name id ∙ ap (λ b. cond b (place_listed os id) None) (same_itself name)) i;
+      }) ∙ ap (told (facts ++ more)) (same_text name other (sym e))
       by false e = ap (λ b. cond b asked_told (told facts other)) e ∙ sym (told_same facts more other (grind (arith, e)))
 
   -- all is kept where the groups and articles are kept with the overviews, and of names what was

@@ -1,6 +1,6 @@
 -- What a saying tells, by overviews or otherwise.
-use Rattle.std.{proofs.Common.{◌≡◌, ℕ, false, cond, List, [], ◌∷◌, ◌++◌, Option, None, Some, MatchOption, refl, sym, ap, subst, ◌∙◌, arith}, specs.Prelude.{IfSome}}
-use Rattle.std.specs.{List.{list_any}, Option.{option_map_or}}
+use Rattle.std.proofs.Common.{◌≡◌, ℕ, false, cond, List, [], ◌∷◌, ◌++◌, Option, None, Some, MatchOption, refl, sym, ap, subst, ◌∙◌, arith}
+use Rattle.std.specs.{Prelude.{IfSome}, List.{list_any}, Option.{option_map_or}}
 use Rattle.nntp_wire.specs.{Listing.{OverviewValue}, declared.range.Range.{Range}}
 use Rattle.nntp_article.specs.{Article.Parts.{Id}, Session.{Spool.{Name}, Machine.{is_same, overview_numbers}}}
 use Rattle.nntp_said.specs.{Asks.{Ask, ListsIn}, Facts.{Fact, OverviewsAre}}

@@ -1,10 +1,10 @@
 -- What each kind of answer that fits tells.
-use Rattle.std.proofs.Common.{◌≡◌, ℕ, ◌<◌, ◌^◌, get_or, true, IsTrue, List, [], ◌∷◌, Option, None, Some, is_some, inl, inr, refl, sym, ap, subst, ◌∙◌}
-use Rattle.std.{proofs.{Common.{arith}, lemmas.Bool.{true≢false}}, specs.Prelude.{IfSome, option_map, unwrap_or}}
+use Rattle.std.proofs.Common.{◌≡◌, ℕ, ◌<◌, ◌^◌, get_or, true, IsTrue, List, [], ◌∷◌, Option, None, Some, is_some, inl, inr, refl, sym, ap, subst, ◌∙◌, arith}
+use Rattle.std.{proofs.lemmas.Bool.{true≢false}, specs.Prelude.{IfSome, option_map, unwrap_or}}
 use Rattle.nntp_article.specs.{Article.Parts.{Id}, Session.{Spool.{Name}, Machine.{Visible, fits, overview_numbers, only}}}
 use Rattle.nntp_article.specs.{declared.session.profile.Profile.{Profile}, Inner.{Misfit.{numbers_of}, Listed.{Lists, lists_of}}}
-use Rattle.nntp_wire.specs.{Answer.{Asked, Response, Success}, declared.{marks.Marks.{Marks}, range.Range.{Range}}}
-use Rattle.nntp_wire.specs.{declared.water_marks.WaterMarks.{WaterMarks}, Listing.{OverviewValue, active_groups, listed_numbers, overviews_of}}
+use Rattle.nntp_wire.specs.{Answer.{Asked, Response, Success}, declared.{marks.Marks.{Marks}, range.Range.{Range}, water_marks.WaterMarks.{WaterMarks}}}
+use Rattle.nntp_wire.specs.Listing.{OverviewValue, active_groups, listed_numbers, overviews_of}
 use Rattle.nntp_said.specs.{declared.position.Position.{Position}, Asks.{Ask, Estimates, ListsIn, Has, Lacks, StandsAt, StandsNowhere, StepsUp, StepsDown}}
 use Rattle.nntp_said.specs.{Asks.{IsTop, IsBottom}, Facts.{Fact, ThereIs, Asks, IdAt, TextIs, here, facts_of, group_of}}
 use Rattle.nntp_theory.specs.Given.{is_shown_group}

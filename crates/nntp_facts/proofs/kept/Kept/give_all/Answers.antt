@@ -1,10 +1,10 @@
 use Rattle.std.proofs.{Common.{◌≡◌, ◌+◌, [], ◌∷◌, ◌++◌, map, take, drop, refl, sym, ap, subst, ◌∙◌, arith, take_all}, lemmas.List.{take-append-drop}}
-use Rattle.std.{proofs.lemmas.List.{map-append}, specs.{List.{AllByRecursion}}}
+use Rattle.std.{proofs.lemmas.List.{map-append}, specs.List.{AllByRecursion}}
 use Rattle.nntp_wire.specs.{Listing.{OverviewValue}, Inner.View.{overview_value}}
-use Rattle.nntp_article.{proofs.SessionLemmas.LinesLeft.{next_left, one_more}}
+use Rattle.nntp_article.proofs.SessionLemmas.LinesLeft.{next_left, one_more}
 use Rattle.nntp_theory.specs.Inner.Together.{said_of}
-use Rattle.nntp_facts.{specs.Inner.{Kept.{AreKept}, KeptSaying.{MayGive, with_overviews}, ListedOverviews.{HaveOwn}}, proofs.Keeping.OverviewsJoin.{none_yet, so_far, AreGiven}}
-use Rattle.nntp_facts.proofs.Keeping.{OverviewsJoin.{said_so_far, said_next, may_give_next, one_more_given}, SaidOfArticles.{nothing_more}}
+use Rattle.nntp_facts.{specs.Inner.{Kept.{AreKept}, KeptSaying.{MayGive, with_overviews}, ListedOverviews.{HaveOwn}}, proofs.Keeping.OverviewsJoin.{none_yet}}
+use Rattle.nntp_facts.proofs.Keeping.{OverviewsJoin.{so_far, AreGiven, said_so_far, said_next, may_give_next, one_more_given}, SaidOfArticles.{nothing_more}}
 use Rattle.nntp_facts.proofs.kept.Kept.give_all.Goals as goal
 
 pub loop-overview-init : goal.loop-overview-init
