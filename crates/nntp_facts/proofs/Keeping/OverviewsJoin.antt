@@ -98,31 +98,21 @@ module _ (facts : List Fact) (name : Name) (r : Range) (os : List OverviewValue)
 
   -- what is told of the group with the asks
   abbrev pub asked_told : Told
-  asked_told = record { is_shown = true; asks = asks_of name facts ++ asks; ids = (told facts name).ids; places = (told facts name).places }
-
-  pub asked_part : asked_told ≡ with_part (told facts name) asks None
-  asked_part = λ i. record {
-    is_shown = true;
-    asks = asks_of name facts ++ asks;
-    ids = λ n. sym (or_none ((told facts name).ids n)) i;
-    places = λ id. sym (or_none ((told facts name).places id)) i;
-  }
+  asked_told = with_part (told facts name) asks None
 
   -- beside it each overview's id may be given
   pub all_given : Together facts → HaveOwn os → Join facts more → AllByRecursion (MayGive facts asked_told) os
-  all_given t own j = all_from (MayGive facts asked_told) os (λ o i. record {
-    shown = refl;
-    agree = agree_told facts t name (Some (o.number, o.id));
-    may = may_from own j.ids o i;
-    free = (j.articles o.id).shown (or_left _ false (any_in (λ (v : OverviewValue). is_same v.id o.id) o os i (same_itself o.id)));
-  })
+  all_given t own j = all_from (MayGive facts asked_told) os (λ o i.
+      let h = all_at (OverviewJoins facts name) o os ((overviews_join t j.well_formed own).0 j).1 i in
+      let agree = agree_told facts t name (Some (o.number, o.id)) in
+      record { shown = refl; agree = grind (arith, or_none, agree); may = grind (arith, or_none, h.id); free = h.free })
 
   -- with the ids this is all that is told then
   all_told : is_shown_group facts name ≡ true → (other : Name) → with_overviews (put (told facts) name asked_told) name os other ≡ told (facts ++ more) other
   all_told shown other = by (is_same name other) refl
     where
-      given : {A : Type 0} (f : Fact → Option A) (o : Option A) → first_given f more ≡ o → option_or (first_given f facts) o ≡ first_given f (facts ++ more)
-      given f o is = sym (given_append f facts more ∙ ap (option_or (first_given f facts)) is)
+      given : {A : Type 0} (f : Fact → Option A) (o : Option A) → first_given f more ≡ o → option_or (option_or (first_given f facts) None) o ≡ first_given f (facts ++ more)
+      given f o is = grind (arith, given_append, or_none)
 
       by : (b : Bool) → is_same name other ≡ b
           → cond b (with_listed (put (told facts) name asked_told name) os) (put (told facts) name asked_told other) ≡ told (facts ++ more) other

@@ -2,7 +2,7 @@ use Rattle.std.{proofs.{Common.{◌≡◌, None, map, refl, sym, ap, subst, ◌�
 use Rattle.nntp_wire.specs.Inner.View.{overview_value}
 use Rattle.nntp_theory.proofs.OkResults.{on_ok}
 use Rattle.nntp_facts.specs.Inner.{Kept.{Kept as KeptValue, IsKept, Told, told, Agree, MayShow, with_part}, KeptSaying.{IsTextOf, MayGive}}
-use Rattle.nntp_facts.{specs.Inner.SayingView.{of_group}, proofs.Keeping.OverviewsJoin.{asks, put, put_there, put_changes, asked_told, asked_part, all_given}}
+use Rattle.nntp_facts.{specs.Inner.SayingView.{of_group}, proofs.Keeping.OverviewsJoin.{asks, put, put_there, put_changes, asked_told, all_given}}
 use Rattle.nntp_facts.proofs.Keeping.OverviewsJoin.{overviews_kept}
 use Rattle.nntp_facts.proofs.kept.Kept.list_overviews.Goals as goal
 
@@ -16,7 +16,7 @@ returns g c = on_ok c.give_all.result (λ given facts range kept together may jo
     let numbers = c.in_ok-add.ensures (told facts) (asks facts name range os) (subst (IsTextOf None) (sym may.id) tt) k.groups may.numbers
     (λ not_shown. absurd (true≢false (sym may.shown ∙ not_shown)))
     (subst (Agree (told facts name).ids (told facts name).places) (sym may.id) tt) (subst (MayShow (told facts name)) (sym may.id) tt) (put (told facts) name t)
-    (put_changes (told facts) (told facts) name t _ (λ other apart. refl) (subst (λ id. t ≡ with_part (told facts name) (asks facts name range os) id) (sym may.id) (asked_part facts name range os))) in
+    (put_changes (told facts) (told facts) name t _ (λ other apart. refl) (subst (λ id. t ≡ with_part (told facts name) (asks facts name range os) id) (sym may.id) refl)) in
     overviews_kept facts name range os may.shown c.args.self.now c.give_all.new.self kept (c.give_all.ensures.names ∙ ap (λ (k : KeptValue). k.names) c.self.view_is)
     (given facts (put (told facts) name t) numbers k.articles (ap (λ (t : Told). t.is_shown) here) may.own
     (subst (λ t. AllByRecursion (MayGive facts t) os) (sym here) (all_given facts name range os together may.own joins)))) c.give_all.ensures.kept
