@@ -13,10 +13,7 @@ use Rattle.nntp_facts.specs.Inner.{ListedOverviews.{HaveOwn, id_listed, place_li
 
 -- where none is given, none of them gives one
 pub none_gives : {A B : Type 0} (f : B → Option A) (xs : List B) → first_given f xs ≡ None → (x : B) → In x xs → f x ≡ None
-none_gives {A} f xs e x i = by (f x) refl
-  where
-    by : (o : Option A) → f x ≡ o → o ≡ None
-    by o is = grind (arith, first_there f xs x)
+none_gives f xs e x i = grind (arith, first_there f xs x)
 
 -- ---- of those that are left, where none in front gave one
 

@@ -37,10 +37,7 @@ list_added facts more s wildmat lines lists old new does is listed t formed adds
 
 -- the saying lists overviews of the group
 listing_is : (s : Saying) (g : OfGroup) → listing_group s ≡ Some g → (o : Range × List OverviewValue) × (s.overviews ≡ Some o) × (s.group ≡ Some g)
-listing_is s g e = by s.overviews refl e
-  where
-    by : (o : Overviews) → s.overviews ≡ o → option_map_or (λ o. s.group) o None ≡ Some g → (o : Range × List OverviewValue) × (s.overviews ≡ Some o) × (s.group ≡ Some g)
-    by o is e = grind arith
+listing_is s g e = grind arith
 
 -- or none
 pub lists_none : (facts : List Fact) (s : Saying) (asks : List Ask) → MaySay facts s asks → listing_group s ≡ None → s.overviews ≡ None

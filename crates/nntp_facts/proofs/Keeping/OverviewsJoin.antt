@@ -194,10 +194,7 @@ module _ (facts : List Fact) (tells : Name → Told) (name : Name) (front : List
 -- an id that isn't denied is added
 pub surely_added : (facts : List Fact) (id : Id) (old new : Articles) (does : Bool) → AreKeptArticles facts old → IsFalse (list_any (denies_article id) facts)
     → IsArticleAdded facts (Some (id, Exists)) old new does → (does ≡ true) × AreKeptThen facts (Some (id, Exists)) new
-surely_added facts id old new does kept free added = grind (arith, article_joins facts old id Exists kept, denied_kept facts old id kept, may (get old id))
-  where
-    may : (o : Option KeptArticle) → option_map_or (λ a. a.is_denied) o false ≡ false → MayKeep o unsent
-    may o free = grind arith
+surely_added facts id old new does kept free added = grind (arith, article_joins facts old id Exists kept, denied_kept facts old id kept)
 
 -- an overview joins where it may be given
 pub gives_joins : (facts : List Fact) (name : Name) (k : Kept) (o : OverviewValue) → IsKept facts k → IsTrue (may_give (told facts name) k.articles o) ↔ OverviewJoins facts name o

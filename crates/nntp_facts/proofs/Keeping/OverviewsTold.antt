@@ -28,10 +28,7 @@ module _ (facts : List Fact) (s : Saying) (asks : List Ask) (may : MaySay facts 
 
   -- and they are those of a group, of which no id is said otherwise
   pub group_there : (o : Range × List OverviewValue) → s.overviews ≡ Some o → (g : OfGroup) × (s.group ≡ Some g)
-  group_there o e = by s.group refl (of_range o e).group
-    where
-      by : (g : Option OfGroup) → s.group ≡ g → MatchOption g ⊥ (λ g. g.id ≡ None) → (g : OfGroup) × (s.group ≡ Some g)
-      by g is there = grind arith
+  group_there o e = grind (arith, (of_range o e).group)
 
   pub no_id_there : (o : Range × List OverviewValue) → s.overviews ≡ Some o → (g : OfGroup) → s.group ≡ Some g → g.id ≡ None
   no_id_there o e g is = subst (λ o. MatchOption o ⊥ (λ (g : OfGroup). g.id ≡ None)) is (of_range o e).group
@@ -41,10 +38,7 @@ module _ (facts : List Fact) (s : Saying) (asks : List Ask) (may : MaySay facts 
 
   -- where overviews cannot be, none are said
   pub plain_if : ((o : Range × List OverviewValue) → s.overviews ≡ Some o → ⊥) → s.overviews ≡ None
-  plain_if never = by s.overviews refl
-    where
-      by : (o : Overviews) → s.overviews ≡ o → o ≡ None
-      by o e = grind arith
+  plain_if never = grind arith
 
   -- so where no group is spoken of
   pub plain_alone : s.group ≡ None → s.overviews ≡ None
