@@ -1,6 +1,6 @@
 -- What is kept in all, where the parts of an answer are noted.
-use Rattle.std.proofs.Common.{◌≡◌, ℕ, Bool, true, false, IsTrue, List, [], ◌∷◌, ◌++◌, Option, None, Some, refl, sym, ap, subst, ◌∙◌, arith}
-use Rattle.std.{proofs.lemmas.Bool.{true≢false}, specs.{Prelude.{◌↔◌, IfSome}, List.{AllByRecursion}, Option.{option_map_or}}}
+use Rattle.std.proofs.Common.{◌≡◌, ℕ, Bool, true, false, IsTrue, List, [], ◌∷◌, ◌++◌, Option, None, Some, sym, ap, subst, ◌∙◌, arith}
+use Rattle.std.{proofs.lemmas.Bool.{true≢false}, specs.{Prelude.{◌↔◌, IfSome}, List.{AllByRecursion}}}
 use Rattle.nntp_article.specs.{Article.Parts.{Id}, Inner.Listed.{Lists}}
 use Rattle.nntp_wire.specs.{Listing.{ActiveValue, OverviewValue}, declared.range.Range.{Range}}
 use Rattle.nntp_said.specs.{Asks.{Ask}, Facts.{Fact, OverviewsAre, GroupsAre}}
@@ -8,7 +8,7 @@ use Rattle.nntp_theory.specs.Inner.Together.{IsWellFormed, said_of, join_said, T
 use Rattle.nntp_facts.specs.Inner.{ListedGroups.{MayList}, Saying.{OfGroup, OfArticle, Saying, facts_in, AreListed, IsToExist, MayBeOf, Tells, MaySay}}
 use Rattle.nntp_facts.specs.Inner.{Saying.{listing_group, overviews_facts}, Kept.{Kept, IsKept, AreKeptNames, AreKeptGroups, AreAdded}}
 use Rattle.nntp_facts.specs.Inner.{ListedOverviews.{HaveOwn}, KeptSaying.{MayListOf, IsTextOf, JoinGroups, MayBeSaid, ArticleJoins, IsArticleAdded}}
-use Rattle.nntp_facts.proofs.Keeping.OverviewsTold.{Overviews, plain_told, plain_if, group_there, of_range, overviews_told, no_id_there, asks_there}
+use Rattle.nntp_facts.proofs.Keeping.OverviewsTold.{plain_told, plain_if, group_there, of_range, overviews_told, no_id_there, asks_there}
 use Rattle.nntp_facts.proofs.Keeping.{PartsJoin.{parts_join, said_of_parts}, SaidOfArticles.{said_append}, KeptArticles.{Articles}}
 
 -- what has the same parts is the same

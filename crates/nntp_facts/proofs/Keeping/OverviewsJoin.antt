@@ -11,10 +11,10 @@ use Rattle.nntp_theory.specs.{Together.{denies_article}, Inner.Together.{AsksSta
 use Rattle.nntp_theory.{specs.Inner.Together.{said_nothing, join_said}, proofs.Members.{In, all_at, all_from, all_back, any_in, found_in}}
 use Rattle.nntp_theory.proofs.Together.{FactsOfASpoolStand.{same_itself}, FactsJoin.{asks_append}, TwoListsOfFacts.{given_append, or_none, any_silent}}
 use Rattle.nntp_theory.proofs.Together.ListedOverviews.{overview_at, overview_of}
-use Rattle.nntp_facts.specs.Inner.Kept.{Kept, IsKept, Told, told, AreKept, AreKeptNames, AreKeptArticles, KeptArticle, with_part, Changes, MayShow, said_kept}
+use Rattle.nntp_facts.specs.Inner.Kept.{Kept, IsKept, Told, told, AreKept, AreKeptNames, AreKeptArticles, with_part, Changes, MayShow, said_kept}
 use Rattle.nntp_facts.specs.Inner.{Saying.{Exists}, KeptSaying.{AreKeptThen, IsArticleAdded, MayGive, may_give, with_overviews, said_in, said_listed}}
 use Rattle.nntp_facts.specs.Inner.{ListedOverviews.{HaveOwn, OverviewJoins, id_listed, place_listed}, Articles.{unsent}}
-use Rattle.nntp_facts.proofs.Keeping.{KeptNamesAndGroups.{names_kept}, KeptArticles.{Articles, MayKeep, article_joins, denied_kept}}
+use Rattle.nntp_facts.proofs.Keeping.{KeptNamesAndGroups.{names_kept}, KeptArticles.{Articles, article_joins, denied_kept}}
 use Rattle.nntp_facts.proofs.Keeping.{ListedOverviews.{listed_asks, listed_ids, listed_places, listed_said, own_agree, none_in_front}, FactsOfOneGroup.{IsOr}}
 use Rattle.nntp_facts.proofs.Keeping.{FactsOfOneGroup.{asked_here, asked_elsewhere}, PartsJoin.{agree_told}, SaidOfArticles.{said_append}}
 use Rattle.nntp_facts.proofs.Keeping.SilentFacts.{numbers_join, told_same}
