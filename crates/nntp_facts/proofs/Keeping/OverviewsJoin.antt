@@ -14,10 +14,10 @@ use Rattle.nntp_theory.proofs.Together.ListedOverviews.{overview_at, overview_of
 use Rattle.nntp_facts.specs.Inner.Kept.{Kept, IsKept, Told, told, AreKept, AreKeptNames, AreKeptArticles, with_part, Changes, MayShow, said_kept}
 use Rattle.nntp_facts.specs.Inner.{Saying.{Exists}, KeptSaying.{AreKeptThen, IsArticleAdded, MayGive, may_give, with_overviews, said_in, said_listed}}
 use Rattle.nntp_facts.specs.Inner.{ListedOverviews.{HaveOwn, OverviewJoins, id_listed, place_listed}, Articles.{unsent}}
-use Rattle.nntp_facts.proofs.Keeping.{KeptNamesAndGroups.{names_kept}, KeptArticles.{Articles, article_joins, denied_kept}}
-use Rattle.nntp_facts.proofs.Keeping.{ListedOverviews.{listed_asks, listed_ids, listed_places, listed_said, own_agree, none_in_front}, FactsOfOneGroup.{IsOr}}
-use Rattle.nntp_facts.proofs.Keeping.{FactsOfOneGroup.{asked_here, asked_elsewhere}, PartsJoin.{agree_told}, SaidOfArticles.{said_append}}
-use Rattle.nntp_facts.proofs.Keeping.SilentFacts.{numbers_join, told_same}
+use Rattle.nntp_facts.proofs.Keeping.{KeptNamesAndGroups.{names_kept}, KeptArticles.{Articles, article_joins, denied_kept}, ListedOverviews.{listed_asks}}
+use Rattle.nntp_facts.proofs.Keeping.{ListedOverviews.{listed_ids, listed_places, listed_said, own_agree, none_in_front}, FactsOfOneGroup.{IsOr, asked_here}}
+use Rattle.nntp_facts.proofs.Keeping.{FactsOfOneGroup.{asked_elsewhere}, PartsJoin.{agree_told}, SaidOfArticles.{said_append}, SilentFacts.{numbers_join}}
+use Rattle.nntp_facts.proofs.Keeping.SilentFacts.{told_same}
 
 -- what is told of a group, once its numbers have the ids of these overviews
 abbrev pub with_listed : Told → List OverviewValue → Told
@@ -27,6 +27,7 @@ with_listed t os = record { is_shown = true; asks = t.asks; ids = λ n. option_o
 abbrev pub put : (Name → Told) → Name → Told → Name → Told
 put tells name t other = cond (is_same name other) t (tells other)
 
+-- there it is told
 pub put_there : (tells : Name → Told) (name : Name) (t : Told) → put tells name t name ≡ t
 put_there tells name t = ap (λ b. cond b t (tells name)) (same_itself name)
 
@@ -167,6 +168,7 @@ module _ (facts : List Fact) (tells : Name → Told) (name : Name) (front : List
   abbrev pub so_far : List Fact
   so_far = facts ++ OverviewsAre name all_numbers front ∷ []
 
+  -- what they say of ids
   pub said_so_far : (id : Id) → said_of so_far id ≡ join_said (said_of facts id) (said_listed front id)
   said_so_far id = said_append facts (OverviewsAre name all_numbers front ∷ []) id ∙ ap (join_said (said_of facts id)) (listed_said name all_numbers front id)
 
