@@ -32,7 +32,8 @@ pub put_there : (tells : Name → Told) (name : Name) (t : Told) → put tells n
 put_there tells name t = ap (λ b. cond b t (tells name)) (same_itself name)
 
 -- of others the same is told
-pub put_changes : (tells before : Name → Told) (name : Name) (t u : Told) → ((other : Name) → is_same name other ≡ false → before other ≡ tells other) → t ≡ u → Changes before (put tells name t) name u
+pub put_changes : (tells before : Name → Told) (name : Name) (t u : Told) → ((other : Name) → is_same name other ≡ false → before other ≡ tells other) → t ≡ u
+    → Changes before (put tells name t) name u
 put_changes tells before name t u same is = record { here = put_there tells name t ∙ is; elsewhere = λ other apart. ap (λ b. cond b t (tells other)) apart ∙ sym (same other apart) }
 
 -- these overviews are told and kept
@@ -126,7 +127,8 @@ module _ (facts : List Fact) (name : Name) (r : Range) (os : List OverviewValue)
       by false e = ap (λ b. cond b asked_told (told facts other)) e ∙ sym (told_same facts more other (grind (arith, e)))
 
   -- all is kept where the groups and articles are kept with the overviews, and of names what was
-  pub overviews_kept : is_shown_group facts name ≡ true → (old new : Kept) → IsKept facts old → new.names ≡ old.names → AreGiven facts (put (told facts) name asked_told) name os new → IsKept (facts ++ more) new
+  pub overviews_kept : is_shown_group facts name ≡ true → (old new : Kept) → IsKept facts old → new.names ≡ old.names → AreGiven facts (put (told facts) name asked_told) name os new
+      → IsKept (facts ++ more) new
   overviews_kept shown old new kept names given = record {
     groups = subst (λ tells. AreKept tells new.groups) (λ i other. all_told shown other i) given.0;
     names = subst (AreKeptNames (facts ++ more)) (sym names) (names_kept facts more old.names (λ other. refl) kept.names);
@@ -182,7 +184,8 @@ module _ (facts : List Fact) (tells : Name → Told) (name : Name) (front : List
       by a b before then is e = grind (arith, or-false, or_none)
 
   -- what may be given of the next one beside what was told before, may be given beside those in front too
-  pub may_give_next : (rest : List OverviewValue) → HaveOwn (front ++ o ∷ rest) → AllByRecursion (MayGive facts (tells name)) (front ++ o ∷ rest) → MayGive so_far (with_overviews tells name front name) o
+  pub may_give_next : (rest : List OverviewValue) → HaveOwn (front ++ o ∷ rest) → AllByRecursion (MayGive facts (tells name)) (front ++ o ∷ rest)
+      → MayGive so_far (with_overviews tells name front name) o
   may_give_next rest own may =
       let g = (all_back (MayGive facts (tells name)) front (o ∷ rest) may).0 in
       let none = none_in_front front o rest own in
