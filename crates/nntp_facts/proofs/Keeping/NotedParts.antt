@@ -1,15 +1,14 @@
 -- What is kept in all, where the parts of an answer are noted.
-use Rattle.std.proofs.Common.{◌≡◌, ℕ, Bool, true, false, IsTrue, List, [], ◌∷◌, ◌++◌, Option, None, Some, inl, inr, refl, sym, ap, subst, ◌∙◌, arith}
-use Rattle.std.{proofs.lemmas.Bool.{true≢false}, specs.{Prelude.{◌↔◌, IfSome}, List.{AllByRecursion}, Option.{option_map_or}}}
-use Rattle.nntp_article.specs.{Article.Parts.{Id}, Session.Machine.{overview_numbers}, Inner.Listed.{Lists}}
+use Rattle.std.proofs.Common.{◌≡◌, ℕ, Bool, true, false, IsTrue, List, [], ◌∷◌, ◌++◌, Option, None, Some, sym, ap, subst, ◌∙◌, arith}
+use Rattle.std.{proofs.lemmas.Bool.{true≢false}, specs.{Prelude.{◌↔◌, IfSome}, List.{AllByRecursion}}}
+use Rattle.nntp_article.specs.{Article.Parts.{Id}, Inner.Listed.{Lists}}
 use Rattle.nntp_wire.specs.{Listing.{ActiveValue, OverviewValue}, declared.range.Range.{Range}}
-use Rattle.nntp_said.specs.{Asks.{Ask, ListsIn}, Facts.{Fact, OverviewsAre, GroupsAre}}
-use Rattle.nntp_theory.specs.{Given.{is_shown_group}, Inner.Together.{IsWellFormed, said_of, join_said, Together, Join}}
-use Rattle.nntp_numbers.specs.Inner.Part.{Says}
-use Rattle.nntp_facts.specs.Inner.{ListedGroups.{MayList}, Saying.{OfGroup, OfArticle, Saying, facts_in, AreListed, IsToExist, MayBeOf, Tells, IsShownThen}}
-use Rattle.nntp_facts.specs.Inner.{Saying.{MaySay, asked_id, listing_group, overviews_facts}, Kept.{Kept, IsKept, AreKeptNames, AreKeptGroups, AreAdded}}
+use Rattle.nntp_said.specs.{Asks.{Ask}, Facts.{Fact, OverviewsAre, GroupsAre}}
+use Rattle.nntp_theory.specs.Inner.Together.{IsWellFormed, said_of, join_said, Together, Join}
+use Rattle.nntp_facts.specs.Inner.{ListedGroups.{MayList}, Saying.{OfGroup, OfArticle, Saying, facts_in, AreListed, IsToExist, MayBeOf, Tells, MaySay}}
+use Rattle.nntp_facts.specs.Inner.{Saying.{listing_group, overviews_facts}, Kept.{Kept, IsKept, AreKeptNames, AreKeptGroups, AreAdded}}
 use Rattle.nntp_facts.specs.Inner.{ListedOverviews.{HaveOwn}, KeptSaying.{MayListOf, IsTextOf, JoinGroups, MayBeSaid, ArticleJoins, IsArticleAdded}}
-use Rattle.nntp_facts.proofs.Keeping.OverviewsTold.{Overviews, plain_told, plain_alone, of_range, overviews_told, no_id_there, asks_there}
+use Rattle.nntp_facts.proofs.Keeping.OverviewsTold.{plain_told, plain_if, group_there, of_range, overviews_told, no_id_there, asks_there}
 use Rattle.nntp_facts.proofs.Keeping.{PartsJoin.{parts_join, said_of_parts}, SaidOfArticles.{said_append}, KeptArticles.{Articles}}
 
 -- what has the same parts is the same
@@ -38,19 +37,11 @@ list_added facts more s wildmat lines lists old new does is listed t formed adds
 
 -- the saying lists overviews of the group
 listing_is : (s : Saying) (g : OfGroup) → listing_group s ≡ Some g → (o : Range × List OverviewValue) × (s.overviews ≡ Some o) × (s.group ≡ Some g)
-listing_is s g e = by s.overviews refl e
-  where
-    by : (o : Overviews) → s.overviews ≡ o → option_map_or (λ o. s.group) o None ≡ Some g → (o : Range × List OverviewValue) × (s.overviews ≡ Some o) × (s.group ≡ Some g)
-    by None is e = absurd (cc)
-    by (Some o) is e = (o, is, e)
+listing_is s g e = grind arith
 
 -- or none
 pub lists_none : (facts : List Fact) (s : Saying) (asks : List Ask) → MaySay facts s asks → listing_group s ≡ None → s.overviews ≡ None
-lists_none facts s asks may e = by s.overviews refl e
-  where
-    by : (o : Overviews) → s.overviews ≡ o → option_map_or (λ o. s.group) o None ≡ None → o ≡ None
-    by None is e = refl
-    by (Some o) is e = sym is ∙ plain_alone facts s asks may e
+lists_none facts s asks may e = plain_if facts s asks may (λ o is. let g = group_there facts s asks may o is in grind (arith, e, is, g.1))
 
 -- so what is added of them is added
 pub overviews_added : (facts more : List Fact) (s : Saying) (g : OfGroup) (lists : Lists) (old new : Kept) (does : Bool) → listing_group s ≡ Some g
@@ -58,39 +49,21 @@ pub overviews_added : (facts more : List Fact) (s : Saying) (g : OfGroup) (lists
     → ((range : Range) → AllByRecursion IsWellFormed (overviews_facts (Some g) (range, lists.overviews)) → MayListOf facts g range lists.overviews
     → AreAdded facts (overviews_facts (Some g) (range, lists.overviews)) old new does)
     → AreAdded facts more old new does
-overviews_added facts more s g lists old new does e listed t formed adds =
-    subst (λ more. AreAdded facts more old new does) whole (adds o.0 (subst (AllByRecursion IsWellFormed) (sym whole) formed) (record {
-      shown = shown;
-      numbers = subst (Says g.numbers) (asks_there facts s t.asks t.may o is g named ∙ ap (λ os. ListsIn o.0 (overview_numbers os) ∷ []) (sym same))
-          (subst (λ o. IfSome o (λ (g : OfGroup). Says g.numbers (t.asks ++ asked_id g.id))) named t.may.numbers);
-      id = no_id_there facts s t.asks t.may o is g named;
-      own = subst HaveOwn (sym same) (of_range facts s t.asks t.may o is).own;
-    }))
+overviews_added facts more s g lists old new does e listed t formed adds = by (listing_is s g e)
   where
-    found : (o : Range × List OverviewValue) × (s.overviews ≡ Some o) × (s.group ≡ Some g)
-    found = listing_is s g e
-
-    o : Range × List OverviewValue
-    o = found.0
-
-    is : s.overviews ≡ Some found.0
-    is = found.1
-
-    named : s.group ≡ Some g
-    named = found.2
-
-    same : lists.overviews ≡ found.0.1
-    same = subst (λ o. IfSome o (λ o. lists.overviews ≡ o.1)) is listed.1
-
-    whole : OverviewsAre g.name found.0.0 lists.overviews ∷ [] ≡ more
-    whole = ap (λ os. OverviewsAre g.name found.0.0 os ∷ []) same ∙ sym (overviews_told facts s t.asks t.may found.0 is g named) ∙ t.same
-
-    shown : is_shown_group facts g.name ≡ true
-    shown = by (subst (λ o. IfSome o (λ (g : OfGroup). IsShownThen facts s.there_is t.asks g.name)) named t.may.shown)
-      where
-        by : IsShownThen facts s.there_is t.asks g.name → is_shown_group facts g.name ≡ true
-        by (inl h) = h
-        by (inr h) = absurd (let n : None ≡ Some g.name = sym (of_range facts s t.asks t.may found.0 is).there_is ∙ h.0 in cc)
+    by : (o : Range × List OverviewValue) × (s.overviews ≡ Some o) × (s.group ≡ Some g) → AreAdded facts more old new does
+    by (o, is, named) =
+        let of = of_range facts s t.asks t.may o is in
+        let asked = asks_there facts s t.asks t.may o is g named in
+        let same : lists.overviews ≡ o.1 = subst (λ o. IfSome o (λ o. lists.overviews ≡ o.1)) is listed.1 in
+        let whole : OverviewsAre g.name o.0 lists.overviews ∷ [] ≡ more =
+        ap (λ os. OverviewsAre g.name o.0 os ∷ []) same ∙ sym (overviews_told facts s t.asks t.may o is g named) ∙ t.same in
+        subst (λ more. AreAdded facts more old new does) whole (adds o.0 (subst (AllByRecursion IsWellFormed) (sym whole) formed) (record {
+          shown = grind (arith, t.may.shown, of.there_is, named);
+          numbers = grind (arith, t.may.numbers, asked, same, named);
+          id = no_id_there facts s t.asks t.may o is g named;
+          own = subst HaveOwn (sym same) of.own;
+        }))
 
 -- ---- where nothing is listed
 

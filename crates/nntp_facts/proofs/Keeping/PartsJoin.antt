@@ -1,14 +1,14 @@
 -- When the parts of an answer join what was said, and what is kept then.
-use Rattle.std.proofs.Common.{◌≡◌, ℕ, true, false, cond, List, [], ◌∷◌, ◌++◌, map, Option, None, Some, is_some, MatchOption, refl, sym, ap, subst, ◌∙◌, arith}
+use Rattle.std.proofs.Common.{◌≡◌, ℕ, true, false, cond, List, [], ◌∷◌, ◌++◌, Option, None, Some, is_some, MatchOption, refl, sym, ap, subst, ◌∙◌, arith}
 use Rattle.std.{proofs.lemmas.{Bool.{true≢false, or_left, or_right}, List.Folds.{list_any-append}}, specs.Prelude.{◌↔◌, IsFalse, IfSome}}
 use Rattle.std.specs.{Option.{option_map_or, option_or}, List.{AllByRecursion, list_any}, Cmp.Lexicographic.{same_text}}
 use Rattle.nntp_article.specs.{Article.Parts.{Id}, Session.{Spool.{Name}, Machine.{is_same}}}
 use Rattle.nntp_wire.specs.Listing.{ActiveValue}
-use Rattle.nntp_said.specs.{Asks.{Ask}, Facts.{Fact, Asks}}
+use Rattle.nntp_said.specs.{Asks.{Ask}, Facts.{Fact}}
 use Rattle.nntp_theory.specs.{Given.{asks_of, is_shown_group, first_given, id_in}, Inner.Together.{IsWellFormed, AgreesWithItself, said_of, said_nothing}}
 use Rattle.nntp_theory.specs.{Inner.Together.{join_said, Together, JoinNames, JoinNumbers, JoinIds, JoinArticle, Join}, Together.{denies_group, number_in}}
 use Rattle.nntp_theory.proofs.Together.{TwoListsOfFacts.{given_append}, FactsJoin.{asks_append}, FactsOfASpoolStand.{same_itself}}
-use Rattle.nntp_theory.proofs.{Ids.OnePlaceOfAnId.{agree_together, shown_with_id}, Members.{all_both}}
+use Rattle.nntp_theory.proofs.Ids.OnePlaceOfAnId.{agree_together, shown_with_id}
 use Rattle.nntp_facts.specs.Inner.Saying.{OfGroup, OfArticle, Lacks, Exists, Saying, asked_id, sent_facts, lack_facts, there_facts, missing_facts, groups_facts}
 use Rattle.nntp_facts.specs.Inner.{Saying.{id_facts, group_facts, facts_in, MaySay, IsToExist, MayBeOf, IsShownThen}, Kept.{told, Told, IsUntold, AreKept}}
 use Rattle.nntp_facts.specs.Inner.{Kept.{AreKeptGroups, with_part, Changes, Agree, IsShownAt, MayShow, AreKeptWith, id_of, place_of}, KeptSaying.{GroupJoins}}
@@ -33,36 +33,18 @@ of_part s name d placed may id = grind (arith, nothing_more, there_said, text_sa
 
 -- of the parts none is a list of overviews
 parts_agree : (s : Saying) (asks : List Ask) → AllByRecursion AgreesWithItself (facts_in s asks)
-parts_agree s asks =
-    all_both AgreesWithItself (sent_facts s.article) _ (sent s.article) (all_both AgreesWithItself (there_facts s.there_is) _ (there s.there_is)
-    (all_both AgreesWithItself (group_facts s.group asks) _ (of s.group) (all_both AgreesWithItself (missing_facts s.there_is_no) _ (missing s.there_is_no)
-    (all_both AgreesWithItself (lack_facts s.article) _ (lack s.article) (groups s.groups)))))
+parts_agree s asks = front s.article s.there_is _ (of s.group asks _ (back s.article s.there_is_no s.groups))
   where
-    sent : (a : Option (Id × OfArticle)) → AllByRecursion AgreesWithItself (sent_facts a)
-    sent a = grind arith
+    front : (a : Option (Id × OfArticle)) (o : Option Name) (more : List Fact) → AllByRecursion AgreesWithItself more → AllByRecursion AgreesWithItself (sent_facts a ++ (there_facts o ++ more))
+    front a o more h = grind arith
 
-    lack : (a : Option (Id × OfArticle)) → AllByRecursion AgreesWithItself (lack_facts a)
-    lack a = grind arith
+    of : (g : Option OfGroup) (asks : List Ask) (more : List Fact) → AllByRecursion AgreesWithItself more → AllByRecursion AgreesWithItself (group_facts g asks ++ more)
+    of None asks more h = h
+    of (Some g) [] more h = grind arith
+    of (Some g) (ask ∷ asks) more h = (tt, of (Some g) asks more h)
 
-    there : (o : Option Name) → AllByRecursion AgreesWithItself (there_facts o)
-    there o = grind arith
-
-    missing : (o : Option Name) → AllByRecursion AgreesWithItself (missing_facts o)
-    missing o = grind arith
-
-    groups : (o : Option (Option (List ℕ) × List ActiveValue)) → AllByRecursion AgreesWithItself (groups_facts o)
-    groups o = grind arith
-
-    asked : (name : Name) (asks : List Ask) → AllByRecursion AgreesWithItself (map (Asks name) asks)
-    asked name [] = tt
-    asked name (ask ∷ asks) = (tt, asked name asks)
-
-    at : (name : Name) (id : Option (ℕ × Id)) → AllByRecursion AgreesWithItself (id_facts name id)
-    at name id = grind arith
-
-    of : (g : Option OfGroup) → AllByRecursion AgreesWithItself (group_facts g asks)
-    of None = tt
-    of (Some g) = all_both AgreesWithItself (map (Asks g.name) asks) (id_facts g.name g.id) (asked g.name asks) (at g.name g.id)
+    back : (a : Option (Id × OfArticle)) (o : Option Name) (l : Option (Option (List ℕ) × List ActiveValue)) → AllByRecursion AgreesWithItself (missing_facts o ++ (lack_facts a ++ groups_facts l))
+    back a o l = grind arith
 
 -- ids and numbers of what is told agree where facts stand together
 pub agree_told : (facts : List Fact) → Together facts → (name : Name) (id : Option (ℕ × Id)) → Agree (told facts name).ids (told facts name).places id

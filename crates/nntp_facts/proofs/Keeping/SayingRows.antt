@@ -1,12 +1,12 @@
 -- What each kind of answer that fits tells.
-use Rattle.std.proofs.Common.{◌≡◌, ℕ, ◌<◌, ◌≤◌, ◌^◌, get_or, true, IsTrue, List, [], ◌∷◌, Option, None, Some, is_some, inl, inr, refl, sym, ap, subst, ◌∙◌}
-use Rattle.std.{proofs.{Common.{arith}, lemmas.Bool.{true≢false}}, specs.Prelude.{IfSome, option_map, unwrap_or}}
-use Rattle.nntp_article.specs.{Article.Parts.{Id}, Session.{Spool.{Name}, Machine.{Visible, fits, head_fits, overview_numbers, only}}}
+use Rattle.std.proofs.Common.{◌≡◌, ℕ, ◌<◌, ◌^◌, get_or, true, IsTrue, List, [], ◌∷◌, Option, None, Some, is_some, inl, inr, refl, sym, ap, subst, ◌∙◌, arith}
+use Rattle.std.{proofs.lemmas.Bool.{true≢false}, specs.Prelude.{IfSome, option_map, unwrap_or}}
+use Rattle.nntp_article.specs.{Article.Parts.{Id}, Session.{Spool.{Name}, Machine.{Visible, fits, overview_numbers, only}}}
 use Rattle.nntp_article.specs.{declared.session.profile.Profile.{Profile}, Inner.{Misfit.{numbers_of}, Listed.{Lists, lists_of}}}
-use Rattle.nntp_wire.specs.{Answer.{Asked, Response, Success}, declared.{command.What.{What}, marks.Marks.{Marks}, range.Range.{Range}}}
-use Rattle.nntp_wire.specs.{declared.water_marks.WaterMarks.{WaterMarks}, Listing.{OverviewValue, active_groups, listed_numbers, overviews_of}}
+use Rattle.nntp_wire.specs.{Answer.{Asked, Response, Success}, declared.{marks.Marks.{Marks}, range.Range.{Range}, water_marks.WaterMarks.{WaterMarks}}}
+use Rattle.nntp_wire.specs.Listing.{OverviewValue, active_groups, listed_numbers, overviews_of}
 use Rattle.nntp_said.specs.{declared.position.Position.{Position}, Asks.{Ask, Estimates, ListsIn, Has, Lacks, StandsAt, StandsNowhere, StepsUp, StepsDown}}
-use Rattle.nntp_said.specs.{Asks.{IsTop, IsBottom}, Facts.{Fact, ThereIs, Asks, IdAt, TextIs, OverviewsAre, here, facts_of, group_of}}
+use Rattle.nntp_said.specs.{Asks.{IsTop, IsBottom}, Facts.{Fact, ThereIs, Asks, IdAt, TextIs, here, facts_of, group_of}}
 use Rattle.nntp_theory.specs.Given.{is_shown_group}
 use Rattle.nntp_numbers.specs.Inner.{Part.{Said, Says, AreListable}, PartOf.{IsSmall, nothing_said, part_with}, Summary.{AreBounded}}
 use Rattle.nntp_numbers.proofs.{SaidInARange.{says_range, says_listed}, SaidOfAsks.{said_small, says_marks, marks_bounded, says_has, says_lacks, says_stands}}
@@ -80,28 +80,6 @@ module _ (v : Visible) (facts : List Fact) (is_shown : IsSelectedShown v facts) 
       → Row shown (Asks (here v) ask ∷ [])
   ask_row shown ask there says small = record { tells = record { asks = ask ∷ []; same = refl; may = assumption (says small, here_shown (ask ∷ []) there) }; group = refl; there = inr refl }
 
-  -- overviews of numbers of the selected group
-  overviews_row : (range : Range) (os : List OverviewValue) → IsTrue (is_some v.selected)
-      → (IsSmall (part_with (overview_numbers os) (ListsIn range (overview_numbers os)) nothing_said) → Says (part_with (overview_numbers os) (ListsIn range (overview_numbers os)) nothing_said)
-      (ListsIn range (overview_numbers os) ∷ [])) → HaveOwn os → Row (overview_numbers os) (OverviewsAre (here v) range os ∷ [])
-  overviews_row range os there says own small = record {
-    tells = record {
-      asks = ListsIn range (overview_numbers os) ∷ [];
-      same = refl;
-      may = record {
-        numbers = says small;
-        shown = here_shown (ListsIn range (overview_numbers os) ∷ []) there;
-        there = tt;
-        placed = tt;
-        article = tt;
-        overviews = record { lists = refl; own = own; group = refl; there_is = refl; there_is_no = refl; article = refl; groups = refl };
-        groups = tt;
-      };
-    };
-    group = refl;
-    there = inr refl;
-  }
-
   -- a step
   step_row : (ask : Ask) (n : ℕ) (id : Id) → IsTrue (is_some v.selected) → (IsSmall (part_with (n ∷ []) ask nothing_said) → Says (part_with (n ∷ []) ask nothing_said) (ask ∷ Has n ∷ []))
       → Row (n ∷ []) (Asks (here v) ask ∷ IdAt (here v) n id ∷ [])
@@ -120,19 +98,6 @@ module _ (v : Visible) (facts : List Fact) (is_shown : IsSelectedShown v facts) 
     there = inl refl;
   }
 
-  -- an article at a number
-  at_row : (what : What) (s : Success) → IsTrue (head_fits what s.id s.block) → IsTrue (is_some v.selected) → s.number < 2 ^ 64 → 1 ≤ s.number
-      → Row (s.number ∷ []) (TextIs what s.id s.block ∷ IdAt (here v) s.number s.id ∷ [])
-  at_row what s fits there few some small = grind (arith, says_has s.number few some)
-
-  -- the article at the position
-  here_row : (at : Position) (what : What) (s : Success) → IsTrue (head_fits what s.id s.block) → IsTrue (is_some v.selected) → 1 ≤ s.number
-      → Row (s.number ∷ []) (TextIs what s.id s.block ∷ Asks (here v) (StandsAt at s.number) ∷ IdAt (here v) s.number s.id ∷ [])
-  here_row at what s fits there some small =
-      let asks : List Ask = StandsAt at s.number ∷ [] in
-      let stands = says_stands at s.number small some in
-      record { tells = record { asks = asks; same = refl; may = assumption (stands, here_shown asks there, fits) }; group = refl; there = inr refl }
-
   -- a row of the table whose condition holds
   said_row : {profile : Profile} {at : Position} {Fits : Type 0} {a : Response} {more : List Fact} → ((i : ℕ) → get_or (numbers_of a) i 0 < 2 ^ 64)
       → rows.Row profile v at Fits a more → Fits → Row (numbers_shown (numbers_of a) a) more
@@ -143,9 +108,10 @@ module _ (v : Visible) (facts : List Fact) (is_shown : IsSelectedShown v facts) 
       ask_row [] (ListsIn range []) (known f) (λ small. says_listed range [] fit small (listable profile range [] (refl, refl))) small
   said_row {profile} fit (rows.within range lines known) f small =
       let os = overviews_of lines in
-      let ns = overview_numbers os in
-      overviews_row range os (known f).0 (λ small. says_listed range ns fit small (listable profile range ns (known f).1))
-      (record { numbers = (known f).1.0; ids = (known f).2 }) small
+      let asks = ListsIn range (overview_numbers os) ∷ [] in
+      let says = says_listed range (overview_numbers os) fit small (listable profile range (overview_numbers os) (known f).1) in
+      let own : HaveOwn os = record { numbers = (known f).1.0; ids = (known f).2 } in
+      record { tells = record { asks = asks; same = refl; may = assumption (says, here_shown asks (known f).0, own) }; group = refl; there = inr refl }
   said_row fit (rows.lacks code n known) f small = ask_row [] (Lacks n) (known f) (λ small. says_lacks [] n small.last) small
   said_row {profile} fit (rows.marks m name known) f small =
       tells_marks facts name _ profile.marks m _ _ (says_marks [] profile.marks m small.high) (marks_bounded profile.marks m small.high) refl refl
@@ -158,10 +124,12 @@ module _ (v : Visible) (facts : List Fact) (is_shown : IsSelectedShown v facts) 
   said_row fit (rows.text a what s gives known) f small = record { tells = record { asks = []; same = refl; may = assumption (known f) }; group = refl; there = tt }
   said_row {profile} fit (rows.text_at a what s gives known) f small =
       subst (λ shown. Row shown (TextIs what s.id s.block ∷ IdAt (here v) s.number s.id ∷ [])) (sym (number_given gives))
-      (λ small. at_row what s (known f).0 (known f).1.0 small.last (numbered profile s.number (known f).1.1) small) small
+      (λ small. let says = says_has s.number small.last (numbered profile s.number (known f).1.1) in
+      record { tells = record { asks = []; same = refl; may = assumption (says, here_shown [] (known f).1.0, (known f).0) }; group = refl; there = inr refl }) small
   said_row {profile} {at} fit (rows.text_here a what s gives known) f small =
       subst (λ shown. Row shown (TextIs what s.id s.block ∷ Asks (here v) (StandsAt at s.number) ∷ IdAt (here v) s.number s.id ∷ [])) (sym (number_given gives))
-      (here_row at what s (known f).0 (known f).1.0 (numbered profile s.number (known f).1.1)) small
+      (λ small. let asks = StandsAt at s.number ∷ [] in let stands = says_stands at s.number small (numbered profile s.number (known f).1.1) in
+      record { tells = record { asks = asks; same = refl; may = assumption (stands, here_shown asks (known f).1.0, (known f).0) }; group = refl; there = inr refl }) small
   said_row {profile} fit (rows.active p lines known) f small =
       record { tells = record { asks = []; same = refl; may = assumption (may_list profile p (active_groups lines) (known f).0 (known f).1) }; group = refl; there = tt }
   said_row fit r f small = record { tells = record { asks = []; same = refl; may = assumption }; group = refl; there = tt }

@@ -17,7 +17,7 @@ returns-clause-kept g c =
     let same_name = c.of_overview.ensures.name in
     let same_id = c.of_overview.ensures.id in
     let known = subst (λ k. AreKeptArticles facts k.articles) (sym c.self.view_is) articles in
-    let noted = surely_added facts c.as_str.result.now c.self.inside.articles c.stand.new.self _
+    let noted = surely_added facts c.as_str.result.now c.self.inside.articles c.stand.new.self _ known
     (subst (λ id. IsFalse (list_any (denies_article id) facts)) (sym is) may.free) (c.in_ok-added.ensures.added facts known) in
     let text = c.in_ok-added.ensures.text noted.0 in (
       subst (λ name. AreKeptWith tells name [] (Some at) c.add.new.self) same_name (subst (λ id. AreKeptWith tells part.name.now [] id c.add.new.self) same_id
