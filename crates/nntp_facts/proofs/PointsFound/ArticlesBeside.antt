@@ -1,14 +1,14 @@
 -- Points that are about articles, where what an answer says conflicts with what is kept.
 use Rattle.std.proofs.Common.{ℕ, Bool, true, false, not, cond, IsTrue, List, ◌≡◌, ◌++◌, ◌||◌, ◌⊎◌, Option, None, Some, inl, inr, refl, sym, ap, subst, ◌∙◌}
-use Rattle.std.{proofs.{Common.{arith}, lemmas.Bool.{true≢false, cases_Bool, or_cases, or_left, or_right}}, specs.Prelude.{IfSome, IsFalse, MatchOption}}
+use Rattle.std.{proofs.{Common.{arith}, lemmas.{Bool.{true≢false, cases_Bool, or_left, or_right}, List.Folds.{list_any-append}}}, specs.Prelude.{IfSome, IsFalse, MatchOption}}
 use Rattle.std.specs.{List.{list_any}, Option.{option_map_or}, Cmp.Lexicographic.{same_text}}
 use Rattle.nntp_wire.specs.{Listing.{OverviewValue}, declared.{command.What.{What}, range.Range.{Range}}}
 use Rattle.nntp_article.specs.{Article.Parts.{Id, Line}, Session.Machine.{is_same, head_fits}, declared.session.profile.Profile.{Profile}}
 use Rattle.nntp_said.specs.Facts.{Fact}
 use Rattle.nntp_theory.specs.{Given.{first_given, head_in, body_in}, Together.{GiveOne, shows_article, denies_article}, Inner.Together.{SaidOfArticle, said_of}}
 use Rattle.nntp_theory.specs.{Inner.Together.{said_nothing, join_said, AreSame}, Conflict.{Point, Article, HeadOf, BodyOf, ConflictAt}}
-use Rattle.nntp_theory.proofs.{Members.{any_in, found_in, first_found}, Conflicts.{at_point}, PointsByRank.{of_rank}, Together.FactsOfASpoolStand.{same_itself}}
-use Rattle.nntp_theory.proofs.Together.TwoListsOfFacts.{give_one_both, give_same_of_both}
+use Rattle.nntp_theory.proofs.{Members.{In, any_in, found_in, first_found}, Conflicts.{at_point}, PointsByRank.{of_rank}, Together.FactsOfASpoolStand.{same_itself}}
+use Rattle.nntp_theory.proofs.Together.TwoListsOfFacts.{apart_both, give_one_both, give_same_of_both}
 use Rattle.nntp_facts.specs.Inner.{Kept.{Kept, said_kept}, Saying.{OfArticle, Sends, MayBeOf}, KeptSaying.{kept_by, said_in, said_listed}, Points.{Statement}}
 use Rattle.nntp_facts.{specs.Inner.{Points.{IsPointOf, IsBeside, said_by}, Articles.{unsent}}, proofs.Keeping.SaidOfArticles.{said_append}}
 use Rattle.nntp_facts.proofs.{Keeping.{ListedOverviews.{none_gives}, OverviewsTold.{Overviews, plain_by_article}}, PointsFound.StatementsRead.{article_told}}
@@ -45,6 +45,22 @@ none_of part = grind arith
 conflict_about : (part : Part) (id : Id) (facts : List Fact) → (GiveOne (part_in part id) facts → ⊥) → ConflictAt facts (about part id)
 conflict_about part id facts c = grind arith
 
+-- what a saying says of an id isn't both that it has an article and that it has none
+said_apart : (o : Overviews) (a : Option (Id × OfArticle)) (id : Id) → IsTrue (option_map_or (λ o. said_listed o.1 id) o (said_in a id)).is_shown
+    → IsFalse (option_map_or (λ o. said_listed o.1 id) o (said_in a id)).is_denied
+said_apart None a id s = grind (arith, true≢false)
+said_apart (Some o) a id s = grind (arith, true≢false)
+
+-- overviews show the articles of their ids, and deny none
+listed_shown : (id : Id) (os : List OverviewValue) → IsTrue (said_listed os id).is_shown → (v : OverviewValue) × In v os × (v.id ≡ id)
+listed_shown id os s = grind (arith, found_in (λ (v : OverviewValue). is_same v.id id) os, same_text, true≢false)
+
+each_shown : (v : OverviewValue) (os : List OverviewValue) → In v os → IsTrue (said_listed os v.id).is_shown
+each_shown v os i = grind (arith, any_in (λ (w : OverviewValue). is_same w.id v.id) v os i, same_itself v.id)
+
+none_denied : (id : Id) (os : List OverviewValue) → IsTrue (said_listed os id).is_denied → ⊥
+none_denied id os d = grind (arith, true≢false)
+
 -- ---- one answer beside the others
 
 module _ (profile : Profile) (facts : List Fact) (k : Kept) (t : Statement) (more : List Fact) (h : IsBeside profile facts k t more) where
@@ -60,38 +76,22 @@ module _ (profile : Profile) (facts : List Fact) (k : Kept) (t : Statement) (mor
 
   -- ---- whether an id has an article
 
-  said_all : (id : Id) → said_of all id ≡ join_said (said_of facts id) (said_by t.saying id)
-  said_all id = said_append facts more id ∙ ap (join_said (said_of facts id)) (article_told profile t more h.tells id)
+  shown_told : (id : Id) → list_any (shows_article id) more ≡ (said_by t.saying id).is_shown
+  shown_told id = ap (λ (s : SaidOfArticle). s.is_shown) (article_told profile t more h.tells id)
+
+  denied_told : (id : Id) → list_any (denies_article id) more ≡ (said_by t.saying id).is_denied
+  denied_told id = ap (λ (s : SaidOfArticle). s.is_denied) (article_told profile t more h.tells id)
 
   shown_in_all : (id : Id) → list_any (shows_article id) all ≡ (list_any (shows_article id) facts || (said_by t.saying id).is_shown)
-  shown_in_all id = ap (λ (s : SaidOfArticle). s.is_shown) (said_all id)
+  shown_in_all id = list_any-append (shows_article id) facts more ∙ ap (λ b. list_any (shows_article id) facts || b) (shown_told id)
 
   denied_in_all : (id : Id) → list_any (denies_article id) all ≡ (list_any (denies_article id) facts || (said_by t.saying id).is_denied)
-  denied_in_all id = ap (λ (s : SaidOfArticle). s.is_denied) (said_all id)
+  denied_in_all id = list_any-append (denies_article id) facts more ∙ ap (λ b. list_any (denies_article id) facts || b) (denied_told id)
 
   article_free : ((id : Id) → IsTrue (said_by t.saying id).is_shown → IsFalse (list_any (denies_article id) facts))
       → ((id : Id) → IsTrue (said_by t.saying id).is_denied → IsFalse (list_any (shows_article id) facts)) → IsFree 7
-  article_free shown denied = of_rank Free 7 (λ id c. elim (or_cases (list_any (shows_article id) facts) (said_by t.saying id).is_shown (sym (shown_in_all id) ∙ c.0)) [
-    | inl s ↦ elim (or_cases (list_any (denies_article id) facts) (said_by t.saying id).is_denied (sym (denied_in_all id) ∙ c.1)) [
-      | inl d ↦ at_point facts (Article id) (s, d) h.together
-      | inr d ↦ true≢false (sym s ∙ denied id d)
-    ]
-    | inr s ↦ grind (arith, or_cases, denied_in_all, true≢false)
-  ])
-    where
-      listed_apart : (b : Bool) → IsTrue (cond b (said_kept (Some unsent)) said_nothing).is_shown → IsTrue (cond b (said_kept (Some unsent)) said_nothing).is_denied → ⊥
-      listed_apart b s d = grind (arith, true≢false)
-
-      said_apart : (o : Option (Id × OfArticle)) (id : Id) → IsTrue (said_in o id).is_shown → IsTrue (said_in o id).is_denied → ⊥
-      said_apart o id s d = grind (arith, true≢false)
-
-      by : (o : Overviews) (id : Id) → IsTrue (option_map_or (λ o. said_listed o.1 id) o (said_in t.saying.article id)).is_shown
-          → IsTrue (option_map_or (λ o. said_listed o.1 id) o (said_in t.saying.article id)).is_denied → ⊥
-      by None id s d = said_apart t.saying.article id s d
-      by (Some o) id s d = listed_apart (list_any (λ v. is_same v.id id) o.1) s d
-
-      apart : (id : Id) → IsTrue (said_by t.saying id).is_shown → IsTrue (said_by t.saying id).is_denied → ⊥
-      apart = by t.saying.overviews
+  article_free shown denied = of_rank Free 7 (λ id c. true≢false (sym c.1 ∙ apart_both (shows_article id) (denies_article id) facts more (h.together.articles id)
+      (λ s. denied_told id ∙ said_apart t.saying.overviews t.saying.article id (sym (shown_told id) ∙ s)) (λ s. shown id (sym (shown_told id) ∙ s)) (λ d. denied id (sym (denied_told id) ∙ d)) c.0))
 
   -- where no overviews are said
   said_plain : (id : Id) → t.saying.overviews ≡ None → said_by t.saying id ≡ said_in t.saying.article id
@@ -103,56 +103,28 @@ module _ (profile : Profile) (facts : List Fact) (k : Kept) (t : Statement) (mor
       article_free (λ id s. absurd (true≢false (sym s ∙ ap (λ (s : SaidOfArticle). s.is_shown) (none id))))
       (λ id d. absurd (true≢false (sym d ∙ ap (λ (s : SaidOfArticle). s.is_denied) (none id))))
 
-  -- ---- overviews
+  -- of overviews the first whose id is denied
+  pub listed_article : (o : Range × List OverviewValue) → t.saying.overviews ≡ Some o → (p : Option Point)
+      → p ≡ first_given (λ v. cond (list_any (denies_article v.id) facts) (Some (Article v.id)) None) o.1 → IsPointOf all 7 p
+  listed_article o listed = go
+    where
+      said : (id : Id) → said_by t.saying id ≡ said_listed o.1 id
+      said id = ap (λ (o : Overviews). option_map_or (λ o. said_listed o.1 id) o (said_in t.saying.article id)) listed
 
-  module _ (o : Range × List OverviewValue) (listed : t.saying.overviews ≡ Some o) where
-    said_of_listed : (id : Id) → said_by t.saying id ≡ said_listed o.1 id
-    said_of_listed id = ap (λ (o : Overviews). option_map_or (λ o. said_listed o.1 id) o (said_in t.saying.article id)) listed
-
-    -- an overview shows an article, and none is denied
-    listed_shown : (id : Id) → IsTrue (said_by t.saying id).is_shown → IsTrue (list_any (λ v. is_same v.id id) o.1)
-    listed_shown id s = by (list_any (λ v. is_same v.id id) o.1) (sym (ap (λ (s : SaidOfArticle). s.is_shown) (said_of_listed id)) ∙ s)
-      where
-        by : (b : Bool) → IsTrue (cond b (said_kept (Some unsent)) said_nothing).is_shown → IsTrue b
-        by true s = refl
-        by false s = s
-
-    none_denied : (id : Id) → IsTrue (said_by t.saying id).is_denied → ⊥
-    none_denied id d = by (list_any (λ v. is_same v.id id) o.1) (sym (ap (λ (s : SaidOfArticle). s.is_denied) (said_of_listed id)) ∙ d)
-      where
-        by : (b : Bool) → IsTrue (cond b (said_kept (Some unsent)) said_nothing).is_denied → ⊥
-        by true d = true≢false (sym d)
-        by false d = true≢false (sym d)
-
-    abbrev denied_at : OverviewValue → Option Point
-    denied_at v = cond (list_any (denies_article v.id) facts) (Some (Article v.id)) None
-
-    denied_free : (id : Id) (b : Bool) → cond b (Some (Article id)) None ≡ None → b ≡ false
-    denied_free id true e = absurd (cc)
-    denied_free id false e = refl
-
-    denied_there : (id : Id) (point : Point) (b : Bool) → cond b (Some (Article id)) None ≡ Some point → (b ≡ true) × (point ≡ Article id)
-    denied_there id point true e = (refl, cc)
-    denied_there id point false e = absurd (cc)
-
-    -- the first that is denied
-    pub listed_article : (p : Option Point) → p ≡ first_given denied_at o.1 → IsPointOf all 7 p
-    listed_article None found = article_free
-        (λ id s. let f = found_in (λ (v : OverviewValue). is_same v.id id) o.1 (listed_shown id s) in
-        subst (λ id. IsFalse (list_any (denies_article id) facts)) (same_text f.0.id id (sym f.2)) (denied_free f.0.id _ (none_gives denied_at o.1 (sym found) f.0 f.1)))
-        (λ id d. absurd (none_denied id d))
-    listed_article (Some point) found =
-        let f = first_found denied_at o.1 point (sym found) in
-        let d = denied_there f.0.id point (list_any (denies_article f.0.id) facts) f.2 in
-        let there : list_any (λ v. is_same v.id f.0.id) o.1 ≡ true = any_in (λ (v : OverviewValue). is_same v.id f.0.id) f.0 o.1 f.1 (same_itself f.0.id) in
-        let shown : (said_by t.saying f.0.id).is_shown ≡ true = ap (λ (s : SaidOfArticle). s.is_shown) (said_of_listed f.0.id ∙ ap (λ b. cond b (said_kept (Some unsent)) said_nothing) there) in
-        subst (λ point. IsPointOf all 7 (Some point)) (sym d.1) (
-          (
+      go : (p : Option Point) → p ≡ first_given (λ v. cond (list_any (denies_article v.id) facts) (Some (Article v.id)) None) o.1 → IsPointOf all 7 p
+      go None found = article_free
+          (λ id s. let f = listed_shown id o.1 (sym (ap (λ (s : SaidOfArticle). s.is_shown) (said id)) ∙ s) in
+          let none = none_gives (λ v. cond (list_any (denies_article v.id) facts) (Some (Article v.id)) None) o.1 (sym found) f.0 f.1 in
+          subst (λ id. IsFalse (list_any (denies_article id) facts)) f.2 (grind arith))
+          (λ id d. absurd (none_denied id o.1 (sym (ap (λ (s : SaidOfArticle). s.is_denied) (said id)) ∙ d)))
+      go (Some point) found =
+          let f = first_found (λ (v : OverviewValue). cond (list_any (denies_article v.id) facts) (Some (Article v.id)) None) o.1 point (sym found) in
+          let shown = ap (λ (s : SaidOfArticle). s.is_shown) (said f.0.id) ∙ each_shown f.0 o.1 f.1 in
+          let d : (list_any (denies_article f.0.id) facts ≡ true) × (Article f.0.id ≡ point) = grind (arith, f.2) in
+          subst (λ point. IsPointOf all 7 (Some point)) d.1 ((
             shown_in_all f.0.id ∙ or_right (list_any (shows_article f.0.id) facts) (said_by t.saying f.0.id).is_shown shown,
             denied_in_all f.0.id ∙ or_left (list_any (denies_article f.0.id) facts) (said_by t.saying f.0.id).is_denied d.0,
-          ),
-          refl,
-        )
+          ), refl)
 
   -- where something is said of an id
   module _ (id : Id) (a : OfArticle) (e : t.saying.article ≡ Some (id, a)) where
