@@ -61,6 +61,12 @@ each_shown v os i = grind (arith, any_in (λ (w : OverviewValue). is_same w.id v
 none_denied : (id : Id) (os : List OverviewValue) → IsTrue (said_listed os id).is_denied → ⊥
 none_denied id os d = grind (arith, true≢false)
 
+-- overviews send no part, nor does what sends none
+none_sent : (part : Part) (os : Overviews) (o : Option (Id × OfArticle)) → IfSome o (λ a. part_of part (said_kept (Some (kept_by a.1))) ≡ None) → (id : Id)
+    → part_of part (option_map_or (λ l. said_listed l.1 id) os (said_in o id)) ≡ None
+none_sent part None o none id = grind (arith, none_of)
+none_sent part (Some l) o none id = grind (arith, none_of)
+
 -- ---- one answer beside the others
 
 module _ (profile : Profile) (facts : List Fact) (k : Kept) (t : Statement) (more : List Fact) (h : IsBeside profile facts k t more) where
@@ -100,8 +106,7 @@ module _ (profile : Profile) (facts : List Fact) (k : Kept) (t : Statement) (mor
   pub no_article : t.saying.overviews ≡ None → t.saying.article ≡ None → IsFree 7
   no_article plain e =
       let none : (id : Id) → said_by t.saying id ≡ said_nothing = λ id. said_plain id plain ∙ ap (λ a. said_in a id) e in
-      article_free (λ id s. absurd (true≢false (sym s ∙ ap (λ (s : SaidOfArticle). s.is_shown) (none id))))
-      (λ id d. absurd (true≢false (sym d ∙ ap (λ (s : SaidOfArticle). s.is_denied) (none id))))
+      article_free (λ id s. grind (arith, none id, true≢false)) (λ id d. grind (arith, none id, true≢false))
 
   -- of overviews the first whose id is denied
   pub listed_article : (o : Range × List OverviewValue) → t.saying.overviews ≡ Some o → (p : Option Point)
@@ -139,15 +144,7 @@ module _ (profile : Profile) (facts : List Fact) (k : Kept) (t : Statement) (mor
     others q = grind (arith, cases_Bool, same_text, said_plain q plain)
 
     own_free : (IsTrue (not (kept_by a).is_denied) → IsFalse (list_any (denies_article id) facts)) → (IsTrue (kept_by a).is_denied → IsFalse (list_any (shows_article id) facts)) → IsFree 7
-    own_free shown denied = article_free
-        (λ q s. elim (others q) [
-          | inl same ↦ grind (arith, own)
-          | inr none ↦ absurd (true≢false (sym s ∙ ap (λ (s : SaidOfArticle). s.is_shown) none))
-        ])
-        (λ q d. elim (others q) [
-          | inl same ↦ grind (arith, own)
-          | inr none ↦ absurd (true≢false (sym d ∙ ap (λ (s : SaidOfArticle). s.is_denied) none))
-        ])
+    own_free shown denied = article_free (λ q s. grind (arith, others q, own, true≢false)) (λ q d. grind (arith, others q, own, true≢false))
 
     -- that it has no article
     pub lacks : (kept_by a).is_denied ≡ true → (o : Option Point) → o ≡ cond (list_any (shows_article id) facts) (Some (Article id)) None → IsPointOf all 7 o
@@ -173,29 +170,16 @@ module _ (profile : Profile) (facts : List Fact) (k : Kept) (t : Statement) (mor
   abbrev IsAlike : Part → Id → Option (List Line) → Type 0
   IsAlike part id sent = AreSame sent (first_given (part_in part id) facts)
 
-  part_once : (part : Part) (id : Id) → IsAlike part id (part_of part (said_by t.saying id)) → GiveOne (part_in part id) all
-  part_once Head id same = give_one_both (head_in id) facts more (h.together.heads id)
-      (alone_once profile (head_in id) (λ name. refl) (λ name ask. refl) t more h.tells (h.tells.agree.heads id)) (subst (IsAlike Head id) (sym (part_given Head id)) same)
-  part_once Body id same = give_one_both (body_in id) facts more (h.together.bodies id)
-      (alone_once profile (body_in id) (λ name. refl) (λ name ask. refl) t more h.tells (h.tells.agree.bodies id)) (subst (IsAlike Body id) (sym (part_given Body id)) same)
-
   part_free : (part : Part) → ((id : Id) → IsAlike part id (part_of part (said_by t.saying id))) → IsFree (part_rank part)
-  part_free Head same = of_rank Free 8 (λ id c. c (part_once Head id (same id)))
-  part_free Body same = of_rank Free 9 (λ id c. c (part_once Body id (same id)))
+  part_free Head same = of_rank Free 8 (λ id c. c (give_one_both (head_in id) facts more (h.together.heads id)
+      (alone_once profile (head_in id) (λ name. refl) (λ name ask. refl) t more h.tells (h.tells.agree.heads id)) (subst (IsAlike Head id) (sym (part_given Head id)) (same id))))
+  part_free Body same = of_rank Free 9 (λ id c. c (give_one_both (body_in id) facts more (h.together.bodies id)
+      (alone_once profile (body_in id) (λ name. refl) (λ name ask. refl) t more h.tells (h.tells.agree.bodies id)) (subst (IsAlike Body id) (sym (part_given Body id)) (same id))))
 
   -- of an answer that sends no such part
   pub no_part : (part : Part) (o : Option (Id × OfArticle)) → t.saying.article ≡ o → IfSome o (λ a. part_of part (said_kept (Some (kept_by a.1))) ≡ None) → IsFree (part_rank part)
-  no_part part o e none = part_free part (λ id. subst (IsAlike part id) (sym (of t.saying.overviews id)) tt)
-    where
-      by : (o : Option (Id × OfArticle)) → IfSome o (λ a. part_of part (said_kept (Some (kept_by a.1))) ≡ None) → (id : Id) → part_of part (said_in o id) ≡ None
-      by o none id = grind (arith, none_of)
-
-      of_listed : (b : Bool) → part_of part (cond b (said_kept (Some unsent)) said_nothing) ≡ None
-      of_listed b = grind (arith, none_of)
-
-      of : (os : Overviews) (id : Id) → part_of part (option_map_or (λ o. said_listed o.1 id) os (said_in t.saying.article id)) ≡ None
-      of None id = ap (λ a. part_of part (said_in a id)) e ∙ by o none id
-      of (Some l) id = of_listed (list_any (λ v. is_same v.id id) l.1)
+  no_part part o e none = part_free part (λ id. subst (IsAlike part id)
+      (sym (ap (λ a. part_of part (option_map_or (λ o. said_listed o.1 id) t.saying.overviews (said_in a id))) e ∙ none_sent part t.saying.overviews o none id)) tt)
 
   -- of one that sends it, if it sends one
   module _ (part : Part) (id : Id) (what : What) (lines : Option (List Line)) (e : t.saying.article ≡ Some (id, Sends what lines)) (sent : Option (List Line))

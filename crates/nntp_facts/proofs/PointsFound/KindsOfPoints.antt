@@ -9,7 +9,7 @@ use Rattle.nntp_said.specs.{Asks.{Ask, Bounds, Estimates}, Facts.{Fact, ThereIs,
 use Rattle.nntp_theory.specs.{Given.{asks_of, shows_group, is_shown_group, first_given, is_known, is_denied, demand, IsGivenNumber}, Together.{is_possible}}
 use Rattle.nntp_theory.specs.{Together.{MeetsDemand, GiveOne, denies_group}, Conflict.{widest, the_group, Point, Step, Group, Number, Count, First, rank}}
 use Rattle.nntp_theory.{specs.Conflict.{ConflictAt, AreTooMany}, proofs.{Members.{all_at, all_from, found_in}, Conflicts.{at_point}, PointsByRank.{of_rank}}}
-use Rattle.nntp_theory.proofs.Together.{FactsJoin.{asks_append}, FactsOfASpoolStand.{same_itself}}
+use Rattle.nntp_theory.proofs.Together.{FactsJoin.{asks_append}, FactsOfASpoolStand.{same_itself}, TwoListsOfFacts.{give_one_both}}
 use Rattle.nntp_numbers.specs.Inner.Part.{Says}
 use Rattle.nntp_facts.specs.Inner.{Kept.{Kept}, Saying.{OfGroup, asked_id, IsAlone}, ListedGroups.{is_listed, MayList, NoneIsMissing}, Points.{Statement}}
 use Rattle.nntp_facts.specs.Inner.Points.{TellsAlone, IsPointOf, IsPointIn, IsBeside, IsAbout, is_impossible, shows_name, denies_name, bounds_of}
@@ -22,17 +22,11 @@ cannot ask = not (is_possible ask)
 
 not_all : (asks : List Ask) → list_any cannot asks ≡ not (list_all is_possible asks)
 not_all [] = refl
-not_all (ask ∷ asks) = by (is_possible ask) (not_all asks)
-  where
-    by : (b : Bool) → list_any cannot asks ≡ not (list_all is_possible asks) → (not b || list_any cannot asks) ≡ not (b && list_all is_possible asks)
-    by b rest = grind arith
+not_all (ask ∷ asks) = grind (arith, not_all asks)
 
 bounds_can : (name : Name) (lines : List ActiveValue) → list_any cannot (bounds_of name lines) ≡ false
 bounds_can name [] = refl
-bounds_can name (line ∷ lines) = by (is_same line.name name) (bounds_can name lines)
-  where
-    by : (b : Bool) → list_any cannot (bounds_of name lines) ≡ false → list_any cannot (cond b (Bounds line.low line.high ∷ []) [] ++ bounds_of name lines) ≡ false
-    by b e = grind arith
+bounds_can name (line ∷ lines) = grind (arith, bounds_can name lines)
 
 -- what an answer says can't be where its part says so
 pub impossible_told : (profile : Profile) (t : Statement) (here : List Fact) → TellsAlone profile t here → (name : Name) → list_any cannot (asks_of name here) ≡ is_impossible name t
@@ -56,21 +50,12 @@ module _ (profile : Profile) where
   -- what one answer gives it gives once
   pub alone_once : {A : Type 0} (f : Fact → Option A) → ((name : Name) → f (ThereIs name) ≡ None) → ((name : Name) (ask : Ask) → f (Asks name ask) ≡ None)
       → (t : Statement) (here : List Fact) (tells : TellsAlone profile t here) → GiveOne f tells.own → GiveOne f here
-  alone_once {A} f there ask t here tells once = subst (GiveOne f) tells.whole (by (group_of tells.own))
+  alone_once f there ask t here tells once = subst (GiveOne f) tells.whole (by (group_of tells.own))
     where
-      none : (facts : List Fact) (fact : Fact) → f fact ≡ None → IfSome (f fact) (λ x. first_given f facts ≡ Some x)
-      none facts fact e = subst (λ o. IfSome o (λ x. first_given f facts ≡ Some x)) (sym e) tt
-
       by : (g : Option Name) → GiveOne f (the_group profile g ++ tells.own)
       by None = once
-      by (Some name) = (
-        none (the_group profile (Some name) ++ tells.own) (ThereIs name) (there name),
-        (
-          none (the_group profile (Some name) ++ tells.own) (Asks name (Estimates Lenient (widest profile))) (ask name (Estimates Lenient (widest profile))),
-          subst (λ o. AllByRecursion (λ fact. IfSome (f fact) (λ x. o ≡ Some x)) tells.own)
-              (λ i. option_or (sym (there name) i) (option_or (sym (ask name (Estimates Lenient (widest profile))) i) (first_given f tells.own))) once,
-        ),
-      )
+      by (Some name) = let none = there name in let none_asked = ask name (Estimates Lenient (widest profile)) in
+          give_one_both f (the_group profile (Some name)) tells.own (grind (arith, none, none_asked)) once (grind (arith, none, none_asked))
 
 -- ---- one answer beside the others
 

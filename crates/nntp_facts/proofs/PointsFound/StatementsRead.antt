@@ -115,25 +115,26 @@ module _ (profile : Profile) (t : Statement) (facts : List Fact) (h : TellsAlone
       → first_given f facts ≡ first_given f (facts_told t.saying h.tells.asks)
   past_group f there ask = grind arith
 
-  pub id_given : (name : Name) (n : ℕ) → first_given (id_in name n) facts ≡ id_told name n t
-  id_given name n = past_group (id_in name n) (λ name. refl) (λ name ask. refl) ∙ by t.saying.groups refl t.saying.group refl
+  -- of the group of which it speaks, where no groups are listed
+  group_given : {A : Type 0} (f : Fact → Option A) → ((name : Name) → f (ThereIs name) ≡ None) → ((name : Name) (ask : Ask) → f (Asks name ask) ≡ None)
+      → ((l : Option (List ℕ) × List ActiveValue) → f (GroupsAre l.0 l.1) ≡ None) → (said : OfGroup → Option A)
+      → (t.saying.groups ≡ None → t.saying.group ≡ None → first_given f (facts_in t.saying h.tells.asks) ≡ None)
+      → (t.saying.groups ≡ None → (g : OfGroup) → t.saying.group ≡ Some g → first_given f (facts_told t.saying h.tells.asks) ≡ said g) → first_given f facts ≡ option_map_or said t.saying.group None
+  group_given {A} f there ask lists said none some = past_group f there ask ∙ by t.saying.groups refl t.saying.group refl
     where
       by : (o : Option (Option (List ℕ) × List ActiveValue)) → t.saying.groups ≡ o → (g : Option OfGroup) → t.saying.group ≡ g
-          → first_given (id_in name n) (facts_told t.saying h.tells.asks) ≡ option_map_or (λ g. cond (is_same g.name name) (id_said t.saying g.id n) None) g None
-      by None none None e = ap (first_given (id_in name n)) (plain_alone_told e) ∙ (no_group_is h.before t.saying h.tells.asks none h.tells.may e).1.ids name n
-      by None none (Some g) e = ids_by_told h.before t.saying h.tells.asks h.tells.may none g e name n
-      by (Some l) is None e = ap (first_given (id_in name n)) (listed_facts t.saying h.tells.asks l (alone l is) is)
-      by (Some l) is (Some g) e = absurd (let n : None ≡ Some g = sym (alone l is).group ∙ e in cc)
+          → first_given f (facts_told t.saying h.tells.asks) ≡ option_map_or said g None
+      by None is None e = ap (first_given f) (plain_alone_told e) ∙ none is e
+      by None is (Some g) e = some is g e
+      by (Some l) is g e = grind (arith, listed_facts t.saying h.tells.asks l (alone l is) is, lists l, alone l is)
+
+  pub id_given : (name : Name) (n : ℕ) → first_given (id_in name n) facts ≡ id_told name n t
+  id_given name n = group_given (id_in name n) (λ name. refl) (λ name ask. refl) (λ l. refl) (λ g. cond (is_same g.name name) (id_said t.saying g.id n) None)
+      (λ none e. (no_group_is h.before t.saying h.tells.asks none h.tells.may e).1.ids name n) (λ none g e. ids_by_told h.before t.saying h.tells.asks h.tells.may none g e name n)
 
   pub place_given : (name : Name) (id : Id) → first_given (number_in name id) facts ≡ place_told name id t
-  place_given name id = past_group (number_in name id) (λ name. refl) (λ name ask. refl) ∙ by t.saying.groups refl t.saying.group refl
-    where
-      by : (o : Option (Option (List ℕ) × List ActiveValue)) → t.saying.groups ≡ o → (g : Option OfGroup) → t.saying.group ≡ g
-          → first_given (number_in name id) (facts_told t.saying h.tells.asks) ≡ option_map_or (λ g. cond (is_same g.name name) (place_said t.saying g.id id) None) g None
-      by None none None e = ap (first_given (number_in name id)) (plain_alone_told e) ∙ (no_group_is h.before t.saying h.tells.asks none h.tells.may e).1.places name id
-      by None none (Some g) e = places_by_told h.before t.saying h.tells.asks h.tells.may none g e name id
-      by (Some l) is None e = ap (first_given (number_in name id)) (listed_facts t.saying h.tells.asks l (alone l is) is)
-      by (Some l) is (Some g) e = absurd (let n : None ≡ Some g = sym (alone l is).group ∙ e in cc)
+  place_given name id = group_given (number_in name id) (λ name. refl) (λ name ask. refl) (λ l. refl) (λ g. cond (is_same g.name name) (place_said t.saying g.id id) None)
+      (λ none e. (no_group_is h.before t.saying h.tells.asks none h.tells.may e).1.places name id) (λ none g e. places_by_told h.before t.saying h.tells.asks h.tells.may none g e name id)
 
   -- ---- articles
 
@@ -141,8 +142,7 @@ module _ (profile : Profile) (t : Statement) (facts : List Fact) (h : TellsAlone
   article_told id = ap (λ facts. said_of facts id) (sym whole) ∙ past t.group ∙ by t.saying.groups refl
     where
       past : (g : Option Name) → said_of (the_group profile g ++ facts_told t.saying h.tells.asks) id ≡ said_of (facts_told t.saying h.tells.asks) id
-      past None = refl
-      past (Some name) = refl
+      past g = grind arith
 
       by : (o : Option (Option (List ℕ) × List ActiveValue)) → t.saying.groups ≡ o → said_of (facts_told t.saying h.tells.asks) id ≡ said_by t.saying id
       by None e = said_by_told h.before t.saying h.tells.asks h.tells.may e id
