@@ -1,6 +1,6 @@
 -- Points of each kind, where what an answer says conflicts with what is kept.
 use Rattle.std.proofs.Common.{arith, ℕ, Bool, true, false, not, cond, IsTrue, List, [], ◌≡◌, ◌∷◌, ◌++◌, ◌&&◌, ◌||◌, ◌<◌, ◌⊎◌, Option, None, Some, inl, inr}
-use Rattle.std.proofs.{Common.{refl, sym, ap, subst, ◌∙◌, append-nil}, lemmas.Bool.{true≢false, cases_Bool, and_parts, or_cases, or_left, or_right, not-true}}
+use Rattle.std.proofs.{Common.{refl, sym, ap, subst, ◌∙◌, append-nil}, lemmas.Bool.{true≢false, cases_Bool, and_parts, or_cases, or_left, or_right, not-true, false_from_ne_true}}
 use Rattle.std.{proofs.lemmas.List.Folds.{list_any-append}, specs.{Prelude.{IfSome, IsFalse, MatchOption, option_map}, List.{AllByRecursion, list_any}}}
 use Rattle.std.specs.{List.{list_all}, Option.{option_map_or, option_or}, Cmp.Lexicographic.{same_text}}
 use Rattle.nntp_wire.specs.{Listing.{ActiveValue}, Decided.{matches_name}, declared.marks.Marks.TheVariants.{Lenient}}
@@ -9,12 +9,12 @@ use Rattle.nntp_said.specs.{Asks.{Ask, Bounds, Estimates}, Facts.{Fact, ThereIs,
 use Rattle.nntp_theory.specs.{Given.{asks_of, shows_group, is_shown_group, first_given, is_known, is_denied, demand, IsGivenNumber}, Together.{is_possible}}
 use Rattle.nntp_theory.specs.{Together.{MeetsDemand, GiveOne, denies_group}, Conflict.{widest, the_group, Point, Step, Group, Number, Count, First, rank}}
 use Rattle.nntp_theory.{specs.Conflict.{ConflictAt, AreTooMany}, proofs.{Members.{all_at, all_from, found_in}, Conflicts.{at_point}, PointsByRank.{of_rank}}}
-use Rattle.nntp_theory.proofs.Together.{FactsJoin.{asks_append}, FactsOfASpoolStand.{same_itself}, TwoListsOfFacts.{give_one_both}}
+use Rattle.nntp_theory.proofs.Together.{FactsJoin.{asks_append}, FactsOfASpoolStand.{same_itself}, TwoListsOfFacts.{apart_both, give_one_both}}
 use Rattle.nntp_numbers.specs.Inner.Part.{Says}
 use Rattle.nntp_facts.specs.Inner.{Kept.{Kept}, Saying.{OfGroup, asked_id, IsAlone}, ListedGroups.{is_listed, MayList, NoneIsMissing}, Points.{Statement}}
 use Rattle.nntp_facts.specs.Inner.Points.{TellsAlone, IsPointOf, IsPointIn, IsBeside, IsAbout, is_impossible, shows_name, denies_name, bounds_of}
 use Rattle.nntp_facts.proofs.{Keeping.ListedGroups.{no_bounds, bounds_at}, PointsFound.StatementsRead.{shown_told, denied_told, asks_some, asks_listed}}
-use Rattle.nntp_facts.proofs.PointsFound.StatementsRead.{asks_none}
+use Rattle.nntp_facts.proofs.PointsFound.StatementsRead.{asks_none, or_no}
 
 -- an ask can't be met
 abbrev pub cannot : Ask → Bool
@@ -116,13 +116,9 @@ module _ (profile : Profile) (facts : List Fact) (k : Kept) (t : Statement) (mor
   pub group_free : ((name : Name) → IsTrue (shows_name name t) → IsFalse (list_any (denies_group name) facts))
       → ((name : Name) → IsTrue (denies_name name t) → IsTrue (is_shown_group facts name) → ⊥)
       → ((name : Name) → IsTrue (shows_name name t) → IsTrue (denies_name name t) → ⊥) → IsFree 1
-  group_free shows denies apart = of_rank Free 1 (λ name c. elim (or_cases (is_shown_group facts name) (shows_name name t) (sym (shown_all name) ∙ c.0)) [
-    | inl s ↦ elim (or_cases (list_any (denies_group name) facts) (denies_name name t) (sym (denied_all name) ∙ c.1)) [
-      | inl d ↦ none_before (Group name) (s, d)
-      | inr d ↦ denies name d s
-    ]
-    | inr s ↦ grind (arith, or_cases, denied_all, true≢false)
-  ])
+  group_free shows denies apart = of_rank Free 1 (λ name c. true≢false (sym c.1 ∙ apart_both (shows_group name) (denies_group name) facts more (h.together.groups name)
+      (λ s. false_from_ne_true _ (λ d. apart name (sym (shown_told profile t more h.tells name) ∙ s) (sym (denied_told profile t more h.tells name) ∙ d)))
+      (λ s. shows name (sym (shown_told profile t more h.tells name) ∙ s)) (λ d. false_from_ne_true _ (denies name (sym (denied_told profile t more h.tells name) ∙ d))) c.0))
 
   -- ---- numbers
 
@@ -200,84 +196,65 @@ module _ (profile : Profile) (facts : List Fact) (k : Kept) (t : Statement) (mor
       by (Some point) at = at
 
   -- a group that is listed and denied, or shown and not listed
-  pub listed_group : (l : Option (List ℕ) × List ActiveValue) → t.saying.groups ≡ Some l → (o : Option Name)
-      → MatchOption o (AllByRecursion (λ line. IsFalse (list_any (denies_group line.name) facts)) l.1 × NoneIsMissing facts l.0 l.1)
-      (λ name. (IsTrue (is_listed l.1 name) × IsTrue (list_any (denies_group name) facts)) ⊎ (IsTrue (is_shown_group facts name) × IsTrue (denies_group name (GroupsAre l.0 l.1))))
-      → IsPointOf all 1 (option_map Group o)
-  listed_group l e = go
-    where
-      alone : IsAlone t.saying
-      alone = (subst (λ o. IfSome o (λ l. MayList l.0 l.1 × IsAlone t.saying)) e h.tells.tells.may.groups).1
+  module _ (l : Option (List ℕ) × List ActiveValue) (e : t.saying.groups ≡ Some l) where
+    no_group : t.group ≡ None
+    no_group = sym h.tells.named ∙ ap (option_map (λ g. g.name)) (subst (λ o. IfSome o (λ l. MayList l.0 l.1 × IsAlone t.saying)) e h.tells.tells.may.groups).1.group
 
-      no_group : t.group ≡ None
-      no_group = sym h.tells.named ∙ ap (option_map (λ g. g.name)) alone.group
+    shows : (name : Name) → shows_name name t ≡ is_listed l.1 name
+    shows name = λ i. option_map_or (λ g. is_same g name) (no_group i) false || option_map_or (λ l. is_listed l.1 name) (e i) false
 
-      shows : (name : Name) → shows_name name t ≡ is_listed l.1 name
-      shows name = λ i. option_map_or (λ g. is_same g name) (no_group i) false || option_map_or (λ l. is_listed l.1 name) (e i) false
+    denied : (name : Name) → IsTrue (denies_name name t) → IsTrue (option_map_or (λ w. matches_name w name) l.0 true) × IsFalse (is_listed l.1 name)
+    denied name d = grind (arith, and_parts, not-true)
 
-      denies : (name : Name) → denies_name name t ≡ (option_map_or (λ w. matches_name w name) l.0 true && not (is_listed l.1 name))
-      denies name = grind arith
+    pub listed_group : (o : Option Name) → MatchOption o (AllByRecursion (λ line. IsFalse (list_any (denies_group line.name) facts)) l.1 × NoneIsMissing facts l.0 l.1)
+        (λ name. (IsTrue (is_listed l.1 name) × IsTrue (list_any (denies_group name) facts)) ⊎ (IsTrue (is_shown_group facts name) × IsTrue (denies_group name (GroupsAre l.0 l.1))))
+        → IsPointOf all 1 (option_map Group o)
+    listed_group (Some name) (inl (listed, denied)) = (group_shown name (shows name ∙ listed) denied, refl)
+    listed_group (Some name) (inr (shown, unlisted)) = (group_denied name (grind arith) shown, refl)
+    listed_group None (free, missing) = group_free
+        (λ name s. let f = found_in (λ line. is_same line.name name) l.1 (sym (shows name) ∙ s) in
+        subst (λ name. IsFalse (list_any (denies_group name) facts)) (same_text f.0.name name (sym f.2)) (all_at (λ line. IsFalse (list_any (denies_group line.name) facts)) f.0 l.1 free f.1))
+        (λ name d s. true≢false (sym (missing name s (denied name d).0) ∙ (denied name d).1))
+        (λ name s d. true≢false (sym s ∙ shows name ∙ (denied name d).1))
 
-      go : (o : Option Name) → MatchOption o (AllByRecursion (λ line. IsFalse (list_any (denies_group line.name) facts)) l.1 × NoneIsMissing facts l.0 l.1)
-          (λ name. (IsTrue (is_listed l.1 name) × IsTrue (list_any (denies_group name) facts)) ⊎ (IsTrue (is_shown_group facts name) × IsTrue (denies_group name (GroupsAre l.0 l.1))))
-          → IsPointOf all 1 (option_map Group o)
-      go (Some name) (inl (listed, denied)) = (group_shown name (shows name ∙ listed) denied, refl)
-      go (Some name) (inr (shown, unlisted)) = (group_denied name (denies name ∙ unlisted) shown, refl)
-      go None (free, missing) = group_free
-          (λ name s. let f = found_in (λ line. is_same line.name name) l.1 (sym (shows name) ∙ s) in
-          subst (λ name. IsFalse (list_any (denies_group name) facts)) (same_text f.0.name name (sym f.2)) (all_at (λ line. IsFalse (list_any (denies_group line.name) facts)) f.0 l.1 free f.1))
-          (λ name d s. let p = and_parts (option_map_or (λ w. matches_name w name) l.0 true) (not (is_listed l.1 name)) (sym (denies name) ∙ d) in
-          true≢false (sym (missing name s p.0) ∙ not-true (is_listed l.1 name) p.1))
-          (λ name s d. let p = and_parts (option_map_or (λ w. matches_name w name) l.0 true) (not (is_listed l.1 name)) (sym (denies name) ∙ d) in
-          true≢false (sym (sym (shows name) ∙ s) ∙ not-true (is_listed l.1 name) p.1))
+    -- where none that is listed is denied
+    pub unlisted_group : AllByRecursion (λ line. IsFalse (list_any (denies_group line.name) facts)) l.1 → (o : Option Name)
+        → MatchOption o (NoneIsMissing facts l.0 l.1) (λ name. IsTrue (is_shown_group facts name) × IsTrue (denies_group name (GroupsAre l.0 l.1))) → IsPointOf all 1 (option_map Group o)
+    unlisted_group free None missing = listed_group None (free, missing)
+    unlisted_group free (Some name) found = listed_group (Some name) (inr found)
 
   -- the group of which the answer speaks, if it is denied, or the one that it denies, if it is shown
-  pub named_group : t.saying.groups ≡ None → (o : Option Name)
-      → MatchOption o (IfSome t.group (λ name. IsFalse (list_any (denies_group name) facts)) × IfSome t.saying.there_is_no (λ name. IsFalse (is_shown_group facts name) × (t.group ≡ Some name → ⊥)))
-      (λ name. ((t.group ≡ Some name) × IsTrue (list_any (denies_group name) facts)) ⊎ ((t.saying.there_is_no ≡ Some name) × (IsTrue (is_shown_group facts name) ⊎ (t.group ≡ Some name))))
-      → IsPointOf all 1 (option_map Group o)
-  named_group none = go
-    where
-      or_no : (b : Bool) → (b || false) ≡ b
-      or_no b = grind arith
+  module _ (none : t.saying.groups ≡ None) where
+    shows_it : (name : Name) → shows_name name t ≡ option_map_or (λ g. is_same g name) t.group false
+    shows_it name = ap (λ o. option_map_or (λ g. is_same g name) t.group false || option_map_or (λ l. is_listed l.1 name) o false) none ∙ or_no _
 
-      shows : (name : Name) → shows_name name t ≡ option_map_or (λ g. is_same g name) t.group false
-      shows name = ap (λ o. option_map_or (λ g. is_same g name) t.group false || option_map_or (λ l. is_listed l.1 name) o false) none ∙ or_no _
+    denies_it : (name : Name) → denies_name name t ≡ option_map_or (λ g. is_same g name) t.saying.there_is_no false
+    denies_it name = grind arith
 
-      denies : (name : Name) → denies_name name t ≡ option_map_or (λ g. is_same g name) t.saying.there_is_no false
-      denies name = grind arith
+    is_it : (o : Option Name) (name : Name) → o ≡ Some name → IsTrue (option_map_or (λ g. is_same g name) o false)
+    is_it o name e = ap (λ o. option_map_or (λ g. is_same g name) o false) e ∙ same_itself name
 
-      is_it : (o : Option Name) (name : Name) → o ≡ Some name → IsTrue (option_map_or (λ g. is_same g name) o false)
-      is_it o name e = ap (λ o. option_map_or (λ g. is_same g name) o false) e ∙ same_itself name
+    named : (o : Option Name) (name : Name) → IsTrue (option_map_or (λ g. is_same g name) o false) → o ≡ Some name
+    named None name s = absurd (true≢false (sym s))
+    named (Some g) name s = ap (λ (g : Name). Some g) (same_text g name (sym s))
 
-      named : (o : Option Name) (name : Name) → IsTrue (option_map_or (λ g. is_same g name) o false) → o ≡ Some name
-      named None name s = absurd (true≢false (sym s))
-      named (Some g) name s = ap (λ (g : Name). Some g) (same_text g name (sym s))
+    pub named_group : (o : Option Name) → MatchOption o (IfSome t.group (λ name. IsFalse (list_any (denies_group name) facts))
+        × IfSome t.saying.there_is_no (λ name. IsFalse (is_shown_group facts name) × (t.group ≡ Some name → ⊥)))
+        (λ name. ((t.group ≡ Some name) × IsTrue (list_any (denies_group name) facts)) ⊎ ((t.saying.there_is_no ≡ Some name) × (IsTrue (is_shown_group facts name) ⊎ (t.group ≡ Some name))))
+        → IsPointOf all 1 (option_map Group o)
+    named_group (Some name) (inl (e, denied)) = (group_shown name (shows_it name ∙ is_it t.group name e) denied, refl)
+    named_group (Some name) (inr (e, inl shown)) = (group_denied name (denies_it name ∙ is_it t.saying.there_is_no name e) shown, refl)
+    named_group (Some name) (inr (e, inr is)) = (group_both name (shows_it name ∙ is_it t.group name is) (denies_it name ∙ is_it t.saying.there_is_no name e), refl)
+    named_group None (free, missing) = group_free
+        (λ name s. subst (λ o. IfSome o (λ name. IsFalse (list_any (denies_group name) facts))) (named t.group name (sym (shows_it name) ∙ s)) free)
+        (λ name d s. true≢false (sym s ∙ (at name d).0))
+        (λ name s d. (at name d).1 (named t.group name (sym (shows_it name) ∙ s)))
+      where
+        at : (name : Name) → IsTrue (denies_name name t) → IsFalse (is_shown_group facts name) × (t.group ≡ Some name → ⊥)
+        at name d = subst (λ o. IfSome o (λ name. IsFalse (is_shown_group facts name) × (t.group ≡ Some name → ⊥))) (named t.saying.there_is_no name (sym (denies_it name) ∙ d)) missing
 
-      go : (o : Option Name)
-          → MatchOption o (IfSome t.group (λ name. IsFalse (list_any (denies_group name) facts))
-          × IfSome t.saying.there_is_no (λ name. IsFalse (is_shown_group facts name) × (t.group ≡ Some name → ⊥)))
-          (λ name. ((t.group ≡ Some name) × IsTrue (list_any (denies_group name) facts)) ⊎ ((t.saying.there_is_no ≡ Some name) × (IsTrue (is_shown_group facts name) ⊎ (t.group ≡ Some name))))
-          → IsPointOf all 1 (option_map Group o)
-      go (Some name) (inl (e, denied)) = (group_shown name (shows name ∙ is_it t.group name e) denied, refl)
-      go (Some name) (inr (e, inl shown)) = (group_denied name (denies name ∙ is_it t.saying.there_is_no name e) shown, refl)
-      go (Some name) (inr (e, inr is)) = (group_both name (shows name ∙ is_it t.group name is) (denies name ∙ is_it t.saying.there_is_no name e), refl)
-      go None (free, missing) = group_free
-          (λ name s. subst (λ o. IfSome o (λ name. IsFalse (list_any (denies_group name) facts))) (named t.group name (sym (shows name) ∙ s)) free)
-          (λ name d s. true≢false (sym s ∙ (at name d).0))
-          (λ name s d. (at name d).1 (named t.group name (sym (shows name) ∙ s)))
-        where
-          at : (name : Name) → IsTrue (denies_name name t) → IsFalse (is_shown_group facts name) × (t.group ≡ Some name → ⊥)
-          at name d = subst (λ o. IfSome o (λ name. IsFalse (is_shown_group facts name) × (t.group ≡ Some name → ⊥))) (named t.saying.there_is_no name (sym (denies name) ∙ d)) missing
-
-  -- where none that is listed is denied
-  pub unlisted_group : (l : Option (List ℕ) × List ActiveValue) → t.saying.groups ≡ Some l → AllByRecursion (λ line. IsFalse (list_any (denies_group line.name) facts)) l.1 → (o : Option Name)
-      → MatchOption o (NoneIsMissing facts l.0 l.1) (λ name. IsTrue (is_shown_group facts name) × IsTrue (denies_group name (GroupsAre l.0 l.1))) → IsPointOf all 1 (option_map Group o)
-  unlisted_group l e free None missing = listed_group l e None (free, missing)
-  unlisted_group l e free (Some name) found = listed_group l e (Some name) (inr found)
-
-  -- where the group of which it speaks isn't denied
-  pub missing_group : t.saying.groups ≡ None → IfSome t.group (λ name. IsFalse (list_any (denies_group name) facts)) → (o : Option Name)
-      → MatchOption o (IfSome t.saying.there_is_no (λ name. IsFalse (is_shown_group facts name) × (t.group ≡ Some name → ⊥)))
-      (λ name. (t.saying.there_is_no ≡ Some name) × (IsTrue (is_shown_group facts name) ⊎ (t.group ≡ Some name))) → IsPointOf all 1 (option_map Group o)
-  missing_group none free o missing = grind (arith, named_group)
+    -- where the group of which it speaks isn't denied
+    pub missing_group : IfSome t.group (λ name. IsFalse (list_any (denies_group name) facts)) → (o : Option Name)
+        → MatchOption o (IfSome t.saying.there_is_no (λ name. IsFalse (is_shown_group facts name) × (t.group ≡ Some name → ⊥)))
+        (λ name. (t.saying.there_is_no ≡ Some name) × (IsTrue (is_shown_group facts name) ⊎ (t.group ≡ Some name))) → IsPointOf all 1 (option_map Group o)
+    missing_group free o missing = grind (arith, named_group)

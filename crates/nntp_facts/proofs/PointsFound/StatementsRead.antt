@@ -12,7 +12,7 @@ use Rattle.nntp_facts.specs.Inner.Points.{TellsAlone, shows_name, denies_name, i
 use Rattle.nntp_facts.proofs.Keeping.{PartsJoin.{no_group_is}, OverviewsTold.{plain_told, plain_alone, shown_by_told, denied_by_told, said_by_told}}
 use Rattle.nntp_facts.proofs.Keeping.OverviewsTold.{asks_by_told, ids_by_told, places_by_told}
 
-or_no : (b : Bool) → (b || false) ≡ b
+pub or_no : (b : Bool) → (b || false) ≡ b
 or_no b = grind arith
 
 -- an answer that lists groups says nothing else
