@@ -5,12 +5,12 @@ use Rattle.std.specs.{List.{list_any}, Option.{option_map_or}, Cmp.Lexicographic
 use Rattle.nntp_wire.specs.{Listing.{OverviewValue}, declared.{command.What.{What}, range.Range.{Range}}}
 use Rattle.nntp_article.specs.{Article.Parts.{Id, Line}, Session.Machine.{is_same, head_fits}, declared.session.profile.Profile.{Profile}}
 use Rattle.nntp_said.specs.Facts.{Fact}
-use Rattle.nntp_theory.specs.{Given.{first_given, head_in, body_in}, Together.{GiveOne, shows_article, denies_article}, Inner.Together.{SaidOfArticle, said_of}}
-use Rattle.nntp_theory.specs.{Inner.Together.{said_nothing, join_said, AreSame}, Conflict.{Point, Article, HeadOf, BodyOf, ConflictAt}}
-use Rattle.nntp_theory.proofs.{Members.{In, any_in, found_in, first_found}, Conflicts.{at_point}, PointsByRank.{of_rank}, Together.FactsOfASpoolStand.{same_itself}}
+use Rattle.nntp_theory.specs.{Given.{first_given, head_in, body_in}, Together.{GiveOne, shows_article, denies_article}, Inner.Together.{SaidOfArticle}}
+use Rattle.nntp_theory.specs.{Inner.Together.{said_nothing, AreSame}, Conflict.{Point, Article, HeadOf, BodyOf, ConflictAt}}
+use Rattle.nntp_theory.proofs.{Members.{In, any_in, found_in, first_found}, PointsByRank.{of_rank}, Together.FactsOfASpoolStand.{same_itself}}
 use Rattle.nntp_theory.proofs.Together.TwoListsOfFacts.{apart_both, give_one_both, give_same_of_both}
 use Rattle.nntp_facts.specs.Inner.{Kept.{Kept, said_kept}, Saying.{OfArticle, Sends, MayBeOf}, KeptSaying.{kept_by, said_in, said_listed}, Points.{Statement}}
-use Rattle.nntp_facts.{specs.Inner.{Points.{IsPointOf, IsBeside, said_by}, Articles.{unsent}}, proofs.Keeping.SaidOfArticles.{said_append}}
+use Rattle.nntp_facts.{specs.Inner.{Points.{IsPointOf, IsBeside, said_by}}}
 use Rattle.nntp_facts.proofs.{Keeping.{ListedOverviews.{none_gives}, OverviewsTold.{Overviews, plain_by_article}}, PointsFound.StatementsRead.{article_told}}
 use Rattle.nntp_facts.proofs.PointsFound.KindsOfPoints.{alone_once}
 
@@ -109,27 +109,21 @@ module _ (profile : Profile) (facts : List Fact) (k : Kept) (t : Statement) (mor
       article_free (λ id s. grind (arith, none id, true≢false)) (λ id d. grind (arith, none id, true≢false))
 
   -- of overviews the first whose id is denied
-  pub listed_article : (o : Range × List OverviewValue) → t.saying.overviews ≡ Some o → (p : Option Point)
-      → p ≡ first_given (λ v. cond (list_any (denies_article v.id) facts) (Some (Article v.id)) None) o.1 → IsPointOf all 7 p
-  listed_article o listed = go
-    where
-      said : (id : Id) → said_by t.saying id ≡ said_listed o.1 id
-      said id = ap (λ (o : Overviews). option_map_or (λ o. said_listed o.1 id) o (said_in t.saying.article id)) listed
+  module _ (o : Range × List OverviewValue) (listed : t.saying.overviews ≡ Some o) where
+    said : (id : Id) → said_by t.saying id ≡ said_listed o.1 id
+    said id = ap (λ (o : Overviews). option_map_or (λ o. said_listed o.1 id) o (said_in t.saying.article id)) listed
 
-      go : (p : Option Point) → p ≡ first_given (λ v. cond (list_any (denies_article v.id) facts) (Some (Article v.id)) None) o.1 → IsPointOf all 7 p
-      go None found = article_free
-          (λ id s. let f = listed_shown id o.1 (sym (ap (λ (s : SaidOfArticle). s.is_shown) (said id)) ∙ s) in
-          let none = none_gives (λ v. cond (list_any (denies_article v.id) facts) (Some (Article v.id)) None) o.1 (sym found) f.0 f.1 in
-          subst (λ id. IsFalse (list_any (denies_article id) facts)) f.2 (grind arith))
-          (λ id d. absurd (none_denied id o.1 (sym (ap (λ (s : SaidOfArticle). s.is_denied) (said id)) ∙ d)))
-      go (Some point) found =
-          let f = first_found (λ (v : OverviewValue). cond (list_any (denies_article v.id) facts) (Some (Article v.id)) None) o.1 point (sym found) in
-          let shown = ap (λ (s : SaidOfArticle). s.is_shown) (said f.0.id) ∙ each_shown f.0 o.1 f.1 in
-          let d : (list_any (denies_article f.0.id) facts ≡ true) × (Article f.0.id ≡ point) = grind (arith, f.2) in
-          subst (λ point. IsPointOf all 7 (Some point)) d.1 ((
-            shown_in_all f.0.id ∙ or_right (list_any (shows_article f.0.id) facts) (said_by t.saying f.0.id).is_shown shown,
-            denied_in_all f.0.id ∙ or_left (list_any (denies_article f.0.id) facts) (said_by t.saying f.0.id).is_denied d.0,
-          ), refl)
+    pub listed_article : (p : Option Point) → p ≡ first_given (λ v. cond (list_any (denies_article v.id) facts) (Some (Article v.id)) None) o.1 → IsPointOf all 7 p
+    listed_article None found = article_free
+        (λ id s. let f = listed_shown id o.1 (sym (ap (λ (s : SaidOfArticle). s.is_shown) (said id)) ∙ s) in
+        let none = none_gives (λ v. cond (list_any (denies_article v.id) facts) (Some (Article v.id)) None) o.1 (sym found) f.0 f.1 in
+        subst (λ id. IsFalse (list_any (denies_article id) facts)) f.2 (grind arith))
+        (λ id d. absurd (none_denied id o.1 (sym (ap (λ (s : SaidOfArticle). s.is_denied) (said id)) ∙ d)))
+    listed_article (Some point) found =
+        let f = first_found (λ (v : OverviewValue). cond (list_any (denies_article v.id) facts) (Some (Article v.id)) None) o.1 point (sym found) in
+        let shown = ap (λ (s : SaidOfArticle). s.is_shown) (said f.0.id) ∙ each_shown f.0 o.1 f.1 in
+        let d : (list_any (denies_article f.0.id) facts ≡ true) × (Article f.0.id ≡ point) = grind (arith, f.2) in
+        subst (λ point. IsPointOf all 7 (Some point)) d.1 ((shown_in_all f.0.id ∙ or_right _ _ shown, denied_in_all f.0.id ∙ or_left _ _ d.0), refl)
 
   -- where something is said of an id
   module _ (id : Id) (a : OfArticle) (e : t.saying.article ≡ Some (id, a)) where

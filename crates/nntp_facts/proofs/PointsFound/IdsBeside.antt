@@ -8,8 +8,8 @@ use Rattle.nntp_theory.specs.{Given.{first_given, id_in}, Together.{number_in}, 
 use Rattle.nntp_theory.proofs.{Members.{In, all_at, all_from, first_found}, PointsByRank.{of_rank}, Together.{FactsOfASpoolStand.{same_itself}, ListedOverviews.{overview_at, overview_of, apart_agree}}}
 use Rattle.nntp_theory.proofs.Together.TwoListsOfFacts.{give_one_both, give_same_of_both, none_if}
 use Rattle.nntp_facts.specs.Inner.{Kept.{Kept, id_of, place_of}, Saying.{OfGroup}, ListedOverviews.{id_listed, place_listed}, Points.{Statement}}
-use Rattle.nntp_facts.specs.Inner.Points.{IsPointOf, IsBeside, id_said, id_told, place_said, place_told, other_id_at, other_place_of}
-use Rattle.nntp_facts.proofs.Keeping.{OverviewsTold.{Overviews, of_range}, ListedOverviews.{none_gives}}
+use Rattle.nntp_facts.specs.Inner.Points.{IsPointOf, IsBeside, other_id_at, other_place_of}
+use Rattle.nntp_facts.proofs.Keeping.{OverviewsTold.{of_range}, ListedOverviews.{none_gives}}
 use Rattle.nntp_facts.proofs.PointsFound.{KindsOfPoints.{alone_once}, StatementsRead.{id_given, place_given}}
 
 -- the test of what is kept gives the point where that is another

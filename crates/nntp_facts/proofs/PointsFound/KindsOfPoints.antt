@@ -1,12 +1,12 @@
 -- Points of each kind, where what an answer says conflicts with what is kept.
 use Rattle.std.proofs.Common.{arith, ℕ, Bool, true, false, not, cond, IsTrue, List, [], ◌≡◌, ◌∷◌, ◌++◌, ◌&&◌, ◌||◌, ◌<◌, ◌⊎◌, Option, None, Some, inl, inr}
-use Rattle.std.proofs.{Common.{refl, sym, ap, subst, ◌∙◌, append-nil}, lemmas.Bool.{true≢false, cases_Bool, and_parts, or_cases, or_left, or_right, not-true, false_from_ne_true}}
+use Rattle.std.proofs.{Common.{refl, sym, ap, subst, ◌∙◌, append-nil}, lemmas.Bool.{true≢false, cases_Bool, and_parts, or_left, or_right, not-true, false_from_ne_true}}
 use Rattle.std.{proofs.lemmas.List.Folds.{list_any-append}, specs.{Prelude.{IfSome, IsFalse, MatchOption, option_map}, List.{AllByRecursion, list_any}}}
-use Rattle.std.specs.{List.{list_all}, Option.{option_map_or, option_or}, Cmp.Lexicographic.{same_text}}
+use Rattle.std.specs.{List.{list_all}, Option.{option_map_or}, Cmp.Lexicographic.{same_text}}
 use Rattle.nntp_wire.specs.{Listing.{ActiveValue}, Decided.{matches_name}, declared.marks.Marks.TheVariants.{Lenient}}
 use Rattle.nntp_article.specs.{Session.{Spool.{Name}, Machine.{is_same, names_differ}}, declared.session.profile.Profile.{Profile}}
 use Rattle.nntp_said.specs.{Asks.{Ask, Bounds, Estimates}, Facts.{Fact, ThereIs, Asks, GroupsAre, group_of}}
-use Rattle.nntp_theory.specs.{Given.{asks_of, shows_group, is_shown_group, first_given, is_known, is_denied, demand, IsGivenNumber}, Together.{is_possible}}
+use Rattle.nntp_theory.specs.{Given.{asks_of, shows_group, is_shown_group, is_known, is_denied, demand, IsGivenNumber}, Together.{is_possible}}
 use Rattle.nntp_theory.specs.{Together.{MeetsDemand, GiveOne, denies_group}, Conflict.{widest, the_group, Point, Step, Group, Number, Count, First, rank}}
 use Rattle.nntp_theory.{specs.Conflict.{ConflictAt, AreTooMany}, proofs.{Members.{all_at, all_from, found_in}, Conflicts.{at_point}, PointsByRank.{of_rank}}}
 use Rattle.nntp_theory.proofs.Together.{FactsJoin.{asks_append}, FactsOfASpoolStand.{same_itself}, TwoListsOfFacts.{apart_both, give_one_both}}
@@ -104,14 +104,8 @@ module _ (profile : Profile) (facts : List Fact) (k : Kept) (t : Statement) (mor
   denied_all : (name : Name) → list_any (denies_group name) all ≡ (list_any (denies_group name) facts || denies_name name t)
   denied_all name = list_any-append (denies_group name) facts more ∙ (λ i. list_any (denies_group name) facts || denied_told profile t more h.tells name i)
 
-  pub group_shown : (name : Name) → IsTrue (shows_name name t) → IsTrue (list_any (denies_group name) facts) → ConflictAt all (Group name)
-  group_shown name s d = (shown_all name ∙ or_right (is_shown_group facts name) (shows_name name t) s, denied_all name ∙ or_left (list_any (denies_group name) facts) (denies_name name t) d)
-
-  pub group_denied : (name : Name) → IsTrue (denies_name name t) → IsTrue (is_shown_group facts name) → ConflictAt all (Group name)
-  group_denied name d s = (shown_all name ∙ or_left (is_shown_group facts name) (shows_name name t) s, denied_all name ∙ or_right (list_any (denies_group name) facts) (denies_name name t) d)
-
-  pub group_both : (name : Name) → IsTrue (shows_name name t) → IsTrue (denies_name name t) → ConflictAt all (Group name)
-  group_both name s d = (shown_all name ∙ or_right (is_shown_group facts name) (shows_name name t) s, denied_all name ∙ or_right (list_any (denies_group name) facts) (denies_name name t) d)
+  group_found : (name : Name) → IsTrue (is_shown_group facts name) ⊎ IsTrue (shows_name name t) → IsTrue (list_any (denies_group name) facts) ⊎ IsTrue (denies_name name t) → ConflictAt all (Group name)
+  group_found name s d = grind (arith, shown_all name, denied_all name, or_left, or_right)
 
   pub group_free : ((name : Name) → IsTrue (shows_name name t) → IsFalse (list_any (denies_group name) facts))
       → ((name : Name) → IsTrue (denies_name name t) → IsTrue (is_shown_group facts name) → ⊥)
@@ -209,8 +203,8 @@ module _ (profile : Profile) (facts : List Fact) (k : Kept) (t : Statement) (mor
     pub listed_group : (o : Option Name) → MatchOption o (AllByRecursion (λ line. IsFalse (list_any (denies_group line.name) facts)) l.1 × NoneIsMissing facts l.0 l.1)
         (λ name. (IsTrue (is_listed l.1 name) × IsTrue (list_any (denies_group name) facts)) ⊎ (IsTrue (is_shown_group facts name) × IsTrue (denies_group name (GroupsAre l.0 l.1))))
         → IsPointOf all 1 (option_map Group o)
-    listed_group (Some name) (inl (listed, denied)) = (group_shown name (shows name ∙ listed) denied, refl)
-    listed_group (Some name) (inr (shown, unlisted)) = (group_denied name (grind arith) shown, refl)
+    listed_group (Some name) (inl (listed, denied)) = (group_found name (inr (shows name ∙ listed)) (inl denied), refl)
+    listed_group (Some name) (inr (shown, unlisted)) = (group_found name (inl shown) (inr (grind arith)), refl)
     listed_group None (free, missing) = group_free
         (λ name s. let f = found_in (λ line. is_same line.name name) l.1 (sym (shows name) ∙ s) in
         subst (λ name. IsFalse (list_any (denies_group name) facts)) (same_text f.0.name name (sym f.2)) (all_at (λ line. IsFalse (list_any (denies_group line.name) facts)) f.0 l.1 free f.1))
@@ -242,9 +236,9 @@ module _ (profile : Profile) (facts : List Fact) (k : Kept) (t : Statement) (mor
         × IfSome t.saying.there_is_no (λ name. IsFalse (is_shown_group facts name) × (t.group ≡ Some name → ⊥)))
         (λ name. ((t.group ≡ Some name) × IsTrue (list_any (denies_group name) facts)) ⊎ ((t.saying.there_is_no ≡ Some name) × (IsTrue (is_shown_group facts name) ⊎ (t.group ≡ Some name))))
         → IsPointOf all 1 (option_map Group o)
-    named_group (Some name) (inl (e, denied)) = (group_shown name (shows_it name ∙ is_it t.group name e) denied, refl)
-    named_group (Some name) (inr (e, inl shown)) = (group_denied name (denies_it name ∙ is_it t.saying.there_is_no name e) shown, refl)
-    named_group (Some name) (inr (e, inr is)) = (group_both name (shows_it name ∙ is_it t.group name is) (denies_it name ∙ is_it t.saying.there_is_no name e), refl)
+    named_group (Some name) (inl (e, denied)) = (group_found name (inr (shows_it name ∙ is_it t.group name e)) (inl denied), refl)
+    named_group (Some name) (inr (e, inl shown)) = (group_found name (inl shown) (inr (denies_it name ∙ is_it t.saying.there_is_no name e)), refl)
+    named_group (Some name) (inr (e, inr is)) = (group_found name (inr (shows_it name ∙ is_it t.group name is)) (inr (denies_it name ∙ is_it t.saying.there_is_no name e)), refl)
     named_group None (free, missing) = group_free
         (λ name s. subst (λ o. IfSome o (λ name. IsFalse (list_any (denies_group name) facts))) (named t.group name (sym (shows_it name) ∙ s)) free)
         (λ name d s. true≢false (sym s ∙ (at name d).0))

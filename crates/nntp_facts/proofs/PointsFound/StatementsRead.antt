@@ -48,28 +48,19 @@ module _ (profile : Profile) (t : Statement) (facts : List Fact) (h : TellsAlone
       of_group : (g : Option Name) → list_any (shows_group name) (the_group profile g) ≡ option_map_or (λ g. is_same g name) g false
       of_group g = grind (arith, or_no)
 
-      twice : (a b : Option Name) → (b ≡ None) ⊎ (b ≡ a)
-          → (option_map_or (λ g. is_same g name) a false || option_map_or (λ g. is_same g name) b false) ≡ (option_map_or (λ g. is_same g name) a false || false)
-      twice a b h = grind arith
-
       by : (o : Option (Option (List ℕ) × List ActiveValue)) → t.saying.groups ≡ o
           → (list_any (shows_group name) (the_group profile t.group) || list_any (shows_group name) (facts_told t.saying h.tells.asks))
           ≡ (option_map_or (λ g. is_same g name) t.group false || option_map_or (λ l. is_listed l.1 name) o false)
-      by None e =
-          (λ i. of_group t.group i || shown_by_told h.before t.saying h.tells.asks h.tells.may e name i)
-          ∙ twice t.group t.saying.there_is (subst (λ g. (t.saying.there_is ≡ None) ⊎ (t.saying.there_is ≡ g)) h.named (there_same t.saying.there_is t.saying.group h.tells.may.there))
+      by None e = grind (arith, of_group t.group, shown_by_told h.before t.saying h.tells.asks h.tells.may e name, there_same t.saying.there_is t.saying.group h.tells.may.there, h.named, or_no)
       by (Some l) e = grind (arith, listed_facts, alone, or_no)
 
   pub denied_told : (name : Name) → list_any (denies_group name) facts ≡ denies_name name t
-  denied_told name =
-      ap (list_any (denies_group name)) (sym whole)
-      ∙ list_any-append (denies_group name) (the_group profile t.group) (facts_told t.saying h.tells.asks)
-      ∙ ap (λ b. b || list_any (denies_group name) (facts_told t.saying h.tells.asks)) (of_group t.group) ∙ by t.saying.groups refl
+  denied_told name = ap (list_any (denies_group name)) (sym whole) ∙ past t.group ∙ by t.saying.groups refl
     where
-      of_group : (g : Option Name) → list_any (denies_group name) (the_group profile g) ≡ false
-      of_group g = grind arith
+      past : (g : Option Name) → list_any (denies_group name) (the_group profile g ++ facts_told t.saying h.tells.asks) ≡ list_any (denies_group name) (facts_told t.saying h.tells.asks)
+      past g = grind arith
 
-      by : (o : Option (Option (List ℕ) × List ActiveValue)) → t.saying.groups ≡ o → (false || list_any (denies_group name) (facts_told t.saying h.tells.asks))
+      by : (o : Option (Option (List ℕ) × List ActiveValue)) → t.saying.groups ≡ o → list_any (denies_group name) (facts_told t.saying h.tells.asks)
           ≡ (option_map_or (λ g. is_same g name) t.saying.there_is_no false || option_map_or (λ l. option_map_or (λ w. matches_name w name) l.0 true && not (is_listed l.1 name)) o false)
       by None e = denied_by_told h.before t.saying h.tells.asks h.tells.may e name ∙ sym (or_no _)
       by (Some l) e = grind (arith, listed_facts, alone, or_no)
@@ -99,14 +90,9 @@ module _ (profile : Profile) (t : Statement) (facts : List Fact) (h : TellsAlone
   asks_listed l e name = grind (arith, asks_append, append-nil)
 
   pub asks_none : t.saying.group ≡ None → t.saying.groups ≡ None → (name : Name) → asks_of name facts ≡ []
-  asks_none e none name = asks_both name ∙ (λ i. asks_of name (the_group profile (no_group i)) ++ asks_of name (plain i))
-      ∙ (no_group_is h.before t.saying h.tells.asks none h.tells.may e).0 name
-    where
-      no_group : t.group ≡ None
-      no_group = sym h.named ∙ ap (option_map (λ g. g.name)) e
-
-      plain : facts_told t.saying h.tells.asks ≡ facts_in t.saying h.tells.asks
-      plain = plain_alone_told e
+  asks_none e none name =
+      let no_group : t.group ≡ None = sym h.named ∙ ap (option_map (λ g. g.name)) e in
+      asks_both name ∙ (λ i. asks_of name (the_group profile (no_group i)) ++ asks_of name (plain_alone_told e i)) ∙ (no_group_is h.before t.saying h.tells.asks none h.tells.may e).0 name
 
   -- ---- ids
 
