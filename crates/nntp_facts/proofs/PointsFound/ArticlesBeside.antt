@@ -1,18 +1,17 @@
 -- Points that are about articles, where what an answer says conflicts with what is kept.
 use Rattle.std.proofs.Common.{ℕ, Bool, true, false, not, cond, IsTrue, List, ◌≡◌, ◌++◌, ◌||◌, ◌⊎◌, Option, None, Some, inl, inr, refl, sym, ap, subst, ◌∙◌}
-use Rattle.std.{proofs.{Common.{arith}, lemmas.{Bool.{true≢false, cases_Bool, or_left, or_right}, List.Folds.{list_any-append}}}, specs.Prelude.{IfSome, IsFalse, MatchOption}}
-use Rattle.std.specs.{List.{list_any}, Option.{option_map_or}, Cmp.Lexicographic.{same_text}}
+use Rattle.std.{proofs.{Common.{arith}, lemmas.{Bool.{true≢false, cases_Bool, or_left, or_right}, List.Folds.{list_any-append}}}, specs.Prelude.{IfSome}}
+use Rattle.std.specs.{Prelude.{IsFalse, MatchOption}, List.{list_any}, Option.{option_map_or}, Cmp.Lexicographic.{same_text}}
 use Rattle.nntp_wire.specs.{Listing.{OverviewValue}, declared.{command.What.{What}, range.Range.{Range}}}
 use Rattle.nntp_article.specs.{Article.Parts.{Id, Line}, Session.Machine.{is_same, head_fits}, declared.session.profile.Profile.{Profile}}
 use Rattle.nntp_said.specs.Facts.{Fact}
 use Rattle.nntp_theory.specs.{Given.{first_given, head_in, body_in}, Together.{GiveOne, shows_article, denies_article}, Inner.Together.{SaidOfArticle}}
-use Rattle.nntp_theory.specs.{Inner.Together.{said_nothing, AreSame}, Conflict.{Point, Article, HeadOf, BodyOf, ConflictAt}}
-use Rattle.nntp_theory.proofs.{Members.{In, any_in, found_in, first_found}, PointsByRank.{of_rank}, Together.FactsOfASpoolStand.{same_itself}}
+use Rattle.nntp_theory.{specs.{Inner.Together.{said_nothing, AreSame}, Conflict.{Point, Article, HeadOf, BodyOf, ConflictAt}}, proofs.Members.{In, any_in}}
+use Rattle.nntp_theory.proofs.{Members.{found_in, first_found}, PointsByRank.{of_rank}, Together.FactsOfASpoolStand.{same_itself}}
 use Rattle.nntp_theory.proofs.Together.TwoListsOfFacts.{apart_both, give_one_both, give_same_of_both}
 use Rattle.nntp_facts.specs.Inner.{Kept.{Kept, said_kept}, Saying.{OfArticle, Sends, MayBeOf}, KeptSaying.{kept_by, said_in, said_listed}, Points.{Statement}}
-use Rattle.nntp_facts.{specs.Inner.{Points.{IsPointOf, IsBeside, said_by}}}
-use Rattle.nntp_facts.proofs.{Keeping.{ListedOverviews.{none_gives}, OverviewsTold.{Overviews, plain_by_article}}, PointsFound.StatementsRead.{article_told}}
-use Rattle.nntp_facts.proofs.PointsFound.KindsOfPoints.{alone_once}
+use Rattle.nntp_facts.{specs.Inner.Points.{IsPointOf, IsBeside, said_by}, proofs.Keeping.{ListedOverviews.{none_gives}, OverviewsTold.{Overviews}}}
+use Rattle.nntp_facts.proofs.{Keeping.OverviewsTold.{plain_by_article}, PointsFound.{StatementsRead.{article_told}, KindsOfPoints.{alone_once}}}
 
 -- ---- the parts of an article
 

@@ -1,15 +1,15 @@
 -- Points that are about the ids at numbers, where what an answer says conflicts with what is kept.
-use Rattle.std.proofs.Common.{arith, ℕ, true, cond, List, [], ◌∷◌, ◌≡◌, ◌++◌, ◌==◌, Option, None, Some, refl, sym, ap, ◌∙◌}
-use Rattle.std.{proofs.lemmas.Bool.{eq-eqb, eqb-true}, specs.{Prelude.{IfSome, MatchOption}, List.{AllByRecursion}, Option.{option_map_or}, Cmp.Lexicographic.{same_text}}}
+use Rattle.std.proofs.{Common.{arith, ℕ, true, cond, List, [], ◌∷◌, ◌≡◌, ◌++◌, ◌==◌, Option, None, Some, refl, sym, ap, ◌∙◌}, lemmas.Bool.{eq-eqb, eqb-true}}
+use Rattle.std.specs.{Prelude.{IfSome, MatchOption}, List.{AllByRecursion}, Option.{option_map_or}, Cmp.Lexicographic.{same_text}}
 use Rattle.nntp_wire.specs.{Listing.{OverviewValue}, declared.range.Range.{Range}}
 use Rattle.nntp_article.specs.{Article.Parts.{Id}, Session.{Spool.{Name}, Machine.{is_same}}, declared.session.profile.Profile.{Profile}}
 use Rattle.nntp_said.specs.Facts.{Fact, OverviewsAre}
-use Rattle.nntp_theory.specs.{Given.{first_given, id_in}, Together.{number_in}, Inner.Together.{GiveSame, AgreesWithItself}, Conflict.{Point, IdOf, PlaceOf, rank, ConflictAt}}
-use Rattle.nntp_theory.proofs.{Members.{In, all_at, all_from, first_found}, PointsByRank.{of_rank}, Together.{FactsOfASpoolStand.{same_itself}, ListedOverviews.{overview_at, overview_of, apart_agree}}}
+use Rattle.nntp_theory.specs.{Given.{first_given, id_in}, Together.{number_in}, Inner.Together.{GiveSame, AgreesWithItself}, Conflict.{Point, IdOf, PlaceOf}}
+use Rattle.nntp_theory.{specs.Conflict.{rank, ConflictAt}, proofs.{Members.{In, all_at, all_from, first_found}, PointsByRank.{of_rank}}}
+use Rattle.nntp_theory.proofs.Together.{FactsOfASpoolStand.{same_itself}, ListedOverviews.{overview_at, overview_of, apart_agree}}
 use Rattle.nntp_theory.proofs.Together.TwoListsOfFacts.{give_one_both, give_same_of_both, none_if}
-use Rattle.nntp_facts.specs.Inner.{Kept.{Kept, id_of, place_of}, Saying.{OfGroup}, ListedOverviews.{id_listed, place_listed}, Points.{Statement}}
-use Rattle.nntp_facts.specs.Inner.Points.{IsPointOf, IsBeside, other_id_at, other_place_of}
-use Rattle.nntp_facts.proofs.Keeping.{OverviewsTold.{of_range}, ListedOverviews.{none_gives}}
+use Rattle.nntp_facts.specs.Inner.{Kept.{Kept, id_of, place_of}, Saying.{OfGroup}, ListedOverviews.{id_listed, place_listed}, Points.{Statement, IsPointOf}}
+use Rattle.nntp_facts.{specs.Inner.Points.{IsBeside, other_id_at, other_place_of}, proofs.Keeping.{OverviewsTold.{of_range}, ListedOverviews.{none_gives}}}
 use Rattle.nntp_facts.proofs.PointsFound.{KindsOfPoints.{alone_once}, StatementsRead.{id_given, place_given}}
 
 -- the test of what is kept gives the point where that is another
@@ -69,7 +69,8 @@ module _ (profile : Profile) (facts : List Fact) (k : Kept) (t : Statement) (mor
     first_point : ((x : X) → MatchOption (at x) (Fits x) (λ p. (p ≡ about g (key x)) × (Fits x → ⊥))) → (xs : List X) → AllByRecursion (λ x. first_given (gives g (key x)) more ≡ Some (value x)) xs
         → ((name : Name) (k : K) (y : A) → first_given (gives name k) more ≡ Some y → (x : X) × In x xs × (g ≡ name) × (key x ≡ k) × (value x ≡ y))
         → (o : Option Point) → o ≡ first_given at xs → IsPointOf all n o
-    first_point test xs own shown (Some point) found = let f = first_found at xs point (sym found) in grind (arith, test f.0, all_at (λ x. first_given (gives g (key x)) more ≡ Some (value x)) f.0 xs own f.1, conflict)
+    first_point test xs own shown (Some point) found =
+        let f = first_found at xs point (sym found) in grind (arith, test f.0, all_at (λ x. first_given (gives g (key x)) more ≡ Some (value x)) f.0 xs own f.1, conflict)
     first_point test xs own shown None found = free (λ name k. by name k (first_given (gives name k) more) refl)
       where
         by : (name : Name) (k : K) (o : Option A) → first_given (gives name k) more ≡ o → IfSome o (λ x. IfSome (first_given (gives name k) facts) (λ y. x ≡ y))
@@ -92,8 +93,8 @@ module _ (profile : Profile) (facts : List Fact) (k : Kept) (t : Statement) (mor
   place_points : {X : Type 0} (name : Name) (entry : X → ℕ × Id) (xs : List X) → AllByRecursion (λ x. first_given (number_in name (entry x).1) more ≡ Some (entry x).0) xs
       → ((other : Name) (id : Id) (n : ℕ) → first_given (number_in other id) more ≡ Some n → (x : X) × In x xs × (name ≡ other) × ((entry x).1 ≡ id) × ((entry x).0 ≡ n))
       → (o : Option Point) → o ≡ first_given (λ x. other_place_of (place_kept name) name (entry x)) xs → IsPointOf all 6 o
-  place_points name entry = first_point number_in PlaceOf 6 place_free (λ name id other. (λ one. other (give_same_of_both (number_in name id) facts more one), refl)) name (λ x. (entry x).1) (λ x. (entry x).0)
-      (λ x. other_place_of (place_kept name) name (entry x)) (λ x. other_place (place_kept name (entry x).1) (entry x).0 (PlaceOf name (entry x).1))
+  place_points name entry = first_point number_in PlaceOf 6 place_free (λ name id other. (λ one. other (give_same_of_both (number_in name id) facts more one), refl)) name (λ x. (entry x).1)
+      (λ x. (entry x).0) (λ x. other_place_of (place_kept name) name (entry x)) (λ x. other_place (place_kept name (entry x).1) (entry x).0 (PlaceOf name (entry x).1))
 
   module _ (g : OfGroup) (group : t.saying.group ≡ Some g) where
     -- where no overviews are said

@@ -1,14 +1,14 @@
 -- Points of each kind, where what an answer says conflicts with what is kept.
 use Rattle.std.proofs.Common.{arith, ℕ, Bool, true, false, not, cond, IsTrue, List, [], ◌≡◌, ◌∷◌, ◌++◌, ◌&&◌, ◌||◌, ◌<◌, ◌⊎◌, Option, None, Some, inl, inr}
-use Rattle.std.proofs.{Common.{refl, sym, ap, subst, ◌∙◌, append-nil}, lemmas.Bool.{true≢false, cases_Bool, and_parts, or_left, or_right, not-true, false_from_ne_true}}
-use Rattle.std.{proofs.lemmas.List.Folds.{list_any-append}, specs.{Prelude.{IfSome, IsFalse, MatchOption, option_map}, List.{AllByRecursion, list_any}}}
-use Rattle.std.specs.{List.{list_all}, Option.{option_map_or}, Cmp.Lexicographic.{same_text}}
+use Rattle.std.proofs.{Common.{refl, sym, ap, subst, ◌∙◌, append-nil}, lemmas.Bool.{true≢false, cases_Bool, and_parts, or_left, or_right, not-true}}
+use Rattle.std.{proofs.lemmas.{Bool.{false_from_ne_true}, List.Folds.{list_any-append}}, specs.Prelude.{IfSome, IsFalse, MatchOption, option_map}}
+use Rattle.std.specs.{List.{AllByRecursion, list_any, list_all}, Option.{option_map_or}, Cmp.Lexicographic.{same_text}}
 use Rattle.nntp_wire.specs.{Listing.{ActiveValue}, Decided.{matches_name}, declared.marks.Marks.TheVariants.{Lenient}}
 use Rattle.nntp_article.specs.{Session.{Spool.{Name}, Machine.{is_same, names_differ}}, declared.session.profile.Profile.{Profile}}
 use Rattle.nntp_said.specs.{Asks.{Ask, Bounds, Estimates}, Facts.{Fact, ThereIs, Asks, GroupsAre, group_of}}
-use Rattle.nntp_theory.specs.{Given.{asks_of, shows_group, is_shown_group, is_known, is_denied, demand, IsGivenNumber}, Together.{is_possible}}
-use Rattle.nntp_theory.specs.{Together.{MeetsDemand, GiveOne, denies_group}, Conflict.{widest, the_group, Point, Step, Group, Number, Count, First, rank}}
-use Rattle.nntp_theory.{specs.Conflict.{ConflictAt, AreTooMany}, proofs.{Members.{all_at, all_from, found_in}, Conflicts.{at_point}, PointsByRank.{of_rank}}}
+use Rattle.nntp_theory.specs.{Given.{asks_of, shows_group, is_shown_group, is_known, is_denied, demand, IsGivenNumber}, Together.{is_possible, MeetsDemand}}
+use Rattle.nntp_theory.specs.{Together.{GiveOne, denies_group}, Conflict.{widest, the_group, Point, Step, Group, Number, Count, First, rank, ConflictAt}}
+use Rattle.nntp_theory.{specs.Conflict.{AreTooMany}, proofs.{Members.{all_at, all_from, found_in}, Conflicts.{at_point}, PointsByRank.{of_rank}}}
 use Rattle.nntp_theory.proofs.Together.{FactsJoin.{asks_append}, FactsOfASpoolStand.{same_itself}, TwoListsOfFacts.{apart_both, give_one_both}}
 use Rattle.nntp_numbers.specs.Inner.Part.{Says}
 use Rattle.nntp_facts.specs.Inner.{Kept.{Kept}, Saying.{OfGroup, asked_id, IsAlone}, ListedGroups.{is_listed, MayList, NoneIsMissing}, Points.{Statement}}
@@ -104,7 +104,8 @@ module _ (profile : Profile) (facts : List Fact) (k : Kept) (t : Statement) (mor
   denied_all : (name : Name) → list_any (denies_group name) all ≡ (list_any (denies_group name) facts || denies_name name t)
   denied_all name = list_any-append (denies_group name) facts more ∙ (λ i. list_any (denies_group name) facts || denied_told profile t more h.tells name i)
 
-  group_found : (name : Name) → IsTrue (is_shown_group facts name) ⊎ IsTrue (shows_name name t) → IsTrue (list_any (denies_group name) facts) ⊎ IsTrue (denies_name name t) → ConflictAt all (Group name)
+  group_found : (name : Name) → IsTrue (is_shown_group facts name) ⊎ IsTrue (shows_name name t) → IsTrue (list_any (denies_group name) facts) ⊎ IsTrue (denies_name name t)
+      → ConflictAt all (Group name)
   group_found name s d = grind (arith, shown_all name, denied_all name, or_left, or_right)
 
   pub group_free : ((name : Name) → IsTrue (shows_name name t) → IsFalse (list_any (denies_group name) facts))
