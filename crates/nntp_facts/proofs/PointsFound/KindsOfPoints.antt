@@ -57,6 +57,11 @@ module _ (profile : Profile) where
       by (Some name) = let none = there name in let none_asked = ask name (Estimates Lenient (widest profile)) in
           give_one_both f (the_group profile (Some name)) tells.own (grind (arith, none, none_asked)) once (grind (arith, none, none_asked))
 
+-- where no point is found, what is so then
+none_so : {P Q : Type 0} (R : Point → Type 0) (o : Option Point) → (P → Q) → MatchOption o P R → MatchOption o Q R
+none_so R None f h = f h
+none_so R (Some point) f h = h
+
 -- ---- one answer beside the others
 
 module _ (profile : Profile) (facts : List Fact) (k : Kept) (t : Statement) (more : List Fact) (h : IsBeside profile facts k t more) where
@@ -134,19 +139,14 @@ module _ (profile : Profile) (facts : List Fact) (k : Kept) (t : Statement) (mor
   abbrev IsFreeOf : ℕ → Name → Type 0
   IsFreeOf n name = (other : Point) → rank other ≡ n → IsAbout name other → ConflictAt all other → ⊥
 
-  each_free : (n : ℕ) → 1 < n → n < 5 → ((name : Name) → (asks_of name more ≡ []) ⊎ IsFreeOf n name) → IsFree n
-  each_free n low high each = go
-    where
-      by : (name : Name) (other : Point) → rank other ≡ n → IsAbout name other → ConflictAt all other → (asks_of name more ≡ []) ⊎ IsFreeOf n name → ⊥
-      by name other e is c h = grind (arith, silent_free)
+  about_free : (n : ℕ) (name : Name) → (asks_of name more ≡ []) ⊎ IsFreeOf n name → (other : Point) → rank other ≡ n → IsAbout name other → ConflictAt all other → ⊥
+  about_free n name h other e is c = grind (arith, silent_free)
 
-      go : (other : Point) → rank other ≡ n → ConflictAt all other → ⊥
-      go (Step name) e c = omega (arith, low, e)
-      go (Group name) e c = omega (arith, low, e)
-      go (Number name m) e c = by name (Number name m) e refl c (each name)
-      go (Count name) e c = by name (Count name) e refl c (each name)
-      go (First name) e c = by name (First name) e refl c (each name)
-      go other e c = omega (arith, high, e)
+  each_free : (n : ℕ) → 1 < n → n < 5 → ((name : Name) → (asks_of name more ≡ []) ⊎ IsFreeOf n name) → IsFree n
+  each_free n low high each (Number name m) e c = about_free n name (each name) (Number name m) e refl c
+  each_free n low high each (Count name) e c = about_free n name (each name) (Count name) e refl c
+  each_free n low high each (First name) e c = about_free n name (each name) (First name) e refl c
+  each_free n low high each other e c = omega (arith, low, high, e)
 
   pub group_numbers_free : (n : ℕ) → 1 < n → n < 5 → (g : OfGroup) → t.saying.group ≡ Some g → IsFreeOf n g.name → IsFree n
   group_numbers_free n low high g e free = each_free n low high (λ name. elim (cases_Bool (is_same g.name name)) [
@@ -168,27 +168,20 @@ module _ (profile : Profile) (facts : List Fact) (k : Kept) (t : Statement) (mor
 
   pub group_point : (n : ℕ) → 1 < n → n < 5 → (g : OfGroup) → t.saying.group ≡ Some g → (o : Option Point)
       → ((asks : List Ask) → Says g.numbers asks → asks_of g.name all ≡ asks_of g.name facts ++ Estimates Lenient (widest profile) ∷ asks → IsPointIn all g.name n o) → IsPointOf all n o
-  group_point n low high g e o found = by o (found (h.tells.tells.asks ++ asked_id g.id)
+  group_point n low high g e o found = none_so (λ point. ConflictAt all point × (rank point ≡ n)) o (group_numbers_free n low high g e) (found (h.tells.tells.asks ++ asked_id g.id)
       (subst (λ o. IfSome o (λ (g : OfGroup). Says g.numbers (h.tells.tells.asks ++ asked_id g.id))) e h.tells.tells.may.numbers)
       (asks_append g.name facts more ∙ ap (λ asks. asks_of g.name facts ++ asks) (asks_some profile t more h.tells g e g.name
       ∙ ap (λ b. cond b (Estimates Lenient (widest profile) ∷ (h.tells.tells.asks ++ asked_id g.id)) []) (same_itself g.name))))
-    where
-      by : (o : Option Point) → IsPointIn all g.name n o → IsPointOf all n o
-      by None free = group_numbers_free n low high g e free
-      by (Some point) at = at
 
   pub listed_point : (n : ℕ) → 1 < n → n < 5 → (l : Option (List ℕ) × List ActiveValue) → t.saying.groups ≡ Some l → (o : Option Point)
       → (AllByRecursion (λ line. asks_of line.name all ≡ asks_of line.name facts ++ Bounds line.low line.high ∷ []) l.1
       → MatchOption o (AllByRecursion (λ line. IsFreeOf n line.name) l.1) (λ point. ConflictAt all point × (rank point ≡ n))) → IsPointOf all n o
-  listed_point n low high l e o found = by o (found (all_from (λ line. asks_of line.name all ≡ asks_of line.name facts ++ Bounds line.low line.high ∷ []) l.1 (λ line i.
+  listed_point n low high l e o found = none_so (λ point. ConflictAt all point × (rank point ≡ n)) o (listed_numbers_free n low high l e)
+      (found (all_from (λ line. asks_of line.name all ≡ asks_of line.name facts ++ Bounds line.low line.high ∷ []) l.1 (λ line i.
       asks_append line.name facts more ∙ ap (λ asks. asks_of line.name facts ++ asks) (asks_listed profile t more h.tells l e line.name ∙ bounds_at line l.1 differ i))))
     where
       differ : names_differ l.1 ≡ true
       differ = (subst (λ o. IfSome o (λ l. MayList l.0 l.1 × IsAlone t.saying)) e h.tells.tells.may.groups).0.differ
-
-      by : (o : Option Point) → MatchOption o (AllByRecursion (λ line. IsFreeOf n line.name) l.1) (λ point. ConflictAt all point × (rank point ≡ n)) → IsPointOf all n o
-      by None free = listed_numbers_free n low high l e free
-      by (Some point) at = at
 
   -- a group that is listed and denied, or shown and not listed
   module _ (l : Option (List ℕ) × List ActiveValue) (e : t.saying.groups ≡ Some l) where
