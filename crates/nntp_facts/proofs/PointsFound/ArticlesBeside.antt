@@ -1,18 +1,17 @@
 -- Points that are about articles, where what an answer says conflicts with what is kept.
 use Rattle.std.proofs.Common.{ℕ, Bool, true, false, not, cond, IsTrue, List, ◌≡◌, ◌++◌, ◌||◌, ◌⊎◌, Option, None, Some, inl, inr, refl, sym, ap, subst, ◌∙◌}
-use Rattle.std.{proofs.{Common.{arith}, lemmas.Bool.{true≢false, cases_Bool, or_cases, or_left, or_right}}, specs.Prelude.{IfSome, IsFalse, MatchOption}}
-use Rattle.std.specs.{List.{list_any}, Option.{option_map_or}, Cmp.Lexicographic.{same_text}}
+use Rattle.std.{proofs.{Common.{arith}, lemmas.{Bool.{true≢false, cases_Bool, or_left, or_right}, List.Folds.{list_any-append}}}, specs.Prelude.{IfSome}}
+use Rattle.std.specs.{Prelude.{IsFalse, MatchOption}, List.{list_any}, Option.{option_map_or}, Cmp.Lexicographic.{same_text}}
 use Rattle.nntp_wire.specs.{Listing.{OverviewValue}, declared.{command.What.{What}, range.Range.{Range}}}
 use Rattle.nntp_article.specs.{Article.Parts.{Id, Line}, Session.Machine.{is_same, head_fits}, declared.session.profile.Profile.{Profile}}
 use Rattle.nntp_said.specs.Facts.{Fact}
-use Rattle.nntp_theory.specs.{Given.{first_given, head_in, body_in}, Together.{GiveOne, shows_article, denies_article}, Inner.Together.{SaidOfArticle, said_of}}
-use Rattle.nntp_theory.specs.{Inner.Together.{said_nothing, join_said, AreSame}, Conflict.{Point, Article, HeadOf, BodyOf, ConflictAt}}
-use Rattle.nntp_theory.proofs.{Members.{any_in, found_in, first_found}, Conflicts.{at_point}, PointsByRank.{of_rank}, Together.FactsOfASpoolStand.{same_itself}}
-use Rattle.nntp_theory.proofs.Together.TwoListsOfFacts.{give_one_both, give_same_of_both}
+use Rattle.nntp_theory.specs.{Given.{first_given, head_in, body_in}, Together.{GiveOne, shows_article, denies_article}, Inner.Together.{SaidOfArticle}}
+use Rattle.nntp_theory.{specs.{Inner.Together.{said_nothing, AreSame}, Conflict.{Point, Article, HeadOf, BodyOf, ConflictAt}}, proofs.Members.{In, any_in}}
+use Rattle.nntp_theory.proofs.{Members.{found_in, first_found}, PointsByRank.{of_rank}, Together.FactsOfASpoolStand.{same_itself}}
+use Rattle.nntp_theory.proofs.Together.TwoListsOfFacts.{apart_both, give_one_both, give_same_of_both}
 use Rattle.nntp_facts.specs.Inner.{Kept.{Kept, said_kept}, Saying.{OfArticle, Sends, MayBeOf}, KeptSaying.{kept_by, said_in, said_listed}, Points.{Statement}}
-use Rattle.nntp_facts.{specs.Inner.{Points.{IsPointOf, IsBeside, said_by}, Articles.{unsent}}, proofs.Keeping.SaidOfArticles.{said_append}}
-use Rattle.nntp_facts.proofs.{Keeping.{ListedOverviews.{none_gives}, OverviewsTold.{Overviews, plain_by_article}}, PointsFound.StatementsRead.{article_told}}
-use Rattle.nntp_facts.proofs.PointsFound.KindsOfPoints.{alone_once}
+use Rattle.nntp_facts.{specs.Inner.Points.{IsPointOf, IsBeside, said_by}, proofs.Keeping.{ListedOverviews.{none_gives}, OverviewsTold.{Overviews}}}
+use Rattle.nntp_facts.proofs.{Keeping.OverviewsTold.{plain_by_article}, PointsFound.{StatementsRead.{article_told}, KindsOfPoints.{alone_once}}}
 
 -- ---- the parts of an article
 
@@ -45,6 +44,28 @@ none_of part = grind arith
 conflict_about : (part : Part) (id : Id) (facts : List Fact) → (GiveOne (part_in part id) facts → ⊥) → ConflictAt facts (about part id)
 conflict_about part id facts c = grind arith
 
+-- what a saying says of an id isn't both that it has an article and that it has none
+said_apart : (o : Overviews) (a : Option (Id × OfArticle)) (id : Id) → IsTrue (option_map_or (λ o. said_listed o.1 id) o (said_in a id)).is_shown
+    → IsFalse (option_map_or (λ o. said_listed o.1 id) o (said_in a id)).is_denied
+said_apart None a id s = grind (arith, true≢false)
+said_apart (Some o) a id s = grind (arith, true≢false)
+
+-- overviews show the articles of their ids, and deny none
+listed_shown : (id : Id) (os : List OverviewValue) → IsTrue (said_listed os id).is_shown → (v : OverviewValue) × In v os × (v.id ≡ id)
+listed_shown id os s = grind (arith, found_in (λ (v : OverviewValue). is_same v.id id) os, same_text, true≢false)
+
+each_shown : (v : OverviewValue) (os : List OverviewValue) → In v os → IsTrue (said_listed os v.id).is_shown
+each_shown v os i = grind (arith, any_in (λ (w : OverviewValue). is_same w.id v.id) v os i, same_itself v.id)
+
+none_denied : (id : Id) (os : List OverviewValue) → IsTrue (said_listed os id).is_denied → ⊥
+none_denied id os d = grind (arith, true≢false)
+
+-- overviews send no part, nor does what sends none
+none_sent : (part : Part) (os : Overviews) (o : Option (Id × OfArticle)) → IfSome o (λ a. part_of part (said_kept (Some (kept_by a.1))) ≡ None) → (id : Id)
+    → part_of part (option_map_or (λ l. said_listed l.1 id) os (said_in o id)) ≡ None
+none_sent part None o none id = grind (arith, none_of)
+none_sent part (Some l) o none id = grind (arith, none_of)
+
 -- ---- one answer beside the others
 
 module _ (profile : Profile) (facts : List Fact) (k : Kept) (t : Statement) (more : List Fact) (h : IsBeside profile facts k t more) where
@@ -60,38 +81,22 @@ module _ (profile : Profile) (facts : List Fact) (k : Kept) (t : Statement) (mor
 
   -- ---- whether an id has an article
 
-  said_all : (id : Id) → said_of all id ≡ join_said (said_of facts id) (said_by t.saying id)
-  said_all id = said_append facts more id ∙ ap (join_said (said_of facts id)) (article_told profile t more h.tells id)
+  shown_told : (id : Id) → list_any (shows_article id) more ≡ (said_by t.saying id).is_shown
+  shown_told id = ap (λ (s : SaidOfArticle). s.is_shown) (article_told profile t more h.tells id)
+
+  denied_told : (id : Id) → list_any (denies_article id) more ≡ (said_by t.saying id).is_denied
+  denied_told id = ap (λ (s : SaidOfArticle). s.is_denied) (article_told profile t more h.tells id)
 
   shown_in_all : (id : Id) → list_any (shows_article id) all ≡ (list_any (shows_article id) facts || (said_by t.saying id).is_shown)
-  shown_in_all id = ap (λ (s : SaidOfArticle). s.is_shown) (said_all id)
+  shown_in_all id = list_any-append (shows_article id) facts more ∙ ap (λ b. list_any (shows_article id) facts || b) (shown_told id)
 
   denied_in_all : (id : Id) → list_any (denies_article id) all ≡ (list_any (denies_article id) facts || (said_by t.saying id).is_denied)
-  denied_in_all id = ap (λ (s : SaidOfArticle). s.is_denied) (said_all id)
+  denied_in_all id = list_any-append (denies_article id) facts more ∙ ap (λ b. list_any (denies_article id) facts || b) (denied_told id)
 
   article_free : ((id : Id) → IsTrue (said_by t.saying id).is_shown → IsFalse (list_any (denies_article id) facts))
       → ((id : Id) → IsTrue (said_by t.saying id).is_denied → IsFalse (list_any (shows_article id) facts)) → IsFree 7
-  article_free shown denied = of_rank Free 7 (λ id c. elim (or_cases (list_any (shows_article id) facts) (said_by t.saying id).is_shown (sym (shown_in_all id) ∙ c.0)) [
-    | inl s ↦ elim (or_cases (list_any (denies_article id) facts) (said_by t.saying id).is_denied (sym (denied_in_all id) ∙ c.1)) [
-      | inl d ↦ at_point facts (Article id) (s, d) h.together
-      | inr d ↦ true≢false (sym s ∙ denied id d)
-    ]
-    | inr s ↦ grind (arith, or_cases, denied_in_all, true≢false)
-  ])
-    where
-      listed_apart : (b : Bool) → IsTrue (cond b (said_kept (Some unsent)) said_nothing).is_shown → IsTrue (cond b (said_kept (Some unsent)) said_nothing).is_denied → ⊥
-      listed_apart b s d = grind (arith, true≢false)
-
-      said_apart : (o : Option (Id × OfArticle)) (id : Id) → IsTrue (said_in o id).is_shown → IsTrue (said_in o id).is_denied → ⊥
-      said_apart o id s d = grind (arith, true≢false)
-
-      by : (o : Overviews) (id : Id) → IsTrue (option_map_or (λ o. said_listed o.1 id) o (said_in t.saying.article id)).is_shown
-          → IsTrue (option_map_or (λ o. said_listed o.1 id) o (said_in t.saying.article id)).is_denied → ⊥
-      by None id s d = said_apart t.saying.article id s d
-      by (Some o) id s d = listed_apart (list_any (λ v. is_same v.id id) o.1) s d
-
-      apart : (id : Id) → IsTrue (said_by t.saying id).is_shown → IsTrue (said_by t.saying id).is_denied → ⊥
-      apart = by t.saying.overviews
+  article_free shown denied = of_rank Free 7 (λ id c. true≢false (sym c.1 ∙ apart_both (shows_article id) (denies_article id) facts more (h.together.articles id)
+      (λ s. denied_told id ∙ said_apart t.saying.overviews t.saying.article id (sym (shown_told id) ∙ s)) (λ s. shown id (sym (shown_told id) ∙ s)) (λ d. denied id (sym (denied_told id) ∙ d)) c.0))
 
   -- where no overviews are said
   said_plain : (id : Id) → t.saying.overviews ≡ None → said_by t.saying id ≡ said_in t.saying.article id
@@ -100,59 +105,24 @@ module _ (profile : Profile) (facts : List Fact) (k : Kept) (t : Statement) (mor
   pub no_article : t.saying.overviews ≡ None → t.saying.article ≡ None → IsFree 7
   no_article plain e =
       let none : (id : Id) → said_by t.saying id ≡ said_nothing = λ id. said_plain id plain ∙ ap (λ a. said_in a id) e in
-      article_free (λ id s. absurd (true≢false (sym s ∙ ap (λ (s : SaidOfArticle). s.is_shown) (none id))))
-      (λ id d. absurd (true≢false (sym d ∙ ap (λ (s : SaidOfArticle). s.is_denied) (none id))))
+      article_free (λ id s. grind (arith, none id, true≢false)) (λ id d. grind (arith, none id, true≢false))
 
-  -- ---- overviews
-
+  -- of overviews the first whose id is denied
   module _ (o : Range × List OverviewValue) (listed : t.saying.overviews ≡ Some o) where
-    said_of_listed : (id : Id) → said_by t.saying id ≡ said_listed o.1 id
-    said_of_listed id = ap (λ (o : Overviews). option_map_or (λ o. said_listed o.1 id) o (said_in t.saying.article id)) listed
+    said : (id : Id) → said_by t.saying id ≡ said_listed o.1 id
+    said id = ap (λ (o : Overviews). option_map_or (λ o. said_listed o.1 id) o (said_in t.saying.article id)) listed
 
-    -- an overview shows an article, and none is denied
-    listed_shown : (id : Id) → IsTrue (said_by t.saying id).is_shown → IsTrue (list_any (λ v. is_same v.id id) o.1)
-    listed_shown id s = by (list_any (λ v. is_same v.id id) o.1) (sym (ap (λ (s : SaidOfArticle). s.is_shown) (said_of_listed id)) ∙ s)
-      where
-        by : (b : Bool) → IsTrue (cond b (said_kept (Some unsent)) said_nothing).is_shown → IsTrue b
-        by true s = refl
-        by false s = s
-
-    none_denied : (id : Id) → IsTrue (said_by t.saying id).is_denied → ⊥
-    none_denied id d = by (list_any (λ v. is_same v.id id) o.1) (sym (ap (λ (s : SaidOfArticle). s.is_denied) (said_of_listed id)) ∙ d)
-      where
-        by : (b : Bool) → IsTrue (cond b (said_kept (Some unsent)) said_nothing).is_denied → ⊥
-        by true d = true≢false (sym d)
-        by false d = true≢false (sym d)
-
-    abbrev denied_at : OverviewValue → Option Point
-    denied_at v = cond (list_any (denies_article v.id) facts) (Some (Article v.id)) None
-
-    denied_free : (id : Id) (b : Bool) → cond b (Some (Article id)) None ≡ None → b ≡ false
-    denied_free id true e = absurd (cc)
-    denied_free id false e = refl
-
-    denied_there : (id : Id) (point : Point) (b : Bool) → cond b (Some (Article id)) None ≡ Some point → (b ≡ true) × (point ≡ Article id)
-    denied_there id point true e = (refl, cc)
-    denied_there id point false e = absurd (cc)
-
-    -- the first that is denied
-    pub listed_article : (p : Option Point) → p ≡ first_given denied_at o.1 → IsPointOf all 7 p
+    pub listed_article : (p : Option Point) → p ≡ first_given (λ v. cond (list_any (denies_article v.id) facts) (Some (Article v.id)) None) o.1 → IsPointOf all 7 p
     listed_article None found = article_free
-        (λ id s. let f = found_in (λ (v : OverviewValue). is_same v.id id) o.1 (listed_shown id s) in
-        subst (λ id. IsFalse (list_any (denies_article id) facts)) (same_text f.0.id id (sym f.2)) (denied_free f.0.id _ (none_gives denied_at o.1 (sym found) f.0 f.1)))
-        (λ id d. absurd (none_denied id d))
+        (λ id s. let f = listed_shown id o.1 (sym (ap (λ (s : SaidOfArticle). s.is_shown) (said id)) ∙ s) in
+        let none = none_gives (λ v. cond (list_any (denies_article v.id) facts) (Some (Article v.id)) None) o.1 (sym found) f.0 f.1 in
+        subst (λ id. IsFalse (list_any (denies_article id) facts)) f.2 (grind arith))
+        (λ id d. absurd (none_denied id o.1 (sym (ap (λ (s : SaidOfArticle). s.is_denied) (said id)) ∙ d)))
     listed_article (Some point) found =
-        let f = first_found denied_at o.1 point (sym found) in
-        let d = denied_there f.0.id point (list_any (denies_article f.0.id) facts) f.2 in
-        let there : list_any (λ v. is_same v.id f.0.id) o.1 ≡ true = any_in (λ (v : OverviewValue). is_same v.id f.0.id) f.0 o.1 f.1 (same_itself f.0.id) in
-        let shown : (said_by t.saying f.0.id).is_shown ≡ true = ap (λ (s : SaidOfArticle). s.is_shown) (said_of_listed f.0.id ∙ ap (λ b. cond b (said_kept (Some unsent)) said_nothing) there) in
-        subst (λ point. IsPointOf all 7 (Some point)) (sym d.1) (
-          (
-            shown_in_all f.0.id ∙ or_right (list_any (shows_article f.0.id) facts) (said_by t.saying f.0.id).is_shown shown,
-            denied_in_all f.0.id ∙ or_left (list_any (denies_article f.0.id) facts) (said_by t.saying f.0.id).is_denied d.0,
-          ),
-          refl,
-        )
+        let f = first_found (λ (v : OverviewValue). cond (list_any (denies_article v.id) facts) (Some (Article v.id)) None) o.1 point (sym found) in
+        let shown = ap (λ (s : SaidOfArticle). s.is_shown) (said f.0.id) ∙ each_shown f.0 o.1 f.1 in
+        let d : (list_any (denies_article f.0.id) facts ≡ true) × (Article f.0.id ≡ point) = grind (arith, f.2) in
+        subst (λ point. IsPointOf all 7 (Some point)) d.1 ((shown_in_all f.0.id ∙ or_right _ _ shown, denied_in_all f.0.id ∙ or_left _ _ d.0), refl)
 
   -- where something is said of an id
   module _ (id : Id) (a : OfArticle) (e : t.saying.article ≡ Some (id, a)) where
@@ -167,15 +137,7 @@ module _ (profile : Profile) (facts : List Fact) (k : Kept) (t : Statement) (mor
     others q = grind (arith, cases_Bool, same_text, said_plain q plain)
 
     own_free : (IsTrue (not (kept_by a).is_denied) → IsFalse (list_any (denies_article id) facts)) → (IsTrue (kept_by a).is_denied → IsFalse (list_any (shows_article id) facts)) → IsFree 7
-    own_free shown denied = article_free
-        (λ q s. elim (others q) [
-          | inl same ↦ grind (arith, own)
-          | inr none ↦ absurd (true≢false (sym s ∙ ap (λ (s : SaidOfArticle). s.is_shown) none))
-        ])
-        (λ q d. elim (others q) [
-          | inl same ↦ grind (arith, own)
-          | inr none ↦ absurd (true≢false (sym d ∙ ap (λ (s : SaidOfArticle). s.is_denied) none))
-        ])
+    own_free shown denied = article_free (λ q s. grind (arith, others q, own, true≢false)) (λ q d. grind (arith, others q, own, true≢false))
 
     -- that it has no article
     pub lacks : (kept_by a).is_denied ≡ true → (o : Option Point) → o ≡ cond (list_any (shows_article id) facts) (Some (Article id)) None → IsPointOf all 7 o
@@ -201,29 +163,16 @@ module _ (profile : Profile) (facts : List Fact) (k : Kept) (t : Statement) (mor
   abbrev IsAlike : Part → Id → Option (List Line) → Type 0
   IsAlike part id sent = AreSame sent (first_given (part_in part id) facts)
 
-  part_once : (part : Part) (id : Id) → IsAlike part id (part_of part (said_by t.saying id)) → GiveOne (part_in part id) all
-  part_once Head id same = give_one_both (head_in id) facts more (h.together.heads id)
-      (alone_once profile (head_in id) (λ name. refl) (λ name ask. refl) t more h.tells (h.tells.agree.heads id)) (subst (IsAlike Head id) (sym (part_given Head id)) same)
-  part_once Body id same = give_one_both (body_in id) facts more (h.together.bodies id)
-      (alone_once profile (body_in id) (λ name. refl) (λ name ask. refl) t more h.tells (h.tells.agree.bodies id)) (subst (IsAlike Body id) (sym (part_given Body id)) same)
-
   part_free : (part : Part) → ((id : Id) → IsAlike part id (part_of part (said_by t.saying id))) → IsFree (part_rank part)
-  part_free Head same = of_rank Free 8 (λ id c. c (part_once Head id (same id)))
-  part_free Body same = of_rank Free 9 (λ id c. c (part_once Body id (same id)))
+  part_free Head same = of_rank Free 8 (λ id c. c (give_one_both (head_in id) facts more (h.together.heads id)
+      (alone_once profile (head_in id) (λ name. refl) (λ name ask. refl) t more h.tells (h.tells.agree.heads id)) (subst (IsAlike Head id) (sym (part_given Head id)) (same id))))
+  part_free Body same = of_rank Free 9 (λ id c. c (give_one_both (body_in id) facts more (h.together.bodies id)
+      (alone_once profile (body_in id) (λ name. refl) (λ name ask. refl) t more h.tells (h.tells.agree.bodies id)) (subst (IsAlike Body id) (sym (part_given Body id)) (same id))))
 
   -- of an answer that sends no such part
   pub no_part : (part : Part) (o : Option (Id × OfArticle)) → t.saying.article ≡ o → IfSome o (λ a. part_of part (said_kept (Some (kept_by a.1))) ≡ None) → IsFree (part_rank part)
-  no_part part o e none = part_free part (λ id. subst (IsAlike part id) (sym (of t.saying.overviews id)) tt)
-    where
-      by : (o : Option (Id × OfArticle)) → IfSome o (λ a. part_of part (said_kept (Some (kept_by a.1))) ≡ None) → (id : Id) → part_of part (said_in o id) ≡ None
-      by o none id = grind (arith, none_of)
-
-      of_listed : (b : Bool) → part_of part (cond b (said_kept (Some unsent)) said_nothing) ≡ None
-      of_listed b = grind (arith, none_of)
-
-      of : (os : Overviews) (id : Id) → part_of part (option_map_or (λ o. said_listed o.1 id) os (said_in t.saying.article id)) ≡ None
-      of None id = ap (λ a. part_of part (said_in a id)) e ∙ by o none id
-      of (Some l) id = of_listed (list_any (λ v. is_same v.id id) l.1)
+  no_part part o e none = part_free part (λ id. subst (IsAlike part id)
+      (sym (ap (λ a. part_of part (option_map_or (λ o. said_listed o.1 id) t.saying.overviews (said_in a id))) e ∙ none_sent part t.saying.overviews o none id)) tt)
 
   -- of one that sends it, if it sends one
   module _ (part : Part) (id : Id) (what : What) (lines : Option (List Line)) (e : t.saying.article ≡ Some (id, Sends what lines)) (sent : Option (List Line))

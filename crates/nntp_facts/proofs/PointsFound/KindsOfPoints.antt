@@ -1,20 +1,20 @@
 -- Points of each kind, where what an answer says conflicts with what is kept.
 use Rattle.std.proofs.Common.{arith, ℕ, Bool, true, false, not, cond, IsTrue, List, [], ◌≡◌, ◌∷◌, ◌++◌, ◌&&◌, ◌||◌, ◌<◌, ◌⊎◌, Option, None, Some, inl, inr}
-use Rattle.std.proofs.{Common.{refl, sym, ap, subst, ◌∙◌, append-nil}, lemmas.Bool.{true≢false, cases_Bool, and_parts, or_cases, or_left, or_right, not-true}}
-use Rattle.std.{proofs.lemmas.List.Folds.{list_any-append}, specs.{Prelude.{IfSome, IsFalse, MatchOption, option_map}, List.{AllByRecursion, list_any}}}
-use Rattle.std.specs.{List.{list_all}, Option.{option_map_or, option_or}, Cmp.Lexicographic.{same_text}}
+use Rattle.std.proofs.{Common.{refl, sym, ap, subst, ◌∙◌, append-nil}, lemmas.Bool.{true≢false, cases_Bool, and_parts, or_left, or_right, not-true}}
+use Rattle.std.{proofs.lemmas.{Bool.{false_from_ne_true}, List.Folds.{list_any-append}}, specs.Prelude.{IfSome, IsFalse, MatchOption, option_map}}
+use Rattle.std.specs.{List.{AllByRecursion, list_any, list_all}, Option.{option_map_or}, Cmp.Lexicographic.{same_text}}
 use Rattle.nntp_wire.specs.{Listing.{ActiveValue}, Decided.{matches_name}, declared.marks.Marks.TheVariants.{Lenient}}
 use Rattle.nntp_article.specs.{Session.{Spool.{Name}, Machine.{is_same, names_differ}}, declared.session.profile.Profile.{Profile}}
 use Rattle.nntp_said.specs.{Asks.{Ask, Bounds, Estimates}, Facts.{Fact, ThereIs, Asks, GroupsAre, group_of}}
-use Rattle.nntp_theory.specs.{Given.{asks_of, shows_group, is_shown_group, first_given, is_known, is_denied, demand, IsGivenNumber}, Together.{is_possible}}
-use Rattle.nntp_theory.specs.{Together.{MeetsDemand, GiveOne, denies_group}, Conflict.{widest, the_group, Point, Step, Group, Number, Count, First, rank}}
-use Rattle.nntp_theory.{specs.Conflict.{ConflictAt, AreTooMany}, proofs.{Members.{all_at, all_from, found_in}, Conflicts.{at_point}, PointsByRank.{of_rank}}}
-use Rattle.nntp_theory.proofs.Together.{FactsJoin.{asks_append}, FactsOfASpoolStand.{same_itself}}
+use Rattle.nntp_theory.specs.{Given.{asks_of, shows_group, is_shown_group, is_known, is_denied, demand, IsGivenNumber}, Together.{is_possible, MeetsDemand}}
+use Rattle.nntp_theory.specs.{Together.{GiveOne, denies_group}, Conflict.{widest, the_group, Point, Step, Group, Number, Count, First, rank, ConflictAt}}
+use Rattle.nntp_theory.{specs.Conflict.{AreTooMany}, proofs.{Members.{all_at, all_from, found_in}, Conflicts.{at_point}, PointsByRank.{of_rank}}}
+use Rattle.nntp_theory.proofs.Together.{FactsJoin.{asks_append}, FactsOfASpoolStand.{same_itself}, TwoListsOfFacts.{apart_both, give_one_both}}
 use Rattle.nntp_numbers.specs.Inner.Part.{Says}
 use Rattle.nntp_facts.specs.Inner.{Kept.{Kept}, Saying.{OfGroup, asked_id, IsAlone}, ListedGroups.{is_listed, MayList, NoneIsMissing}, Points.{Statement}}
 use Rattle.nntp_facts.specs.Inner.Points.{TellsAlone, IsPointOf, IsPointIn, IsBeside, IsAbout, is_impossible, shows_name, denies_name, bounds_of}
 use Rattle.nntp_facts.proofs.{Keeping.ListedGroups.{no_bounds, bounds_at}, PointsFound.StatementsRead.{shown_told, denied_told, asks_some, asks_listed}}
-use Rattle.nntp_facts.proofs.PointsFound.StatementsRead.{asks_none}
+use Rattle.nntp_facts.proofs.PointsFound.StatementsRead.{asks_none, or_no}
 
 -- an ask can't be met
 abbrev pub cannot : Ask → Bool
@@ -22,17 +22,11 @@ cannot ask = not (is_possible ask)
 
 not_all : (asks : List Ask) → list_any cannot asks ≡ not (list_all is_possible asks)
 not_all [] = refl
-not_all (ask ∷ asks) = by (is_possible ask) (not_all asks)
-  where
-    by : (b : Bool) → list_any cannot asks ≡ not (list_all is_possible asks) → (not b || list_any cannot asks) ≡ not (b && list_all is_possible asks)
-    by b rest = grind arith
+not_all (ask ∷ asks) = grind (arith, not_all asks)
 
 bounds_can : (name : Name) (lines : List ActiveValue) → list_any cannot (bounds_of name lines) ≡ false
 bounds_can name [] = refl
-bounds_can name (line ∷ lines) = by (is_same line.name name) (bounds_can name lines)
-  where
-    by : (b : Bool) → list_any cannot (bounds_of name lines) ≡ false → list_any cannot (cond b (Bounds line.low line.high ∷ []) [] ++ bounds_of name lines) ≡ false
-    by b e = grind arith
+bounds_can name (line ∷ lines) = grind (arith, bounds_can name lines)
 
 -- what an answer says can't be where its part says so
 pub impossible_told : (profile : Profile) (t : Statement) (here : List Fact) → TellsAlone profile t here → (name : Name) → list_any cannot (asks_of name here) ≡ is_impossible name t
@@ -56,21 +50,17 @@ module _ (profile : Profile) where
   -- what one answer gives it gives once
   pub alone_once : {A : Type 0} (f : Fact → Option A) → ((name : Name) → f (ThereIs name) ≡ None) → ((name : Name) (ask : Ask) → f (Asks name ask) ≡ None)
       → (t : Statement) (here : List Fact) (tells : TellsAlone profile t here) → GiveOne f tells.own → GiveOne f here
-  alone_once {A} f there ask t here tells once = subst (GiveOne f) tells.whole (by (group_of tells.own))
+  alone_once f there ask t here tells once = subst (GiveOne f) tells.whole (by (group_of tells.own))
     where
-      none : (facts : List Fact) (fact : Fact) → f fact ≡ None → IfSome (f fact) (λ x. first_given f facts ≡ Some x)
-      none facts fact e = subst (λ o. IfSome o (λ x. first_given f facts ≡ Some x)) (sym e) tt
-
       by : (g : Option Name) → GiveOne f (the_group profile g ++ tells.own)
       by None = once
-      by (Some name) = (
-        none (the_group profile (Some name) ++ tells.own) (ThereIs name) (there name),
-        (
-          none (the_group profile (Some name) ++ tells.own) (Asks name (Estimates Lenient (widest profile))) (ask name (Estimates Lenient (widest profile))),
-          subst (λ o. AllByRecursion (λ fact. IfSome (f fact) (λ x. o ≡ Some x)) tells.own)
-              (λ i. option_or (sym (there name) i) (option_or (sym (ask name (Estimates Lenient (widest profile))) i) (first_given f tells.own))) once,
-        ),
-      )
+      by (Some name) = let none = there name in let none_asked = ask name (Estimates Lenient (widest profile)) in
+          give_one_both f (the_group profile (Some name)) tells.own (grind (arith, none, none_asked)) once (grind (arith, none, none_asked))
+
+-- where no point is found, what is so then
+none_so : {P Q : Type 0} (R : Point → Type 0) (o : Option Point) → (P → Q) → MatchOption o P R → MatchOption o Q R
+none_so R None f h = f h
+none_so R (Some point) f h = h
 
 -- ---- one answer beside the others
 
@@ -119,25 +109,16 @@ module _ (profile : Profile) (facts : List Fact) (k : Kept) (t : Statement) (mor
   denied_all : (name : Name) → list_any (denies_group name) all ≡ (list_any (denies_group name) facts || denies_name name t)
   denied_all name = list_any-append (denies_group name) facts more ∙ (λ i. list_any (denies_group name) facts || denied_told profile t more h.tells name i)
 
-  pub group_shown : (name : Name) → IsTrue (shows_name name t) → IsTrue (list_any (denies_group name) facts) → ConflictAt all (Group name)
-  group_shown name s d = (shown_all name ∙ or_right (is_shown_group facts name) (shows_name name t) s, denied_all name ∙ or_left (list_any (denies_group name) facts) (denies_name name t) d)
-
-  pub group_denied : (name : Name) → IsTrue (denies_name name t) → IsTrue (is_shown_group facts name) → ConflictAt all (Group name)
-  group_denied name d s = (shown_all name ∙ or_left (is_shown_group facts name) (shows_name name t) s, denied_all name ∙ or_right (list_any (denies_group name) facts) (denies_name name t) d)
-
-  pub group_both : (name : Name) → IsTrue (shows_name name t) → IsTrue (denies_name name t) → ConflictAt all (Group name)
-  group_both name s d = (shown_all name ∙ or_right (is_shown_group facts name) (shows_name name t) s, denied_all name ∙ or_right (list_any (denies_group name) facts) (denies_name name t) d)
+  group_found : (name : Name) → IsTrue (is_shown_group facts name) ⊎ IsTrue (shows_name name t) → IsTrue (list_any (denies_group name) facts) ⊎ IsTrue (denies_name name t)
+      → ConflictAt all (Group name)
+  group_found name s d = grind (arith, shown_all name, denied_all name, or_left, or_right)
 
   pub group_free : ((name : Name) → IsTrue (shows_name name t) → IsFalse (list_any (denies_group name) facts))
       → ((name : Name) → IsTrue (denies_name name t) → IsTrue (is_shown_group facts name) → ⊥)
       → ((name : Name) → IsTrue (shows_name name t) → IsTrue (denies_name name t) → ⊥) → IsFree 1
-  group_free shows denies apart = of_rank Free 1 (λ name c. elim (or_cases (is_shown_group facts name) (shows_name name t) (sym (shown_all name) ∙ c.0)) [
-    | inl s ↦ elim (or_cases (list_any (denies_group name) facts) (denies_name name t) (sym (denied_all name) ∙ c.1)) [
-      | inl d ↦ none_before (Group name) (s, d)
-      | inr d ↦ denies name d s
-    ]
-    | inr s ↦ grind (arith, or_cases, denied_all, true≢false)
-  ])
+  group_free shows denies apart = of_rank Free 1 (λ name c. true≢false (sym c.1 ∙ apart_both (shows_group name) (denies_group name) facts more (h.together.groups name)
+      (λ s. false_from_ne_true _ (λ d. apart name (sym (shown_told profile t more h.tells name) ∙ s) (sym (denied_told profile t more h.tells name) ∙ d)))
+      (λ s. shows name (sym (shown_told profile t more h.tells name) ∙ s)) (λ d. false_from_ne_true _ (denies name (sym (denied_told profile t more h.tells name) ∙ d))) c.0))
 
   -- ---- numbers
 
@@ -158,19 +139,14 @@ module _ (profile : Profile) (facts : List Fact) (k : Kept) (t : Statement) (mor
   abbrev IsFreeOf : ℕ → Name → Type 0
   IsFreeOf n name = (other : Point) → rank other ≡ n → IsAbout name other → ConflictAt all other → ⊥
 
-  each_free : (n : ℕ) → 1 < n → n < 5 → ((name : Name) → (asks_of name more ≡ []) ⊎ IsFreeOf n name) → IsFree n
-  each_free n low high each = go
-    where
-      by : (name : Name) (other : Point) → rank other ≡ n → IsAbout name other → ConflictAt all other → (asks_of name more ≡ []) ⊎ IsFreeOf n name → ⊥
-      by name other e is c h = grind (arith, silent_free)
+  about_free : (n : ℕ) (name : Name) → (asks_of name more ≡ []) ⊎ IsFreeOf n name → (other : Point) → rank other ≡ n → IsAbout name other → ConflictAt all other → ⊥
+  about_free n name h other e is c = grind (arith, silent_free)
 
-      go : (other : Point) → rank other ≡ n → ConflictAt all other → ⊥
-      go (Step name) e c = omega (arith, low, e)
-      go (Group name) e c = omega (arith, low, e)
-      go (Number name m) e c = by name (Number name m) e refl c (each name)
-      go (Count name) e c = by name (Count name) e refl c (each name)
-      go (First name) e c = by name (First name) e refl c (each name)
-      go other e c = omega (arith, high, e)
+  each_free : (n : ℕ) → 1 < n → n < 5 → ((name : Name) → (asks_of name more ≡ []) ⊎ IsFreeOf n name) → IsFree n
+  each_free n low high each (Number name m) e c = about_free n name (each name) (Number name m) e refl c
+  each_free n low high each (Count name) e c = about_free n name (each name) (Count name) e refl c
+  each_free n low high each (First name) e c = about_free n name (each name) (First name) e refl c
+  each_free n low high each other e c = omega (arith, low, high, e)
 
   pub group_numbers_free : (n : ℕ) → 1 < n → n < 5 → (g : OfGroup) → t.saying.group ≡ Some g → IsFreeOf n g.name → IsFree n
   group_numbers_free n low high g e free = each_free n low high (λ name. elim (cases_Bool (is_same g.name name)) [
@@ -192,107 +168,81 @@ module _ (profile : Profile) (facts : List Fact) (k : Kept) (t : Statement) (mor
 
   pub group_point : (n : ℕ) → 1 < n → n < 5 → (g : OfGroup) → t.saying.group ≡ Some g → (o : Option Point)
       → ((asks : List Ask) → Says g.numbers asks → asks_of g.name all ≡ asks_of g.name facts ++ Estimates Lenient (widest profile) ∷ asks → IsPointIn all g.name n o) → IsPointOf all n o
-  group_point n low high g e o found = by o (found (h.tells.tells.asks ++ asked_id g.id)
+  group_point n low high g e o found = none_so (λ point. ConflictAt all point × (rank point ≡ n)) o (group_numbers_free n low high g e) (found (h.tells.tells.asks ++ asked_id g.id)
       (subst (λ o. IfSome o (λ (g : OfGroup). Says g.numbers (h.tells.tells.asks ++ asked_id g.id))) e h.tells.tells.may.numbers)
       (asks_append g.name facts more ∙ ap (λ asks. asks_of g.name facts ++ asks) (asks_some profile t more h.tells g e g.name
       ∙ ap (λ b. cond b (Estimates Lenient (widest profile) ∷ (h.tells.tells.asks ++ asked_id g.id)) []) (same_itself g.name))))
-    where
-      by : (o : Option Point) → IsPointIn all g.name n o → IsPointOf all n o
-      by None free = group_numbers_free n low high g e free
-      by (Some point) at = at
 
   pub listed_point : (n : ℕ) → 1 < n → n < 5 → (l : Option (List ℕ) × List ActiveValue) → t.saying.groups ≡ Some l → (o : Option Point)
       → (AllByRecursion (λ line. asks_of line.name all ≡ asks_of line.name facts ++ Bounds line.low line.high ∷ []) l.1
       → MatchOption o (AllByRecursion (λ line. IsFreeOf n line.name) l.1) (λ point. ConflictAt all point × (rank point ≡ n))) → IsPointOf all n o
-  listed_point n low high l e o found = by o (found (all_from (λ line. asks_of line.name all ≡ asks_of line.name facts ++ Bounds line.low line.high ∷ []) l.1 (λ line i.
+  listed_point n low high l e o found = none_so (λ point. ConflictAt all point × (rank point ≡ n)) o (listed_numbers_free n low high l e)
+      (found (all_from (λ line. asks_of line.name all ≡ asks_of line.name facts ++ Bounds line.low line.high ∷ []) l.1 (λ line i.
       asks_append line.name facts more ∙ ap (λ asks. asks_of line.name facts ++ asks) (asks_listed profile t more h.tells l e line.name ∙ bounds_at line l.1 differ i))))
     where
       differ : names_differ l.1 ≡ true
       differ = (subst (λ o. IfSome o (λ l. MayList l.0 l.1 × IsAlone t.saying)) e h.tells.tells.may.groups).0.differ
 
-      by : (o : Option Point) → MatchOption o (AllByRecursion (λ line. IsFreeOf n line.name) l.1) (λ point. ConflictAt all point × (rank point ≡ n)) → IsPointOf all n o
-      by None free = listed_numbers_free n low high l e free
-      by (Some point) at = at
-
   -- a group that is listed and denied, or shown and not listed
-  pub listed_group : (l : Option (List ℕ) × List ActiveValue) → t.saying.groups ≡ Some l → (o : Option Name)
-      → MatchOption o (AllByRecursion (λ line. IsFalse (list_any (denies_group line.name) facts)) l.1 × NoneIsMissing facts l.0 l.1)
-      (λ name. (IsTrue (is_listed l.1 name) × IsTrue (list_any (denies_group name) facts)) ⊎ (IsTrue (is_shown_group facts name) × IsTrue (denies_group name (GroupsAre l.0 l.1))))
-      → IsPointOf all 1 (option_map Group o)
-  listed_group l e = go
-    where
-      alone : IsAlone t.saying
-      alone = (subst (λ o. IfSome o (λ l. MayList l.0 l.1 × IsAlone t.saying)) e h.tells.tells.may.groups).1
+  module _ (l : Option (List ℕ) × List ActiveValue) (e : t.saying.groups ≡ Some l) where
+    no_group : t.group ≡ None
+    no_group = sym h.tells.named ∙ ap (option_map (λ g. g.name)) (subst (λ o. IfSome o (λ l. MayList l.0 l.1 × IsAlone t.saying)) e h.tells.tells.may.groups).1.group
 
-      no_group : t.group ≡ None
-      no_group = sym h.tells.named ∙ ap (option_map (λ g. g.name)) alone.group
+    shows : (name : Name) → shows_name name t ≡ is_listed l.1 name
+    shows name = λ i. option_map_or (λ g. is_same g name) (no_group i) false || option_map_or (λ l. is_listed l.1 name) (e i) false
 
-      shows : (name : Name) → shows_name name t ≡ is_listed l.1 name
-      shows name = λ i. option_map_or (λ g. is_same g name) (no_group i) false || option_map_or (λ l. is_listed l.1 name) (e i) false
+    denied : (name : Name) → IsTrue (denies_name name t) → IsTrue (option_map_or (λ w. matches_name w name) l.0 true) × IsFalse (is_listed l.1 name)
+    denied name d = grind (arith, and_parts, not-true)
 
-      denies : (name : Name) → denies_name name t ≡ (option_map_or (λ w. matches_name w name) l.0 true && not (is_listed l.1 name))
-      denies name = grind arith
+    pub listed_group : (o : Option Name) → MatchOption o (AllByRecursion (λ line. IsFalse (list_any (denies_group line.name) facts)) l.1 × NoneIsMissing facts l.0 l.1)
+        (λ name. (IsTrue (is_listed l.1 name) × IsTrue (list_any (denies_group name) facts)) ⊎ (IsTrue (is_shown_group facts name) × IsTrue (denies_group name (GroupsAre l.0 l.1))))
+        → IsPointOf all 1 (option_map Group o)
+    listed_group (Some name) (inl (listed, denied)) = (group_found name (inr (shows name ∙ listed)) (inl denied), refl)
+    listed_group (Some name) (inr (shown, unlisted)) = (group_found name (inl shown) (inr (grind arith)), refl)
+    listed_group None (free, missing) = group_free
+        (λ name s. let f = found_in (λ line. is_same line.name name) l.1 (sym (shows name) ∙ s) in
+        subst (λ name. IsFalse (list_any (denies_group name) facts)) (same_text f.0.name name (sym f.2)) (all_at (λ line. IsFalse (list_any (denies_group line.name) facts)) f.0 l.1 free f.1))
+        (λ name d s. true≢false (sym (missing name s (denied name d).0) ∙ (denied name d).1))
+        (λ name s d. true≢false (sym s ∙ shows name ∙ (denied name d).1))
 
-      go : (o : Option Name) → MatchOption o (AllByRecursion (λ line. IsFalse (list_any (denies_group line.name) facts)) l.1 × NoneIsMissing facts l.0 l.1)
-          (λ name. (IsTrue (is_listed l.1 name) × IsTrue (list_any (denies_group name) facts)) ⊎ (IsTrue (is_shown_group facts name) × IsTrue (denies_group name (GroupsAre l.0 l.1))))
-          → IsPointOf all 1 (option_map Group o)
-      go (Some name) (inl (listed, denied)) = (group_shown name (shows name ∙ listed) denied, refl)
-      go (Some name) (inr (shown, unlisted)) = (group_denied name (denies name ∙ unlisted) shown, refl)
-      go None (free, missing) = group_free
-          (λ name s. let f = found_in (λ line. is_same line.name name) l.1 (sym (shows name) ∙ s) in
-          subst (λ name. IsFalse (list_any (denies_group name) facts)) (same_text f.0.name name (sym f.2)) (all_at (λ line. IsFalse (list_any (denies_group line.name) facts)) f.0 l.1 free f.1))
-          (λ name d s. let p = and_parts (option_map_or (λ w. matches_name w name) l.0 true) (not (is_listed l.1 name)) (sym (denies name) ∙ d) in
-          true≢false (sym (missing name s p.0) ∙ not-true (is_listed l.1 name) p.1))
-          (λ name s d. let p = and_parts (option_map_or (λ w. matches_name w name) l.0 true) (not (is_listed l.1 name)) (sym (denies name) ∙ d) in
-          true≢false (sym (sym (shows name) ∙ s) ∙ not-true (is_listed l.1 name) p.1))
+    -- where none that is listed is denied
+    pub unlisted_group : AllByRecursion (λ line. IsFalse (list_any (denies_group line.name) facts)) l.1 → (o : Option Name)
+        → MatchOption o (NoneIsMissing facts l.0 l.1) (λ name. IsTrue (is_shown_group facts name) × IsTrue (denies_group name (GroupsAre l.0 l.1))) → IsPointOf all 1 (option_map Group o)
+    unlisted_group free None missing = listed_group None (free, missing)
+    unlisted_group free (Some name) found = listed_group (Some name) (inr found)
 
   -- the group of which the answer speaks, if it is denied, or the one that it denies, if it is shown
-  pub named_group : t.saying.groups ≡ None → (o : Option Name)
-      → MatchOption o (IfSome t.group (λ name. IsFalse (list_any (denies_group name) facts)) × IfSome t.saying.there_is_no (λ name. IsFalse (is_shown_group facts name) × (t.group ≡ Some name → ⊥)))
-      (λ name. ((t.group ≡ Some name) × IsTrue (list_any (denies_group name) facts)) ⊎ ((t.saying.there_is_no ≡ Some name) × (IsTrue (is_shown_group facts name) ⊎ (t.group ≡ Some name))))
-      → IsPointOf all 1 (option_map Group o)
-  named_group none = go
-    where
-      or_no : (b : Bool) → (b || false) ≡ b
-      or_no b = grind arith
+  module _ (none : t.saying.groups ≡ None) where
+    shows_it : (name : Name) → shows_name name t ≡ option_map_or (λ g. is_same g name) t.group false
+    shows_it name = ap (λ o. option_map_or (λ g. is_same g name) t.group false || option_map_or (λ l. is_listed l.1 name) o false) none ∙ or_no _
 
-      shows : (name : Name) → shows_name name t ≡ option_map_or (λ g. is_same g name) t.group false
-      shows name = ap (λ o. option_map_or (λ g. is_same g name) t.group false || option_map_or (λ l. is_listed l.1 name) o false) none ∙ or_no _
+    denies_it : (name : Name) → denies_name name t ≡ option_map_or (λ g. is_same g name) t.saying.there_is_no false
+    denies_it name = grind arith
 
-      denies : (name : Name) → denies_name name t ≡ option_map_or (λ g. is_same g name) t.saying.there_is_no false
-      denies name = grind arith
+    is_it : (o : Option Name) (name : Name) → o ≡ Some name → IsTrue (option_map_or (λ g. is_same g name) o false)
+    is_it o name e = ap (λ o. option_map_or (λ g. is_same g name) o false) e ∙ same_itself name
 
-      is_it : (o : Option Name) (name : Name) → o ≡ Some name → IsTrue (option_map_or (λ g. is_same g name) o false)
-      is_it o name e = ap (λ o. option_map_or (λ g. is_same g name) o false) e ∙ same_itself name
+    named : (o : Option Name) (name : Name) → IsTrue (option_map_or (λ g. is_same g name) o false) → o ≡ Some name
+    named None name s = absurd (true≢false (sym s))
+    named (Some g) name s = ap (λ (g : Name). Some g) (same_text g name (sym s))
 
-      named : (o : Option Name) (name : Name) → IsTrue (option_map_or (λ g. is_same g name) o false) → o ≡ Some name
-      named None name s = absurd (true≢false (sym s))
-      named (Some g) name s = ap (λ (g : Name). Some g) (same_text g name (sym s))
+    pub named_group : (o : Option Name) → MatchOption o (IfSome t.group (λ name. IsFalse (list_any (denies_group name) facts))
+        × IfSome t.saying.there_is_no (λ name. IsFalse (is_shown_group facts name) × (t.group ≡ Some name → ⊥)))
+        (λ name. ((t.group ≡ Some name) × IsTrue (list_any (denies_group name) facts)) ⊎ ((t.saying.there_is_no ≡ Some name) × (IsTrue (is_shown_group facts name) ⊎ (t.group ≡ Some name))))
+        → IsPointOf all 1 (option_map Group o)
+    named_group (Some name) (inl (e, denied)) = (group_found name (inr (shows_it name ∙ is_it t.group name e)) (inl denied), refl)
+    named_group (Some name) (inr (e, inl shown)) = (group_found name (inl shown) (inr (denies_it name ∙ is_it t.saying.there_is_no name e)), refl)
+    named_group (Some name) (inr (e, inr is)) = (group_found name (inr (shows_it name ∙ is_it t.group name is)) (inr (denies_it name ∙ is_it t.saying.there_is_no name e)), refl)
+    named_group None (free, missing) = group_free
+        (λ name s. subst (λ o. IfSome o (λ name. IsFalse (list_any (denies_group name) facts))) (named t.group name (sym (shows_it name) ∙ s)) free)
+        (λ name d s. true≢false (sym s ∙ (at name d).0))
+        (λ name s d. (at name d).1 (named t.group name (sym (shows_it name) ∙ s)))
+      where
+        at : (name : Name) → IsTrue (denies_name name t) → IsFalse (is_shown_group facts name) × (t.group ≡ Some name → ⊥)
+        at name d = subst (λ o. IfSome o (λ name. IsFalse (is_shown_group facts name) × (t.group ≡ Some name → ⊥))) (named t.saying.there_is_no name (sym (denies_it name) ∙ d)) missing
 
-      go : (o : Option Name)
-          → MatchOption o (IfSome t.group (λ name. IsFalse (list_any (denies_group name) facts))
-          × IfSome t.saying.there_is_no (λ name. IsFalse (is_shown_group facts name) × (t.group ≡ Some name → ⊥)))
-          (λ name. ((t.group ≡ Some name) × IsTrue (list_any (denies_group name) facts)) ⊎ ((t.saying.there_is_no ≡ Some name) × (IsTrue (is_shown_group facts name) ⊎ (t.group ≡ Some name))))
-          → IsPointOf all 1 (option_map Group o)
-      go (Some name) (inl (e, denied)) = (group_shown name (shows name ∙ is_it t.group name e) denied, refl)
-      go (Some name) (inr (e, inl shown)) = (group_denied name (denies name ∙ is_it t.saying.there_is_no name e) shown, refl)
-      go (Some name) (inr (e, inr is)) = (group_both name (shows name ∙ is_it t.group name is) (denies name ∙ is_it t.saying.there_is_no name e), refl)
-      go None (free, missing) = group_free
-          (λ name s. subst (λ o. IfSome o (λ name. IsFalse (list_any (denies_group name) facts))) (named t.group name (sym (shows name) ∙ s)) free)
-          (λ name d s. true≢false (sym s ∙ (at name d).0))
-          (λ name s d. (at name d).1 (named t.group name (sym (shows name) ∙ s)))
-        where
-          at : (name : Name) → IsTrue (denies_name name t) → IsFalse (is_shown_group facts name) × (t.group ≡ Some name → ⊥)
-          at name d = subst (λ o. IfSome o (λ name. IsFalse (is_shown_group facts name) × (t.group ≡ Some name → ⊥))) (named t.saying.there_is_no name (sym (denies name) ∙ d)) missing
-
-  -- where none that is listed is denied
-  pub unlisted_group : (l : Option (List ℕ) × List ActiveValue) → t.saying.groups ≡ Some l → AllByRecursion (λ line. IsFalse (list_any (denies_group line.name) facts)) l.1 → (o : Option Name)
-      → MatchOption o (NoneIsMissing facts l.0 l.1) (λ name. IsTrue (is_shown_group facts name) × IsTrue (denies_group name (GroupsAre l.0 l.1))) → IsPointOf all 1 (option_map Group o)
-  unlisted_group l e free None missing = listed_group l e None (free, missing)
-  unlisted_group l e free (Some name) found = listed_group l e (Some name) (inr found)
-
-  -- where the group of which it speaks isn't denied
-  pub missing_group : t.saying.groups ≡ None → IfSome t.group (λ name. IsFalse (list_any (denies_group name) facts)) → (o : Option Name)
-      → MatchOption o (IfSome t.saying.there_is_no (λ name. IsFalse (is_shown_group facts name) × (t.group ≡ Some name → ⊥)))
-      (λ name. (t.saying.there_is_no ≡ Some name) × (IsTrue (is_shown_group facts name) ⊎ (t.group ≡ Some name))) → IsPointOf all 1 (option_map Group o)
-  missing_group none free o missing = grind (arith, named_group)
+    -- where the group of which it speaks isn't denied
+    pub missing_group : IfSome t.group (λ name. IsFalse (list_any (denies_group name) facts)) → (o : Option Name)
+        → MatchOption o (IfSome t.saying.there_is_no (λ name. IsFalse (is_shown_group facts name) × (t.group ≡ Some name → ⊥)))
+        (λ name. (t.saying.there_is_no ≡ Some name) × (IsTrue (is_shown_group facts name) ⊎ (t.group ≡ Some name))) → IsPointOf all 1 (option_map Group o)
+    missing_group free o missing = grind (arith, named_group)

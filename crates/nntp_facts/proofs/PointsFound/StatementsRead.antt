@@ -12,7 +12,7 @@ use Rattle.nntp_facts.specs.Inner.Points.{TellsAlone, shows_name, denies_name, i
 use Rattle.nntp_facts.proofs.Keeping.{PartsJoin.{no_group_is}, OverviewsTold.{plain_told, plain_alone, shown_by_told, denied_by_told, said_by_told}}
 use Rattle.nntp_facts.proofs.Keeping.OverviewsTold.{asks_by_told, ids_by_told, places_by_told}
 
-or_no : (b : Bool) → (b || false) ≡ b
+pub or_no : (b : Bool) → (b || false) ≡ b
 or_no b = grind arith
 
 -- an answer that lists groups says nothing else
@@ -48,28 +48,19 @@ module _ (profile : Profile) (t : Statement) (facts : List Fact) (h : TellsAlone
       of_group : (g : Option Name) → list_any (shows_group name) (the_group profile g) ≡ option_map_or (λ g. is_same g name) g false
       of_group g = grind (arith, or_no)
 
-      twice : (a b : Option Name) → (b ≡ None) ⊎ (b ≡ a)
-          → (option_map_or (λ g. is_same g name) a false || option_map_or (λ g. is_same g name) b false) ≡ (option_map_or (λ g. is_same g name) a false || false)
-      twice a b h = grind arith
-
       by : (o : Option (Option (List ℕ) × List ActiveValue)) → t.saying.groups ≡ o
           → (list_any (shows_group name) (the_group profile t.group) || list_any (shows_group name) (facts_told t.saying h.tells.asks))
           ≡ (option_map_or (λ g. is_same g name) t.group false || option_map_or (λ l. is_listed l.1 name) o false)
-      by None e =
-          (λ i. of_group t.group i || shown_by_told h.before t.saying h.tells.asks h.tells.may e name i)
-          ∙ twice t.group t.saying.there_is (subst (λ g. (t.saying.there_is ≡ None) ⊎ (t.saying.there_is ≡ g)) h.named (there_same t.saying.there_is t.saying.group h.tells.may.there))
+      by None e = grind (arith, of_group t.group, shown_by_told h.before t.saying h.tells.asks h.tells.may e name, there_same t.saying.there_is t.saying.group h.tells.may.there, h.named, or_no)
       by (Some l) e = grind (arith, listed_facts, alone, or_no)
 
   pub denied_told : (name : Name) → list_any (denies_group name) facts ≡ denies_name name t
-  denied_told name =
-      ap (list_any (denies_group name)) (sym whole)
-      ∙ list_any-append (denies_group name) (the_group profile t.group) (facts_told t.saying h.tells.asks)
-      ∙ ap (λ b. b || list_any (denies_group name) (facts_told t.saying h.tells.asks)) (of_group t.group) ∙ by t.saying.groups refl
+  denied_told name = ap (list_any (denies_group name)) (sym whole) ∙ past t.group ∙ by t.saying.groups refl
     where
-      of_group : (g : Option Name) → list_any (denies_group name) (the_group profile g) ≡ false
-      of_group g = grind arith
+      past : (g : Option Name) → list_any (denies_group name) (the_group profile g ++ facts_told t.saying h.tells.asks) ≡ list_any (denies_group name) (facts_told t.saying h.tells.asks)
+      past g = grind arith
 
-      by : (o : Option (Option (List ℕ) × List ActiveValue)) → t.saying.groups ≡ o → (false || list_any (denies_group name) (facts_told t.saying h.tells.asks))
+      by : (o : Option (Option (List ℕ) × List ActiveValue)) → t.saying.groups ≡ o → list_any (denies_group name) (facts_told t.saying h.tells.asks)
           ≡ (option_map_or (λ g. is_same g name) t.saying.there_is_no false || option_map_or (λ l. option_map_or (λ w. matches_name w name) l.0 true && not (is_listed l.1 name)) o false)
       by None e = denied_by_told h.before t.saying h.tells.asks h.tells.may e name ∙ sym (or_no _)
       by (Some l) e = grind (arith, listed_facts, alone, or_no)
@@ -99,14 +90,9 @@ module _ (profile : Profile) (t : Statement) (facts : List Fact) (h : TellsAlone
   asks_listed l e name = grind (arith, asks_append, append-nil)
 
   pub asks_none : t.saying.group ≡ None → t.saying.groups ≡ None → (name : Name) → asks_of name facts ≡ []
-  asks_none e none name = asks_both name ∙ (λ i. asks_of name (the_group profile (no_group i)) ++ asks_of name (plain i))
-      ∙ (no_group_is h.before t.saying h.tells.asks none h.tells.may e).0 name
-    where
-      no_group : t.group ≡ None
-      no_group = sym h.named ∙ ap (option_map (λ g. g.name)) e
-
-      plain : facts_told t.saying h.tells.asks ≡ facts_in t.saying h.tells.asks
-      plain = plain_alone_told e
+  asks_none e none name =
+      let no_group : t.group ≡ None = sym h.named ∙ ap (option_map (λ g. g.name)) e in
+      asks_both name ∙ (λ i. asks_of name (the_group profile (no_group i)) ++ asks_of name (plain_alone_told e i)) ∙ (no_group_is h.before t.saying h.tells.asks none h.tells.may e).0 name
 
   -- ---- ids
 
@@ -115,25 +101,26 @@ module _ (profile : Profile) (t : Statement) (facts : List Fact) (h : TellsAlone
       → first_given f facts ≡ first_given f (facts_told t.saying h.tells.asks)
   past_group f there ask = grind arith
 
-  pub id_given : (name : Name) (n : ℕ) → first_given (id_in name n) facts ≡ id_told name n t
-  id_given name n = past_group (id_in name n) (λ name. refl) (λ name ask. refl) ∙ by t.saying.groups refl t.saying.group refl
+  -- of the group of which it speaks, where no groups are listed
+  group_given : {A : Type 0} (f : Fact → Option A) → ((name : Name) → f (ThereIs name) ≡ None) → ((name : Name) (ask : Ask) → f (Asks name ask) ≡ None)
+      → ((l : Option (List ℕ) × List ActiveValue) → f (GroupsAre l.0 l.1) ≡ None) → (said : OfGroup → Option A)
+      → (t.saying.groups ≡ None → t.saying.group ≡ None → first_given f (facts_in t.saying h.tells.asks) ≡ None)
+      → (t.saying.groups ≡ None → (g : OfGroup) → t.saying.group ≡ Some g → first_given f (facts_told t.saying h.tells.asks) ≡ said g) → first_given f facts ≡ option_map_or said t.saying.group None
+  group_given {A} f there ask lists said none some = past_group f there ask ∙ by t.saying.groups refl t.saying.group refl
     where
       by : (o : Option (Option (List ℕ) × List ActiveValue)) → t.saying.groups ≡ o → (g : Option OfGroup) → t.saying.group ≡ g
-          → first_given (id_in name n) (facts_told t.saying h.tells.asks) ≡ option_map_or (λ g. cond (is_same g.name name) (id_said t.saying g.id n) None) g None
-      by None none None e = ap (first_given (id_in name n)) (plain_alone_told e) ∙ (no_group_is h.before t.saying h.tells.asks none h.tells.may e).1.ids name n
-      by None none (Some g) e = ids_by_told h.before t.saying h.tells.asks h.tells.may none g e name n
-      by (Some l) is None e = ap (first_given (id_in name n)) (listed_facts t.saying h.tells.asks l (alone l is) is)
-      by (Some l) is (Some g) e = absurd (let n : None ≡ Some g = sym (alone l is).group ∙ e in cc)
+          → first_given f (facts_told t.saying h.tells.asks) ≡ option_map_or said g None
+      by None is None e = ap (first_given f) (plain_alone_told e) ∙ none is e
+      by None is (Some g) e = some is g e
+      by (Some l) is g e = grind (arith, listed_facts t.saying h.tells.asks l (alone l is) is, lists l, alone l is)
+
+  pub id_given : (name : Name) (n : ℕ) → first_given (id_in name n) facts ≡ id_told name n t
+  id_given name n = group_given (id_in name n) (λ name. refl) (λ name ask. refl) (λ l. refl) (λ g. cond (is_same g.name name) (id_said t.saying g.id n) None)
+      (λ none e. (no_group_is h.before t.saying h.tells.asks none h.tells.may e).1.ids name n) (λ none g e. ids_by_told h.before t.saying h.tells.asks h.tells.may none g e name n)
 
   pub place_given : (name : Name) (id : Id) → first_given (number_in name id) facts ≡ place_told name id t
-  place_given name id = past_group (number_in name id) (λ name. refl) (λ name ask. refl) ∙ by t.saying.groups refl t.saying.group refl
-    where
-      by : (o : Option (Option (List ℕ) × List ActiveValue)) → t.saying.groups ≡ o → (g : Option OfGroup) → t.saying.group ≡ g
-          → first_given (number_in name id) (facts_told t.saying h.tells.asks) ≡ option_map_or (λ g. cond (is_same g.name name) (place_said t.saying g.id id) None) g None
-      by None none None e = ap (first_given (number_in name id)) (plain_alone_told e) ∙ (no_group_is h.before t.saying h.tells.asks none h.tells.may e).1.places name id
-      by None none (Some g) e = places_by_told h.before t.saying h.tells.asks h.tells.may none g e name id
-      by (Some l) is None e = ap (first_given (number_in name id)) (listed_facts t.saying h.tells.asks l (alone l is) is)
-      by (Some l) is (Some g) e = absurd (let n : None ≡ Some g = sym (alone l is).group ∙ e in cc)
+  place_given name id = group_given (number_in name id) (λ name. refl) (λ name ask. refl) (λ l. refl) (λ g. cond (is_same g.name name) (place_said t.saying g.id id) None)
+      (λ none e. (no_group_is h.before t.saying h.tells.asks none h.tells.may e).1.places name id) (λ none g e. places_by_told h.before t.saying h.tells.asks h.tells.may none g e name id)
 
   -- ---- articles
 
@@ -141,8 +128,7 @@ module _ (profile : Profile) (t : Statement) (facts : List Fact) (h : TellsAlone
   article_told id = ap (λ facts. said_of facts id) (sym whole) ∙ past t.group ∙ by t.saying.groups refl
     where
       past : (g : Option Name) → said_of (the_group profile g ++ facts_told t.saying h.tells.asks) id ≡ said_of (facts_told t.saying h.tells.asks) id
-      past None = refl
-      past (Some name) = refl
+      past g = grind arith
 
       by : (o : Option (Option (List ℕ) × List ActiveValue)) → t.saying.groups ≡ o → said_of (facts_told t.saying h.tells.asks) id ≡ said_by t.saying id
       by None e = said_by_told h.before t.saying h.tells.asks h.tells.may e id
