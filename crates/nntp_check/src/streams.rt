@@ -8,6 +8,7 @@ use crate::sink::Sink;
 use crate::source::Source;
 use nntp_pair::PairError;
 use nntp_several::{Named, Recorded};
+use nntp_wire::Overviews;
 use std::alloc::{AllocError, Allocator};
 use std::marker::Model;
 use std::mem;
@@ -49,6 +50,7 @@ impl<A: Allocator + Copy> Collected<A> {
         ensures { result ≡ self.now.session }
     {
         Recorded {
+            overviews: Overviews::Opaque,
             client: &self.client,
             server: &self.server,
         }
