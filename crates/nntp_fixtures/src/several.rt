@@ -12,7 +12,10 @@ use std::alloc::{AllocError, Allocator, Global};
 use std::test::Fail;
 
 /// A session of these streams of the client and of the server, where OVER and XOVER are taken so.
-pub fn recorded_taking<'a>(overviews: Overviews, (client, server): (&'a str, &'a str)) -> Recorded<'a> {
+pub fn recorded_taking<'a>(
+    overviews: Overviews,
+    (client, server): (&'a str, &'a str),
+) -> Recorded<'a> {
     Recorded {
         overviews,
         client: client.as_bytes(),

@@ -81,8 +81,19 @@ fn expect_permitted(
         return Ok(());
     };
     let (client, server) = (row.client.as_bytes(), row.server.as_bytes());
-    let verified = verify_taking(alloc, NARROW_LENIENT.marks, spool, overviews, client, server)?;
-    expect_verified(row.client, verified, Verified::Permits { answers: *answers })
+    let verified = verify_taking(
+        alloc,
+        NARROW_LENIENT.marks,
+        spool,
+        overviews,
+        client,
+        server,
+    )?;
+    expect_verified(
+        row.client,
+        verified,
+        Verified::Permits { answers: *answers },
+    )
 }
 
 /// A checker that takes OVER and XOVER so reports so, and permits the session by the spool that it gives.
@@ -118,7 +129,11 @@ fn expect_opaque(alloc: Global, row: &Row) -> Result<(), Fail> {
         return Err(Fail::new(format_args!("{} is bad", row.client)));
     };
     let verified = verify(alloc, marks, spool, client, server)?;
-    expect_verified(row.client, verified, Verified::Permits { answers: *answers })
+    expect_verified(
+        row.client,
+        verified,
+        Verified::Permits { answers: *answers },
+    )
 }
 
 #[test]

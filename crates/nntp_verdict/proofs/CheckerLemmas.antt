@@ -244,9 +244,9 @@ module _ {A : Type 0} (overviews : Overviews) (facts : FactsKept) (answers : Lis
   begun-settled None is fed_is ended = record {
     worked = refl;
     stands = λ limit marks before session was. (
-        subst (λ o. HasPassed (profile_of limit marks) (before ++ session ∷ []) (unrecorded o) new counts last) (sym was.1)
-        (session-begins (profile_of limit marks) (before ++ session ∷ []) overviews new counts last is fed_is (ended limit marks before session was.0.keeps)),
-        was.1,
+      subst (λ o. HasPassed (profile_of limit marks) (before ++ session ∷ []) (unrecorded o) new counts last) (sym was.1)
+          (session-begins (profile_of limit marks) (before ++ session ∷ []) overviews new counts last is fed_is (ended limit marks before session was.0.keeps)),
+      was.1,
     );
   }
   begun-settled (Some verdict) is fed_is ended =

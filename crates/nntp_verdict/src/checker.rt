@@ -344,7 +344,9 @@ impl<A: Allocator + Copy> Ongoing<A> {
             → IsVerdictOfAll limit marks (before ++ session ∷ []) (sessions_verdict_shown verdict)) }
     {
         let Ongoing {
-            mut judge, feed, ..
+            mut judge,
+            feed,
+            ..
         } = self;
         match end_session(&mut judge, &feed)? {
             Some(verdict) => Ok(verdict),
