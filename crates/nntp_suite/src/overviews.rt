@@ -48,6 +48,45 @@ const RANGES: &[Row] = &[
     ),
 ];
 
+/// Sessions in which the overviews of a range say ids.
+const IDS: &[Row] = &[
+    (
+        b"GROUP g\r\nXOVER 1\r\nSTAT 1\r\n",
+        b"200 hi\r\n211 5 1 5 g\r\n224 x\r\n1\ts\tf\td\t<a@x>\r\n.\r\n223 1 <b@x>\r\n",
+        (3, Some(Class::Contradiction)),
+    ),
+    (
+        b"GROUP g\r\nXOVER 1-3\r\nNEXT\r\n",
+        b"200 hi\r\n211 5 1 5 g\r\n224 x\r\n1\ts\tf\td\t<a@x>\r\n3\ts\tf\td\t<c@x>\r\n.\r\n223 3 <d@x>\r\n",
+        (3, Some(Class::Contradiction)),
+    ),
+    (
+        b"GROUP g\r\nSTAT 4\r\nXOVER 1-3\r\n",
+        b"200 hi\r\n211 5 1 5 g\r\n223 4 <c@x>\r\n224 x\r\n1\ts\tf\td\t<a@x>\r\n3\ts\tf\td\t<c@x>\r\n.\r\n",
+        (3, Some(Class::Contradiction)),
+    ),
+    (
+        b"STAT <c@x>\r\nGROUP g\r\nXOVER 1-3\r\n",
+        b"200 hi\r\n430 no\r\n211 5 1 5 g\r\n224 x\r\n1\ts\tf\td\t<a@x>\r\n3\ts\tf\td\t<c@x>\r\n.\r\n",
+        (3, Some(Class::Contradiction)),
+    ),
+    (
+        b"GROUP g\r\nXOVER 1-3\r\nSTAT <c@x>\r\n",
+        b"200 hi\r\n211 5 1 5 g\r\n224 x\r\n1\ts\tf\td\t<a@x>\r\n3\ts\tf\td\t<c@x>\r\n.\r\n430 no\r\n",
+        (3, Some(Class::Contradiction)),
+    ),
+    (
+        b"GROUP g\r\nXOVER 1-3\r\nXOVER 3-\r\nSTAT 3\r\n",
+        b"200 hi\r\n211 5 1 5 g\r\n224 x\r\n1\ts\tf\td\t<a@x>\r\n3\ts\tf\td\t<c@x>\r\n.\r\n224 x\r\n3\ts\tf\td\t<c@x>\r\n.\r\n223 3 <c@x>\r\n",
+        (5, None),
+    ),
+    (
+        b"GROUP g\r\nXOVER 1\r\nGROUP h\r\nXOVER 7\r\n",
+        b"200 hi\r\n211 5 1 5 g\r\n224 x\r\n1\ts\tf\td\t<a@x>\r\n.\r\n211 5 3 9 h\r\n224 x\r\n7\ts\tf\td\t<a@x>\r\n.\r\n",
+        (5, None),
+    ),
+];
+
 /// Sessions that ask for what isn't there.
 const FAILURES: &[Row] = &[
     (
@@ -130,6 +169,11 @@ fn expect(alloc: Global, rows: &[Row]) -> Result<(), Fail> {
 #[test]
 fn ranges_say_which_numbers_there_are(rt: HostRuntime) -> Result<(), Fail> {
     expect(rt.alloc(), RANGES)
+}
+
+#[test]
+fn ranges_say_which_ids_there_are(rt: HostRuntime) -> Result<(), Fail> {
+    expect(rt.alloc(), IDS)
 }
 
 #[test]
