@@ -181,7 +181,7 @@ pub taken-judging : (side : Side) (octets : List ℕ) (overviews : Overviews) (f
     → session.client.overviews ≡ overviews → StandsForAll limit marks after before session)
     → IsTakenBy side octets (judging overviews facts answers fed) after
 taken-judging side octets overviews facts answers fed then after taken stands = record {
-  worked = taken.worked;
+  worked = refl;
   room = taken.room;
   stands = λ limit marks ended session was.
       stands limit marks ended (with_more session (given Client side octets) (given Server side octets))
@@ -208,7 +208,10 @@ pub begun-told : (overviews : Overviews) (facts : FactsKept) (answers : List ℕ
     → ((limit : Limit) (marks : Marks) (ended : List Recorded) (session : Recorded) → HasPassed (profile_of limit marks) ended session facts answers fed
     → IsVerdictFrom limit marks ended session j)
     → HasBegun (judging overviews facts answers fed) (decided j (record { client = 0; server = 0 }))
-begun-told overviews facts answers fed j told = search decided-ended
+begun-told overviews facts answers fed j told = record {
+  worked = refl;
+  stands = λ limit marks ended session was. decided-ended limit marks j ended session (told limit marks ended session was.0);
+}
 
 -- ---- what a judgement tells of a step
 
