@@ -4,7 +4,7 @@ use Rattle.std.{proofs.lemmas.List.Concat.{flat_map-append}, specs.{Prelude.{OnO
 use Rattle.nntp_article.specs.{Article.Parts.{Id, Line, is_empty, head_part, body_part}, Session.Spool.{Name}}
 use Rattle.nntp_wire.specs.Listing.{ActiveValue}
 use Rattle.nntp_said.specs.{Asks.{Bounds}, Facts.{Fact, Asks, GroupsAre}}
-use Rattle.nntp_theory.specs.{Conflict.{Point, Article}}
+use Rattle.nntp_theory.specs.Conflict.{Point, Article}
 use Rattle.nntp_explain.specs.{Reasons.{octets_line}, Says.{numbers_said, says, article_line}}
 use Rattle.nntp_printing.specs.Printing.{escaped}
 

@@ -1,13 +1,15 @@
 -- What `explain` prints of what an answer says about the point of a conflict.
-use Rattle.std.specs.Prelude.{ℕ, ◌+◌, ◌==◌, ◌||◌, ◌&&◌, Bool, true, if◌then◌else◌, List, [], ◌∷◌, ◌++◌, length, Option, None, Some, slice_get, codes}
-use Rattle.std.specs.{Prelude.{decimal}, List.{flat_map, list_any}, Option.{option_and_then, option_map, option_map_or, option_or}}
+use Rattle.std.specs.Prelude.{ℕ, ◌+◌, ◌==◌, ◌||◌, ◌&&◌, Bool, true, if◌then◌else◌, List, [], ◌∷◌, ◌++◌, length, Option, None, Some, slice_get, codes, decimal}
+use Rattle.std.specs.{List.{flat_map, list_any}, Option.{option_and_then, option_map, option_map_or, option_or}}
 use Rattle.nntp_wire.specs.{Answer.{Asked, Response, to, sends}, Command.{retrieve}, Listing.{ActiveValue}, declared.marks.Marks.{Marks, TheVariants.{Lenient}}}
 use Rattle.nntp_wire.specs.declared.{marks.Marks.TheVariants.{Strict}, range.Range.{Range}}
 use Rattle.nntp_article.specs.{Article.Parts.{Id, Line}, Session.{Machine.{is_same}, Spool.{Name}}}
 use Rattle.nntp_said.specs.{Asks.{Ask, Estimates, Bounds, ListsIn, Has, Lacks, StandsAt, StandsNowhere, StepsUp, StepsDown, IsTop, IsBottom}, Facts.{Fact}}
-use Rattle.nntp_said.specs.{Facts.{ThereIs, ThereIsNo, IdAt, TextIs, NoArticle, OverviewsAre, GroupsAre}, declared.position.Position.{Position, TheVariants.{Known}}}
+use Rattle.nntp_said.specs.{Facts.{ThereIs, ThereIsNo, IdAt, TextIs, NoArticle, OverviewsAre, GroupsAre}, declared.position.Position.{Position}}
+use Rattle.nntp_said.specs.declared.position.Position.TheVariants.{Known}
 use Rattle.nntp_theory.specs.Conflict.{Placed, Core, Point, Step, Group, Number, Count, First as FirstNumber, IdOf, PlaceOf, Article, HeadOf, BodyOf, said}
-use Rattle.nntp_theory.specs.{Given.{shows, denies, is_end, asks_in, shows_group, first_given, id_in, head_in, body_in}, Together.{denies_group, number_of_overview, number_in}}
+use Rattle.nntp_theory.specs.{Given.{shows, denies, is_end, asks_in, shows_group, first_given, id_in, head_in, body_in}, Together.{denies_group}}
+use Rattle.nntp_theory.specs.Together.{number_of_overview, number_in}
 use Rattle.nntp_pair.specs.Pairing.{asked_at}
 use Rattle.nntp_facts.specs.{declared.placed.Placed.{Placed as Cited}, Standing.{stands_of}}
 use Rattle.nntp_printing.specs.{BadAnswer.{shown}, Printing.{escaped}}

@@ -147,7 +147,9 @@ fn put_id_at<A: Allocator + Copy>(
         Point::PlaceOf {
             name: group,
             id: other,
-        } if is_same(name, *group) && is_same(id, *other) => put_id_line(text, *group, number, *other),
+        } if is_same(name, *group) && is_same(id, *other) => put_id_line(
+            text, *group, number, *other,
+        ),
         Point::Article(other) if is_same(id, *other) => put_id_line(text, name, number, id),
         _ => Ok(()),
     }

@@ -16,12 +16,15 @@ pub mod KeptNames
 pub mod KeptNamesAndGroups
 pub mod ListedGroups
 pub mod ListedNames
+pub mod ListedOverviews
 pub mod MarksAlone
 pub mod NamedArticles
 pub mod NotedArticles
 pub mod NotedExchange
 pub mod NotedParts
 pub mod NotedSessions
+pub mod OverviewsJoin
+pub mod OverviewsTold
 pub mod PartsJoin
 pub mod RefusedAnswers
 pub mod SaidAgain

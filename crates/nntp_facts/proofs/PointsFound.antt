@@ -4,5 +4,6 @@ pub mod StatementsTold
 pub mod KindsOfPoints
 pub mod NumbersBeside
 pub mod ArticlesBeside
+pub mod IdsBeside
 pub mod ListedBeside
 pub mod PointsChained

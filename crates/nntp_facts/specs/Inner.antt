@@ -8,6 +8,7 @@ pub mod Kept
 pub mod KeptSaying
 pub mod KeptView
 pub mod ListedGroups
+pub mod ListedOverviews
 pub mod Noted
 pub mod PointView
 pub mod Points

@@ -223,7 +223,7 @@ impl<A: Allocator + Copy> Articles<A> {
 
     /// Adds that the id has an article, if it may be so, and hands back the id's text. After an error the
     /// articles say nothing of use.
-    fn stand(&mut self, id: &str) -> Result<Added<A>, AllocError>
+    pub(crate) fn stand(&mut self, id: &str) -> Result<Added<A>, AllocError>
         ensures added { IfOk result (λ added. (facts : List Fact) → AreKeptArticles facts self.old
             → IsArticleAdded facts (Some (id.now, Exists)) self.old self.new (is_added added)) }
         ensures text { IfOk result (λ added. IsTrue (is_added added) → text_of added ≡ Some id.now) }

@@ -128,7 +128,8 @@ impl<A: Allocator + Copy> Facts<A> {
     /// closed the connection: its index is not below their number. So exchanges may be passed over.
     ///
     /// For an answer that lists k numbers of a group of which n numbers are kept, it takes time in
-    /// the order of (k + 1) log n. For an answer to LIST ACTIVE (RFC 3977, section 7.6.3) it takes
+    /// the order of (k + 1) log n; where each has its overview (RFC 3977, section 8.3), n counts the
+    /// groups and the articles that are kept too. For an answer to LIST ACTIVE (RFC 3977, section 7.6.3) it takes
     /// time in the order of the lines and, where the wildmat wasn't answered before, of the groups
     /// that are shown.
     ///
@@ -189,12 +190,10 @@ impl<A: Allocator + Copy> Facts<A> {
             return Ok(Noted::OutOfPlace);
         }
         let here = self.visible.selected_name();
-        let numbers = listed.numbers();
-        let groups = listed.groups();
         let (how, at) = (self.marks, self.position);
         if !self
             .kept
-            .note_answer(how, here, at, prompt, answer, numbers, groups)?
+            .note_answer(how, here, at, prompt, answer, listed)?
         {
             return Ok(Noted::Contradiction);
         }

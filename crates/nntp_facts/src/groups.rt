@@ -1,7 +1,9 @@
 //! What answers say of groups.
-ghost use Rattle.std.specs.Prelude.{◌≡◌, ◌↔◌, false, List, ◌++◌, IsTrue, MatchOption, IfOk, OnOk, option_copied, option_map};
+ghost use Rattle.std.specs.Prelude.{◌≡◌, ◌↔◌, ◌==◌, false, true, List, ◌++◌, IsTrue, MatchOption, IfOk, OnOk, option_copied, option_map};
 ghost use Rattle.std.specs.FinMap as map;
+ghost use Rattle.std.specs.Option.{option_map_or};
 ghost use Rattle.std.specs.Rc.{rc_str_bytes};
+ghost use Rattle.nntp_article.specs.Session.Machine.{is_same};
 ghost use Rattle.nntp_article.specs.Session.Spool.{Name};
 ghost use Rattle.nntp_said.specs.Asks.{Ask};
 ghost use Rattle.nntp_theory.specs.Inner.Together.{AsksStand};
@@ -146,6 +148,28 @@ impl<A: Allocator> Groups<A> {
         ensures { (tells : Name → Told) → AreKept tells self.now → result ≡ (tells name.now).places id.now }
     {
         self.get(name)?.place(id)
+    }
+
+    /// Tells whether no other id is shown at the number of the group.
+    pub(crate) fn may_have(&self, name: &[u8], number: u64, id: &str) -> bool
+        ensures { (tells : Name → Told) → AreKept tells self.now
+            → result ≡ option_map_or (λ other. is_same other id.now) ((tells name.now).ids number) true }
+    {
+        match self.id(name, number) {
+            Some(other) => other == id,
+            None => true,
+        }
+    }
+
+    /// Tells whether the id is shown at no other number of the group.
+    pub(crate) fn may_stand_at(&self, name: &[u8], number: u64, id: &str) -> bool
+        ensures { (tells : Name → Told) → AreKept tells self.now
+            → result ≡ option_map_or (λ other. other == number) ((tells name.now).places id.now) true }
+    {
+        match self.place(name, id) {
+            Some(other) => other == number,
+            None => true,
+        }
     }
 }
 

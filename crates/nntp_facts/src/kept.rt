@@ -1,9 +1,9 @@
 //! What is kept of all answers of a session.
-ghost use Rattle.std.specs.Prelude.{◌≡◌, ◌≢◌, ◌↔◌, ◌++◌, [], false, None, Some, List, map, IsTrue, IsFalse, IfSome, IfOk, OnOk, option_map};
+ghost use Rattle.std.specs.Prelude.{◌≡◌, ◌≢◌, ◌↔◌, ◌++◌, [], false, None, Some, List, IsTrue, IsFalse, IfSome, IfOk, OnOk, option_map};
 ghost use Rattle.std.specs.List.{AllByRecursion, list_any};
 ghost use Rattle.std.specs.Option.{option_map_or};
 ghost use Rattle.std.specs.Rc.{rc_str_bytes};
-ghost use Rattle.nntp_wire.specs.Inner.View.{active_value};
+ghost use Rattle.nntp_article.specs.Inner.Listed.{lists};
 ghost use Rattle.nntp_article.specs.Article.Parts.{Id};
 ghost use Rattle.nntp_article.specs.Session.Spool.{Name};
 ghost use Rattle.nntp_article.specs.Session.Machine.{is_same};
@@ -21,6 +21,7 @@ ghost use Rattle.nntp_facts.specs.Inner.Readers.{shown_groups, shown_articles};
 ghost use Rattle.nntp_facts.specs.Inner.KeptSaying.{GroupJoins, JoinGroups, IsTextOf, IsThereAlready, MayBeSaid, IsArticleAdded};
 
 mod listed_groups;
+mod listed_overviews;
 mod noted;
 mod points;
 mod told;
@@ -32,7 +33,8 @@ use crate::names::Names;
 use crate::saying::{ArticlePart, GroupPart, Saying};
 use crate::shown_groups::ShownGroups;
 use crate::taken_groups::TakenGroups;
-use nntp_wire::{ActiveLine, GroupName};
+use nntp_article::Listed;
+use nntp_wire::GroupName;
 use std::alloc::{AllocError, Allocator, Global};
 use std::marker::Model;
 use std::rc::RcStr;
@@ -82,28 +84,29 @@ impl<A: Allocator + Copy> Kept<A> {
     }
 
     /// Adds what an answer says, if it stands together with all before, and tells whether it does. If not,
-    /// the value stays as it was. After an error it says nothing of use. `groups` are those that the
-    /// answer lists.
+    /// the value stays as it was. After an error it says nothing of use. `listed` is what the answer
+    /// lists.
     pub(crate) fn note(
         &mut self,
         saying: &Saying<'_>,
-        groups: &[ActiveLine<'_>],
+        listed: &Listed<'_, A>,
     ) -> Result<bool, AllocError>
-        ensures { IfOk result (λ does. AreListed (saying_of saying.now) (map active_value groups.now)
+        ensures { IfOk result (λ does. AreListed (saying_of saying.now) (lists listed.now)
             → (facts more : List Fact) → IsKept facts self.old → Together facts → AllByRecursion IsWellFormed more
             → Tells facts (saying_of saying.now) more → AreAdded facts more self.old self.new does) }
     {
-        match &saying.groups {
-            Some(list) => self.note_groups(list.wildmat, groups),
-            None => self.note_parts(saying),
+        match (&saying.groups, saying.listing_group()) {
+            (Some(list), _) => self.note_groups(list.wildmat, listed.groups()),
+            (None, Some(group)) => self.note_overviews(group, listed.overviews()),
+            (None, None) => self.note_parts(saying),
         }
     }
 
-    /// Adds what an answer says that lists no groups, if it stands together with all before, and
+    /// Adds what an answer says that lists no groups and no overviews, if it stands together with all before, and
     /// tells whether it does. After an error the value says nothing of use.
     fn note_parts(&mut self, saying: &Saying<'_>) -> Result<bool, AllocError>
-        ensures { IfOk result (λ does. (saying_of saying.now).groups ≡ None → (facts more : List Fact) → IsKept facts self.old → Together facts
-            → AllByRecursion IsWellFormed more
+        ensures { IfOk result (λ does. (saying_of saying.now).groups ≡ None → (saying_of saying.now).overviews ≡ None
+            → (facts more : List Fact) → IsKept facts self.old → Together facts → AllByRecursion IsWellFormed more
             → Tells facts (saying_of saying.now) more → AreAdded facts more self.old self.new does) }
     {
         let joins = self.groups_join(saying);

@@ -1,15 +1,16 @@
 //! What an answer says of the spool (RFC 3977, sections 6 and 7.6.3).
-ghost use Rattle.std.specs.Prelude.{◌≡◌, List, [], ◌∷◌, None, Some, option_map, IsTrue};
+ghost use Rattle.std.specs.Prelude.{◌≡◌, ◌<◌, ◌^◌, ℕ, get_or, List, [], ◌∷◌, None, Some, option_map, IsTrue};
 ghost use Rattle.nntp_wire.specs.Name.{IsGroupName};
 ghost use Rattle.nntp_wire.specs.Inner.View.{asked};
 ghost use Rattle.nntp_wire.specs.Inner.AnswerView.{response};
-ghost use Rattle.nntp_wire.specs.Listing.{ActiveValue};
+ghost use Rattle.nntp_wire.specs.Listing.{overviews_of};
 ghost use Rattle.nntp_article.specs.declared.session.profile.Profile.{Profile};
 ghost use Rattle.nntp_article.specs.Session.Machine.{Visible, fits};
-ghost use Rattle.nntp_article.specs.Inner.Misfit.{groups_of, numbers_of};
-ghost use Rattle.nntp_said.specs.Facts.{Fact as FactValue, Asks, IdAt as IdIs, here, facts_of, group_of};
+ghost use Rattle.nntp_article.specs.Inner.Misfit.{numbers_of};
+ghost use Rattle.nntp_article.specs.Inner.Listed.{Lists, lists_of};
+ghost use Rattle.nntp_said.specs.Facts.{Fact as FactValue, Asks, IdAt as IdIs, OverviewsAre, here, facts_of, group_of};
 ghost use Rattle.nntp_said.specs.Inner.FactView.{ask_of, fact_of};
-ghost use Rattle.nntp_facts.specs.Inner.Saying.{AreListed, IsSelectedShown, TellsHere, TellsThere, begun, nothing, numbers_shown, saying_by};
+ghost use Rattle.nntp_facts.specs.Inner.Saying.{AreListed, IsSelectedShown, TellsHere, TellsThere, begun, listing_group, nothing, numbers_shown, saying_by};
 ghost use Rattle.nntp_facts.specs.Inner.Saying.{saying_with, with_ask};
 ghost use Rattle.nntp_said.specs.Asks.{Bounds, Has};
 ghost use Rattle.nntp_numbers.specs.Inner.Part.{Says};
@@ -18,8 +19,10 @@ ghost use Rattle.nntp_facts.specs.Inner.SayingView.{id_at, of_group, saying_of};
 ghost use Rattle.nntp_numbers.specs.Inner.Summary.{AreBounded};
 
 use nntp_numbers::NumbersPart;
-use nntp_said::{Ask, Fact, Position, SaidFacts, facts_of};
-use nntp_wire::{ActiveLine, Answer, Block, GroupName, Marks, Prompt, What, Wildmat};
+use nntp_said::{Ask, Fact, NumberLines, Position, SaidFacts, facts_of};
+use nntp_wire::{
+    ActiveLine, Answer, Block, GroupName, Marks, OverviewLine, Prompt, Range, What, Wildmat,
+};
 use std::slice;
 
 /// A number of a group, and the message-id that it has.
@@ -54,6 +57,22 @@ impl<'s> GroupPart<'s> {
             name: line.name.as_slice(),
             numbers: NumbersPart::of_bounds(line.low, line.high),
             id: None,
+        }
+    }
+
+    /// Says what an overview says of the group of this name beside its number: the id that this has.
+    pub(crate) fn of_overview(name: &'s [u8], overview: &'s OverviewLine<'s>) -> GroupPart<'s>
+        ensures name { result.name.now ≡ name.now }
+        ensures numbers { Says (said result.numbers) [] }
+        ensures id { id_at result.id ≡ Some (overview.now.number, overview.now.id) }
+    {
+        GroupPart {
+            name,
+            numbers: NumbersPart::nothing(),
+            id: Some(IdAt {
+                number: overview.number,
+                id: overview.id.as_str(),
+            }),
         }
     }
 
@@ -96,6 +115,15 @@ pub(crate) enum ArticlePart<'s> {
     },
 }
 
+/// The part of a saying that lists the overviews of all numbers in a range.
+#[derive(Drop)]
+pub(crate) struct OverviewsPart<'s> {
+    /// The range that was asked for.
+    pub(crate) range: Range,
+    /// The lines that are the overviews.
+    pub(crate) block: &'s Block<'s>,
+}
+
 /// The part of a saying that lists all groups that match.
 #[derive(Drop)]
 pub(crate) struct ActivePart<'s> {
@@ -116,6 +144,8 @@ pub(crate) struct Saying<'s> {
     pub(crate) group: Option<GroupPart<'s>>,
     /// What is said of one message-id, if anything is.
     pub(crate) article: Option<ArticlePart<'s>>,
+    /// The overviews of the group's numbers in a range are these.
+    pub(crate) overviews: Option<OverviewsPart<'s>>,
     /// The groups that match are these.
     pub(crate) groups: Option<ActivePart<'s>>,
 }
@@ -126,6 +156,7 @@ const NOTHING: Saying<'static> = Saying {
     there_is_no: None,
     group: None,
     article: None,
+    overviews: None,
     groups: None,
 };
 
@@ -144,7 +175,7 @@ impl<'s> Saying<'s> {
             → IsSelectedShown v facts
             → selected.now ≡ here v → numbers.now ≡ numbers_of (response answer.now)
             → TellsHere selected.now facts (saying_of result) (facts_of how v at (asked prompt.now) (response answer.now)) }
-        ensures groups { (groups : List ActiveValue) → groups ≡ groups_of (response answer.now) → AreListed (saying_of result) groups }
+        ensures listed { (lists : Lists) → lists ≡ lists_of (response answer.now) → AreListed (saying_of result) lists }
     {
         Saying::by(
             &mut facts_of(how, selected, at, prompt, answer),
@@ -182,6 +213,9 @@ impl<'s> Saying<'s> {
                 });
             }
             Fact::NoArticle(id) => self.article = Some(ArticlePart::Lacks(*id)),
+            Fact::OverviewsAre { name, range, block } => {
+                self.add_overviews(*name, *range, *block, shown);
+            }
             Fact::GroupsAre { wildmat, block } => {
                 self.groups = Some(ActivePart {
                     wildmat: *wildmat,
@@ -197,6 +231,21 @@ impl<'s> Saying<'s> {
     {
         let group = self.group.get_or_insert_with(|| GroupPart::nothing(name));
         group.numbers.say(ask, shown);
+    }
+
+    /// Says too that the overviews of the group's numbers in the range are these.
+    fn add_overviews(
+        &mut self,
+        name: &'s [u8],
+        range: Range,
+        block: &'s Block<'s>,
+        shown: &'s [u64],
+    )
+        ensures { saying_of self.new ≡ saying_with shown.now (OverviewsAre name.now range (overviews_of block.now)) (saying_of self.old) }
+    {
+        let lines = NumberLines::Overviews(block);
+        self.add_ask(name, Ask::Lists { range, lines }, shown);
+        self.overviews = Some(OverviewsPart { range, block });
     }
 
     /// Says too that the number of the group has the id, and that this has an article.
@@ -224,6 +273,16 @@ impl<'s> Saying<'s> {
         }
     }
 
+    /// Returns the group of whose numbers overviews are said, if any are.
+    pub(crate) fn listing_group(&self) -> Option<&GroupPart<'s>>
+        ensures { option_map (λ group. of_group group.now) result ≡ listing_group (saying_of self.now) }
+    {
+        match &self.overviews {
+            Some(_) => self.group.as_ref(),
+            None => None,
+        }
+    }
+
     /// Says that there is such a group, and this of its numbers.
     pub(crate) fn selects(name: &'s GroupName<'s>, numbers: NumbersPart<'s>) -> Saying<'s>
         ensures is_name { IsGroupName name.now }
@@ -232,6 +291,7 @@ impl<'s> Saying<'s> {
           there_is_no = None;
           group = Some (record { name = name.now; numbers = said numbers.entry; id = None });
           article = None;
+          overviews = None;
           groups = None;
         } }
     {
@@ -249,7 +309,8 @@ impl<'s> Saying<'s> {
 
 /// Returns the numbers that an answer shows: the one that it gives, or those that it lists.
 pub(crate) fn numbers_shown<'s>(answer: &'s Answer<'s>, listed: &'s [u64]) -> &'s [u64]
-    ensures { result.now ≡ numbers_shown listed.now (response answer.now) }
+    ensures shown { result.now ≡ numbers_shown listed.now (response answer.now) }
+    ensures small { (i : ℕ) → get_or listed.now i 0 < 2 ^ 64 }
 {
     match answer {
         Answer::Sent { number, .. } => slice::from_ref(number),

@@ -1,7 +1,7 @@
 -- Facts that hold of a spool, one after the other.
 use Rattle.std.{proofs.Common.{arith, ◌≡◌, ◌↔◌, inl, inr, List, [], ◌∷◌, drop, Option, None, Some, IsSome, refl, subst}, specs.Prelude.{slice_get}}
 use Rattle.std.specs.{List.{AllByRecursion}, FinMap.{get}}
-use Rattle.nntp_wire.specs.{declared.command.What.{What, TheVariants.{Stat}}}
+use Rattle.nntp_wire.specs.declared.command.What.{What, TheVariants.{Stat}}
 use Rattle.nntp_article.specs.{Article.Parts.{Id, Line}, Session.Spool.{Spool, Text, HasText}, Inner.Listed.{Lists}}
 use Rattle.nntp_said.specs.{Facts.{Fact, Holds, IdAt, TextIs}, Inner.Places.{Place}}
 use Rattle.nntp_spool.specs.Inner.{Content.{IdsHaveArticles}, Sessions.{SayThese}}

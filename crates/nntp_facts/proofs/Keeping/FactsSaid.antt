@@ -14,6 +14,7 @@ no_first of s facts there none = search true≢false
 join_none : (facts : List Fact) → Together facts → Join facts []
 join_none facts together = record {
   well_formed = tt;
+  lists = tt;
   names = record { groups = λ name t. absurd (true≢false (sym t)); no_groups = λ name t. absurd (true≢false (sym t)) };
   numbers = λ name. subst AsksStand (sym (append-nil (asks_of name facts))) (together.numbers name);
   ids = record { ids = λ name n. tt; ids_once = λ name id. tt };

@@ -60,6 +60,7 @@ module _ (facts : List Fact) (p : Option (List ℕ)) (lines : List ActiveValue) 
     ),
     λ h. record {
       well_formed = wf;
+      lists = (tt, tt);
       names = record {
         groups = λ name s. let f = found_in (λ line. is_same line.name name) lines (sym (or-false (is_listed lines name)) ∙ s) in subst
             (λ name. IsFalse (list_any (denies_group name) facts)) (same_text f.0.name name (sym f.2))

@@ -1,14 +1,16 @@
 -- What is kept in all, where the parts of an answer are noted.
-use Rattle.std.proofs.Common.{◌≡◌, ℕ, Bool, true, false, IsTrue, List, [], ◌∷◌, ◌++◌, Option, None, Some, sym, ap, subst, ◌∙◌, arith}
-use Rattle.std.{proofs.lemmas.Bool.{true≢false}, specs.{Prelude.{◌↔◌, IfSome}, List.{AllByRecursion}}}
-use Rattle.nntp_article.specs.Article.Parts.{Id}
-use Rattle.nntp_wire.specs.Listing.{ActiveValue}
-use Rattle.nntp_said.specs.Facts.{Fact, GroupsAre}
-use Rattle.nntp_theory.specs.Inner.Together.{IsWellFormed, said_of, join_said, Together, Join}
-use Rattle.nntp_facts.specs.Inner.{ListedGroups.{MayList}, Saying.{OfGroup, OfArticle, Saying, facts_in, AreListed, IsToExist, MayBeOf, Tells}, Kept.{Kept}}
-use Rattle.nntp_facts.specs.Inner.{Kept.{IsKept, AreKeptNames, AreKeptGroups, AreAdded}, KeptSaying.{IsTextOf, JoinGroups, MayBeSaid, ArticleJoins}}
-use Rattle.nntp_facts.{specs.Inner.KeptSaying.{IsArticleAdded}, proofs.Keeping.{PartsJoin.{parts_join, said_of_parts}, SaidOfArticles.{said_append}}}
-use Rattle.nntp_facts.proofs.Keeping.KeptArticles.{Articles}
+use Rattle.std.proofs.Common.{◌≡◌, ℕ, Bool, true, false, IsTrue, List, [], ◌∷◌, ◌++◌, Option, None, Some, inl, inr, refl, sym, ap, subst, ◌∙◌, arith}
+use Rattle.std.{proofs.lemmas.Bool.{true≢false}, specs.{Prelude.{◌↔◌, IfSome}, List.{AllByRecursion}, Option.{option_map_or}}}
+use Rattle.nntp_article.specs.{Article.Parts.{Id}, Session.Machine.{overview_numbers}, Inner.Listed.{Lists}}
+use Rattle.nntp_wire.specs.{Listing.{ActiveValue, OverviewValue}, declared.range.Range.{Range}}
+use Rattle.nntp_said.specs.{Asks.{Ask, ListsIn}, Facts.{Fact, OverviewsAre, GroupsAre}}
+use Rattle.nntp_theory.specs.{Given.{is_shown_group}, Inner.Together.{IsWellFormed, said_of, join_said, Together, Join}}
+use Rattle.nntp_numbers.specs.Inner.Part.{Says}
+use Rattle.nntp_facts.specs.Inner.{ListedGroups.{MayList}, Saying.{OfGroup, OfArticle, Saying, facts_in, AreListed, IsToExist, MayBeOf, Tells, IsShownThen}}
+use Rattle.nntp_facts.specs.Inner.{Saying.{MaySay, asked_id, listing_group, overviews_facts}, Kept.{Kept, IsKept, AreKeptNames, AreKeptGroups, AreAdded}}
+use Rattle.nntp_facts.specs.Inner.{ListedOverviews.{HaveOwn}, KeptSaying.{MayListOf, IsTextOf, JoinGroups, MayBeSaid, ArticleJoins, IsArticleAdded}}
+use Rattle.nntp_facts.proofs.Keeping.OverviewsTold.{Overviews, plain_told, plain_alone, of_range, overviews_told, no_id_there, asks_there}
+use Rattle.nntp_facts.proofs.Keeping.{PartsJoin.{parts_join, said_of_parts}, SaidOfArticles.{said_append}, KeptArticles.{Articles}}
 
 -- what has the same parts is the same
 pub kept_is : (a b : Kept) → a.groups ≡ b.groups → a.names ≡ b.names → a.articles ≡ b.articles → a ≡ b
@@ -26,15 +28,80 @@ texts_of text article group is placed = grind arith
 -- ---- where groups are listed
 
 -- so what is added of it is added
-pub list_added : (facts more : List Fact) (s : Saying) (wildmat : Option (List ℕ)) (lines groups : List ActiveValue) (old new : Kept) (does : Bool) → s.groups ≡ Some (wildmat, lines)
-    → AreListed s groups → Tells facts s more → AllByRecursion IsWellFormed more
-    → (AllByRecursion IsWellFormed (GroupsAre wildmat groups ∷ []) → MayList wildmat groups → AreAdded facts (GroupsAre wildmat groups ∷ []) old new does) → AreAdded facts more old new does
-list_added facts more s wildmat lines groups old new does is listed t formed adds = grind arith
+pub list_added : (facts more : List Fact) (s : Saying) (wildmat : Option (List ℕ)) (lines : List ActiveValue) (lists : Lists) (old new : Kept) (does : Bool) → s.groups ≡ Some (wildmat, lines)
+    → AreListed s lists → Tells facts s more → AllByRecursion IsWellFormed more
+    → (AllByRecursion IsWellFormed (GroupsAre wildmat lists.groups ∷ []) → MayList wildmat lists.groups → AreAdded facts (GroupsAre wildmat lists.groups ∷ []) old new does)
+    → AreAdded facts more old new does
+list_added facts more s wildmat lines lists old new does is listed t formed adds = grind arith
 
-module _ (facts more : List Fact) (s : Saying) (no_list : s.groups ≡ None) (t : Tells facts s more) (together : Together facts) (formed : AllByRecursion IsWellFormed more) where
+-- ---- where overviews are
+
+-- the saying lists overviews of the group
+listing_is : (s : Saying) (g : OfGroup) → listing_group s ≡ Some g → (o : Range × List OverviewValue) × (s.overviews ≡ Some o) × (s.group ≡ Some g)
+listing_is s g e = by s.overviews refl e
+  where
+    by : (o : Overviews) → s.overviews ≡ o → option_map_or (λ o. s.group) o None ≡ Some g → (o : Range × List OverviewValue) × (s.overviews ≡ Some o) × (s.group ≡ Some g)
+    by None is e = absurd (cc)
+    by (Some o) is e = (o, is, e)
+
+-- or none
+pub lists_none : (facts : List Fact) (s : Saying) (asks : List Ask) → MaySay facts s asks → listing_group s ≡ None → s.overviews ≡ None
+lists_none facts s asks may e = by s.overviews refl e
+  where
+    by : (o : Overviews) → s.overviews ≡ o → option_map_or (λ o. s.group) o None ≡ None → o ≡ None
+    by None is e = refl
+    by (Some o) is e = sym is ∙ plain_alone facts s asks may e
+
+-- so what is added of them is added
+pub overviews_added : (facts more : List Fact) (s : Saying) (g : OfGroup) (lists : Lists) (old new : Kept) (does : Bool) → listing_group s ≡ Some g
+    → AreListed s lists → Tells facts s more → AllByRecursion IsWellFormed more
+    → ((range : Range) → AllByRecursion IsWellFormed (overviews_facts (Some g) (range, lists.overviews)) → MayListOf facts g range lists.overviews
+    → AreAdded facts (overviews_facts (Some g) (range, lists.overviews)) old new does)
+    → AreAdded facts more old new does
+overviews_added facts more s g lists old new does e listed t formed adds =
+    subst (λ more. AreAdded facts more old new does) whole (adds o.0 (subst (AllByRecursion IsWellFormed) (sym whole) formed) (record {
+      shown = shown;
+      numbers = subst (Says g.numbers) (asks_there facts s t.asks t.may o is g named ∙ ap (λ os. ListsIn o.0 (overview_numbers os) ∷ []) (sym same))
+          (subst (λ o. IfSome o (λ (g : OfGroup). Says g.numbers (t.asks ++ asked_id g.id))) named t.may.numbers);
+      id = no_id_there facts s t.asks t.may o is g named;
+      own = subst HaveOwn (sym same) (of_range facts s t.asks t.may o is).own;
+    }))
+  where
+    found : (o : Range × List OverviewValue) × (s.overviews ≡ Some o) × (s.group ≡ Some g)
+    found = listing_is s g e
+
+    o : Range × List OverviewValue
+    o = found.0
+
+    is : s.overviews ≡ Some found.0
+    is = found.1
+
+    named : s.group ≡ Some g
+    named = found.2
+
+    same : lists.overviews ≡ found.0.1
+    same = subst (λ o. IfSome o (λ o. lists.overviews ≡ o.1)) is listed.1
+
+    whole : OverviewsAre g.name found.0.0 lists.overviews ∷ [] ≡ more
+    whole = ap (λ os. OverviewsAre g.name found.0.0 os ∷ []) same ∙ sym (overviews_told facts s t.asks t.may found.0 is g named) ∙ t.same
+
+    shown : is_shown_group facts g.name ≡ true
+    shown = by (subst (λ o. IfSome o (λ (g : OfGroup). IsShownThen facts s.there_is t.asks g.name)) named t.may.shown)
+      where
+        by : IsShownThen facts s.there_is t.asks g.name → is_shown_group facts g.name ≡ true
+        by (inl h) = h
+        by (inr h) = absurd (let n : None ≡ Some g.name = sym (of_range facts s t.asks t.may found.0 is).there_is ∙ h.0 in cc)
+
+-- ---- where nothing is listed
+
+module _ (facts more : List Fact) (s : Saying) (no_list : s.groups ≡ None) (plain : s.overviews ≡ None) (t : Tells facts s more) (together : Together facts) (formed : AllByRecursion IsWellFormed more) where
+  -- the parts tell all
+  same : facts_in s t.asks ≡ more
+  same = sym (plain_told facts s t.asks t.may plain) ∙ t.same
+
   -- all joins exactly if the groups do and the article does
   joins : Join facts more ↔ (JoinGroups facts s t.asks × ArticleJoins facts s.article)
-  joins = grind (arith, parts_join facts s t.asks no_list t.may together (subst (AllByRecursion IsWellFormed) (sym t.same) formed))
+  joins = grind (arith, parts_join facts s t.asks no_list t.may together (subst (AllByRecursion IsWellFormed) (sym same) formed), same)
 
   -- so not where the groups don't
   pub no_groups_join : (test : Bool) → test ≡ false → IsTrue test ↔ JoinGroups facts s t.asks → Join facts more → ⊥
@@ -51,7 +118,7 @@ module _ (facts more : List Fact) (s : Saying) (no_list : s.groups ≡ None) (t 
   parts_kept does test k done passed is old article names groups =
       let added = subst (IsArticleAdded facts s.article old.articles k.articles) done article in (
         joins.1 (is.0 passed, added.0),
-        subst (λ more. IsKept (facts ++ more) k) t.same (record {
+        subst (λ more. IsKept (facts ++ more) k) same (record {
           groups = groups;
           names = names;
           articles = λ id. said_append facts (facts_in s t.asks) id ∙ ap (join_said (said_of facts id)) (said_of_parts facts s t.asks no_list t.may id) ∙ added.1 id;

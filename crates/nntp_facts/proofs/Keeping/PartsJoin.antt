@@ -1,21 +1,22 @@
 -- When the parts of an answer join what was said, and what is kept then.
-use Rattle.std.proofs.Common.{◌≡◌, ℕ, true, false, cond, List, [], ◌++◌, Option, None, Some, is_some, MatchOption, refl, sym, ap, subst, ◌∙◌, arith}
+use Rattle.std.proofs.Common.{◌≡◌, ℕ, true, false, cond, List, [], ◌∷◌, ◌++◌, map, Option, None, Some, is_some, MatchOption, refl, sym, ap, subst, ◌∙◌, arith}
 use Rattle.std.{proofs.lemmas.{Bool.{true≢false, or_left, or_right}, List.Folds.{list_any-append}}, specs.Prelude.{◌↔◌, IsFalse, IfSome}}
 use Rattle.std.specs.{Option.{option_map_or, option_or}, List.{AllByRecursion, list_any}, Cmp.Lexicographic.{same_text}}
 use Rattle.nntp_article.specs.{Article.Parts.{Id}, Session.{Spool.{Name}, Machine.{is_same}}}
-use Rattle.nntp_said.specs.{Asks.{Ask}, Facts.{Fact}}
-use Rattle.nntp_theory.specs.{Given.{asks_of, is_shown_group, first_given, id_in}, Inner.Together.{IsWellFormed, said_of, said_nothing, join_said, Together}}
-use Rattle.nntp_theory.specs.{Inner.Together.{JoinNames, JoinNumbers, JoinIds, JoinArticle, Join}, Together.{denies_group, number_in}}
+use Rattle.nntp_wire.specs.Listing.{ActiveValue}
+use Rattle.nntp_said.specs.{Asks.{Ask}, Facts.{Fact, Asks}}
+use Rattle.nntp_theory.specs.{Given.{asks_of, is_shown_group, first_given, id_in}, Inner.Together.{IsWellFormed, AgreesWithItself, said_of, said_nothing}}
+use Rattle.nntp_theory.specs.{Inner.Together.{join_said, Together, JoinNames, JoinNumbers, JoinIds, JoinArticle, Join}, Together.{denies_group, number_in}}
 use Rattle.nntp_theory.proofs.Together.{TwoListsOfFacts.{given_append}, FactsJoin.{asks_append}, FactsOfASpoolStand.{same_itself}}
-use Rattle.nntp_theory.proofs.Ids.OnePlaceOfAnId.{agree_together, shown_with_id}
-use Rattle.nntp_facts.specs.Inner.Saying.{OfGroup, OfArticle, Lacks, Exists, Saying, asked_id, sent_facts, lack_facts, id_facts, group_facts, facts_in, MaySay}
-use Rattle.nntp_facts.specs.Inner.{Saying.{IsToExist, MayBeOf, IsShownThen}, Kept.{told, Told, IsUntold, AreKept, AreKeptGroups, with_part, Changes, Agree}}
-use Rattle.nntp_facts.specs.Inner.{Kept.{IsShownAt, MayShow, AreKeptWith, id_of, place_of}, KeptSaying.{GroupJoins, JoinGroups, said_in, ArticleJoins}}
-use Rattle.nntp_facts.proofs.Keeping.{KeptNamesAndGroups.{groups_kept}, KeptGroups.{Groups}, FactsOfOneGroup.{AskOf, asked_here, asked_elsewhere, GivesId}}
-use Rattle.nntp_facts.proofs.Keeping.{FactsOfOneGroup.{gives_joins}, FactsOfParts.{given_is_read, asks_are_read, ids_in, of_articles, of_group, group_asks}}
-use Rattle.nntp_facts.proofs.Keeping.{FactsOfParts.{group_ids, group_places, shown_group, denied_group}, SaidOfArticles.{nothing_more, said_is_read, lack_said}}
-use Rattle.nntp_facts.proofs.Keeping.{SaidOfArticles.{there_said, text_said, text_at}, SilentFacts.{numbers_join, no_numbers_join, GiveNoIds, ids_join}}
-use Rattle.nntp_facts.proofs.Keeping.SilentFacts.{told_same}
+use Rattle.nntp_theory.proofs.{Ids.OnePlaceOfAnId.{agree_together, shown_with_id}, Members.{all_both}}
+use Rattle.nntp_facts.specs.Inner.Saying.{OfGroup, OfArticle, Lacks, Exists, Saying, asked_id, sent_facts, lack_facts, there_facts, missing_facts, groups_facts}
+use Rattle.nntp_facts.specs.Inner.{Saying.{id_facts, group_facts, facts_in, MaySay, IsToExist, MayBeOf, IsShownThen}, Kept.{told, Told, IsUntold, AreKept}}
+use Rattle.nntp_facts.specs.Inner.{Kept.{AreKeptGroups, with_part, Changes, Agree, IsShownAt, MayShow, AreKeptWith, id_of, place_of}, KeptSaying.{GroupJoins}}
+use Rattle.nntp_facts.{specs.Inner.KeptSaying.{JoinGroups, said_in, ArticleJoins}, proofs.Keeping.{KeptNamesAndGroups.{groups_kept}, KeptGroups.{Groups}}}
+use Rattle.nntp_facts.proofs.Keeping.{FactsOfOneGroup.{AskOf, asked_here, asked_elsewhere, GivesId, gives_joins}, FactsOfParts.{given_is_read, asks_are_read}}
+use Rattle.nntp_facts.proofs.Keeping.FactsOfParts.{ids_in, of_articles, of_group, group_asks, group_ids, group_places, shown_group, denied_group}
+use Rattle.nntp_facts.proofs.Keeping.{SaidOfArticles.{nothing_more, said_is_read, lack_said, there_said, text_said, text_at}, SilentFacts.{numbers_join}}
+use Rattle.nntp_facts.proofs.Keeping.SilentFacts.{no_numbers_join, GiveNoIds, ids_join, told_same}
 use Rattle.nntp_numbers.specs.Inner.{Summary.{AreBounded}, Part.{Says}}
 
 -- ---- articles
@@ -30,10 +31,43 @@ of_part (Some (other, Lacks)) name (Some e) placed may id = absurd placed
 of_part (Some (other, Exists)) name None placed may id = absurd (may other refl)
 of_part s name d placed may id = grind (arith, nothing_more, there_said, text_said, text_at)
 
+-- of the parts none is a list of overviews
+parts_agree : (s : Saying) (asks : List Ask) → AllByRecursion AgreesWithItself (facts_in s asks)
+parts_agree s asks =
+    all_both AgreesWithItself (sent_facts s.article) _ (sent s.article) (all_both AgreesWithItself (there_facts s.there_is) _ (there s.there_is)
+    (all_both AgreesWithItself (group_facts s.group asks) _ (of s.group) (all_both AgreesWithItself (missing_facts s.there_is_no) _ (missing s.there_is_no)
+    (all_both AgreesWithItself (lack_facts s.article) _ (lack s.article) (groups s.groups)))))
+  where
+    sent : (a : Option (Id × OfArticle)) → AllByRecursion AgreesWithItself (sent_facts a)
+    sent a = grind arith
+
+    lack : (a : Option (Id × OfArticle)) → AllByRecursion AgreesWithItself (lack_facts a)
+    lack a = grind arith
+
+    there : (o : Option Name) → AllByRecursion AgreesWithItself (there_facts o)
+    there o = grind arith
+
+    missing : (o : Option Name) → AllByRecursion AgreesWithItself (missing_facts o)
+    missing o = grind arith
+
+    groups : (o : Option (Option (List ℕ) × List ActiveValue)) → AllByRecursion AgreesWithItself (groups_facts o)
+    groups o = grind arith
+
+    asked : (name : Name) (asks : List Ask) → AllByRecursion AgreesWithItself (map (Asks name) asks)
+    asked name [] = tt
+    asked name (ask ∷ asks) = (tt, asked name asks)
+
+    at : (name : Name) (id : Option (ℕ × Id)) → AllByRecursion AgreesWithItself (id_facts name id)
+    at name id = grind arith
+
+    of : (g : Option OfGroup) → AllByRecursion AgreesWithItself (group_facts g asks)
+    of None = tt
+    of (Some g) = all_both AgreesWithItself (map (Asks g.name) asks) (id_facts g.name g.id) (asked g.name asks) (at g.name g.id)
+
 -- ids and numbers of what is told agree where facts stand together
 pub agree_told : (facts : List Fact) → Together facts → (name : Name) (id : Option (ℕ × Id)) → Agree (told facts name).ids (told facts name).places id
 agree_told facts t name None = tt
-agree_told facts t name (Some e) = agree_together facts name e.0 e.1 (t.ids_once name e.1)
+agree_told facts t name (Some e) = agree_together facts name e.0 e.1 t.lists (t.ids_once name e.1)
 
 -- an id that is told at a number is at a number that is shown
 pub shown_told : (facts : List Fact) (name : Name) (id : Option (ℕ × Id)) → IsShownAt (told facts name) id
@@ -128,6 +162,7 @@ module _ (facts : List Fact) (s : Saying) (asks : List Ask) (no_list : s.groups 
     ),
     λ h. record {
       well_formed = formed;
+      lists = parts_agree s asks;
       names = names_join.1 (h.0.there_is, h.0.there_is_no);
       numbers = ((group_join t).1 h.0.group).0;
       ids = ((group_join t).1 h.0.group).1;

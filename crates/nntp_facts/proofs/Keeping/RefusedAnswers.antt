@@ -4,7 +4,7 @@ use Rattle.std.specs.List.{AllByRecursion}
 use Rattle.nntp_wire.specs.{Answer.{Asked, Response}, declared.marks.Marks.{Marks}}
 use Rattle.nntp_article.specs.{Session.{Spool.{Name}, Machine.{Visible, start, fits}}, declared.session.profile.Profile.{Profile}}
 use Rattle.nntp_pair.specs.{Pairing.{Paired, asked_at, asked_of, responses_of}, Inner.Pairing.{lines_in}}
-use Rattle.nntp_said.specs.{Facts.{Fact, Holds, ThereIs, Asks, IdAt, group_of}, Inner.Facts.{FitsAll}}
+use Rattle.nntp_said.specs.{Facts.{Fact, Holds, ThereIs, Asks, IdAt, OverviewsAre, group_of}, Inner.Facts.{FitsAll}}
 use Rattle.nntp_theory.specs.{declared.noted.Noted.TheVariants.{Contradiction}, Answered.{Answered, facts_of_all}, Inner.{Answered.{FitEach}, Given.{size}}}
 use Rattle.nntp_theory.specs.{Inner.{Exchanged.{said_behind}, Together.{Together}}, Permitted.{exchanged, ArePermittedBehind}, Conflict.{Placed, placed_behind}}
 use Rattle.nntp_theory.{specs.Conflict.{said as said_there, told, the_group}, proofs.Conflicts.{there_said, group_fitting}}
@@ -26,6 +26,7 @@ group_selectable how all [] placed name e = cc
 group_selectable how all (ThereIs g ∷ own) placed name e = subst (IsSelectable how all) (cc) placed.0
 group_selectable how all (Asks g ask ∷ own) placed name e = subst (IsSelectable how all) (cc) placed.0
 group_selectable how all (IdAt g n id ∷ own) placed name e = subst (IsSelectable how all) (cc) placed.0
+group_selectable how all (OverviewsAre g range overviews ∷ own) placed name e = subst (IsSelectable how all) (cc) placed.0
 group_selectable how all (fact ∷ own) placed name e = group_selectable how all own placed.1 name e
 
 -- so that there is such a group is placed

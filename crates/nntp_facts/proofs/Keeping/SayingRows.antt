@@ -2,17 +2,18 @@
 use Rattle.std.proofs.Common.{◌≡◌, ℕ, ◌<◌, ◌≤◌, ◌^◌, get_or, true, IsTrue, List, [], ◌∷◌, Option, None, Some, is_some, inl, inr, refl, sym, ap, subst, ◌∙◌}
 use Rattle.std.{proofs.{Common.{arith}, lemmas.Bool.{true≢false}}, specs.Prelude.{IfSome, option_map, unwrap_or}}
 use Rattle.nntp_article.specs.{Article.Parts.{Id}, Session.{Spool.{Name}, Machine.{Visible, fits, head_fits, overview_numbers, only}}}
-use Rattle.nntp_article.specs.{declared.session.profile.Profile.{Profile}, Inner.Misfit.{groups_of, numbers_of}}
+use Rattle.nntp_article.specs.{declared.session.profile.Profile.{Profile}, Inner.{Misfit.{numbers_of}, Listed.{Lists, lists_of}}}
 use Rattle.nntp_wire.specs.{Answer.{Asked, Response, Success}, declared.{command.What.{What}, marks.Marks.{Marks}, range.Range.{Range}}}
-use Rattle.nntp_wire.specs.{declared.water_marks.WaterMarks.{WaterMarks}, Listing.{ActiveValue, OverviewValue, active_groups, listed_numbers, overviews_of}}
+use Rattle.nntp_wire.specs.{declared.water_marks.WaterMarks.{WaterMarks}, Listing.{OverviewValue, active_groups, listed_numbers, overviews_of}}
 use Rattle.nntp_said.specs.{declared.position.Position.{Position}, Asks.{Ask, Estimates, ListsIn, Has, Lacks, StandsAt, StandsNowhere, StepsUp, StepsDown}}
-use Rattle.nntp_said.specs.{Asks.{IsTop, IsBottom}, Facts.{Fact, ThereIs, Asks, IdAt, TextIs, here, facts_of, group_of}}
+use Rattle.nntp_said.specs.{Asks.{IsTop, IsBottom}, Facts.{Fact, ThereIs, Asks, IdAt, TextIs, OverviewsAre, here, facts_of, group_of}}
 use Rattle.nntp_theory.specs.Given.{is_shown_group}
 use Rattle.nntp_numbers.specs.Inner.{Part.{Said, Says, AreListable}, PartOf.{IsSmall, nothing_said, part_with}, Summary.{AreBounded}}
 use Rattle.nntp_numbers.proofs.{SaidInARange.{says_range, says_listed}, SaidOfAsks.{said_small, says_marks, marks_bounded, says_has, says_lacks, says_stands}}
 use Rattle.nntp_numbers.proofs.SaidOfAsks.{says_nowhere, says_up, says_down, says_top, says_bottom}
 use Rattle.nntp_facts.specs.Inner.Saying.{AreListed, Saying, TellsHere, IsSelectedShown, IsShownThen, nothing, numbers_shown, saying_by}
-use Rattle.nntp_facts.{specs.declared.saying.GroupPart.{GroupPart}, proofs.Keeping.FittingAnswers.{listable, may_list, numbered}}
+use Rattle.nntp_facts.{specs.{Inner.ListedOverviews.{HaveOwn}, declared.saying.GroupPart.{GroupPart}}, proofs.Keeping.FittingAnswers.{listable, may_list}}
+use Rattle.nntp_facts.proofs.Keeping.FittingAnswers.{numbered}
 use Rattle.nntp_facts.specs.declared.saying.Saying as parts
 use Rattle.nntp_facts.specs.Inner.SayingView as view
 use Rattle.nntp_said.proofs.Rows as rows
@@ -21,7 +22,7 @@ use Rattle.nntp_said.proofs.Rows as rows
 
 -- something of the numbers of a group, and that there is such a group
 abbrev pub of_group : Name → Said → Saying
-of_group name p = record { there_is = Some name; there_is_no = None; group = Some (record { name = name; numbers = p; id = None }); article = None; groups = None }
+of_group name p = record { there_is = Some name; there_is_no = None; group = Some (record { name = name; numbers = p; id = None }); article = None; overviews = None; groups = None }
 
 -- the ends of what is said of the numbers of the group are below 2^64
 abbrev HasSmall : Saying → Type 0
@@ -41,7 +42,7 @@ tells_marks {selected} facts name p how m s more says bounded s_is same =
       tells = record {
         asks = Estimates how m ∷ [];
         same = same;
-        may = record { numbers = says; shown = inr (refl, bounded); there = refl; placed = tt; article = tt; groups = tt };
+        may = record { numbers = says; shown = inr (refl, bounded); there = refl; placed = tt; article = tt; overviews = tt; groups = tt };
       };
       group = ap group_of same;
       there = inl refl;
@@ -49,9 +50,9 @@ tells_marks {selected} facts name p how m s more says bounded s_is same =
 
 -- ---- rows
 
-pub groups_said : (profile : Profile) (v : Visible) (at : Position) (asked : Asked) (response : Response) (shown : List ℕ) (groups : List ActiveValue) → groups ≡ groups_of response
-    → AreListed (saying_by shown nothing (facts_of profile.marks v at asked response)) groups
-groups_said profile v at asked response shown groups e = grind (arith, rows.row)
+pub lists_said : (profile : Profile) (v : Visible) (at : Position) (asked : Asked) (response : Response) (shown : List ℕ) (lists : Lists) → lists ≡ lists_of response
+    → AreListed (saying_by shown nothing (facts_of profile.marks v at asked response)) lists
+lists_said profile v at asked response shown lists e = grind (arith, rows.row)
 
 -- the only overview is all that there are
 only_is : (os : List OverviewValue) (o : OverviewValue) → only os ≡ Some o → os ≡ o ∷ []
@@ -78,6 +79,28 @@ module _ (v : Visible) (facts : List Fact) (is_shown : IsSelectedShown v facts) 
   ask_row : (shown : List ℕ) (ask : Ask) → IsTrue (is_some v.selected) → (IsSmall (part_with shown ask nothing_said) → Says (part_with shown ask nothing_said) (ask ∷ []))
       → Row shown (Asks (here v) ask ∷ [])
   ask_row shown ask there says small = record { tells = record { asks = ask ∷ []; same = refl; may = assumption (says small, here_shown (ask ∷ []) there) }; group = refl; there = inr refl }
+
+  -- overviews of numbers of the selected group
+  overviews_row : (range : Range) (os : List OverviewValue) → IsTrue (is_some v.selected)
+      → (IsSmall (part_with (overview_numbers os) (ListsIn range (overview_numbers os)) nothing_said) → Says (part_with (overview_numbers os) (ListsIn range (overview_numbers os)) nothing_said)
+      (ListsIn range (overview_numbers os) ∷ [])) → HaveOwn os → Row (overview_numbers os) (OverviewsAre (here v) range os ∷ [])
+  overviews_row range os there says own small = record {
+    tells = record {
+      asks = ListsIn range (overview_numbers os) ∷ [];
+      same = refl;
+      may = record {
+        numbers = says small;
+        shown = here_shown (ListsIn range (overview_numbers os) ∷ []) there;
+        there = tt;
+        placed = tt;
+        article = tt;
+        overviews = record { lists = refl; own = own; group = refl; there_is = refl; there_is_no = refl; article = refl; groups = refl };
+        groups = tt;
+      };
+    };
+    group = refl;
+    there = inr refl;
+  }
 
   -- a step
   step_row : (ask : Ask) (n : ℕ) (id : Id) → IsTrue (is_some v.selected) → (IsSmall (part_with (n ∷ []) ask nothing_said) → Says (part_with (n ∷ []) ask nothing_said) (ask ∷ Has n ∷ []))
@@ -119,8 +142,10 @@ module _ (v : Visible) (facts : List Fact) (is_shown : IsSelectedShown v facts) 
   said_row {profile} fit (rows.none_within code range known) f small =
       ask_row [] (ListsIn range []) (known f) (λ small. says_listed range [] fit small (listable profile range [] (refl, refl))) small
   said_row {profile} fit (rows.within range lines known) f small =
-      let ns = overview_numbers (overviews_of lines) in
-      ask_row ns (ListsIn range ns) (known f).0 (λ small. says_listed range ns fit small (listable profile range ns (known f).1)) small
+      let os = overviews_of lines in
+      let ns = overview_numbers os in
+      overviews_row range os (known f).0 (λ small. says_listed range ns fit small (listable profile range ns (known f).1))
+      (record { numbers = (known f).1.0; ids = (known f).2 }) small
   said_row fit (rows.lacks code n known) f small = ask_row [] (Lacks n) (known f) (λ small. says_lacks [] n small.last) small
   said_row {profile} fit (rows.marks m name known) f small =
       tells_marks facts name _ profile.marks m _ _ (says_marks [] profile.marks m small.high) (marks_bounded profile.marks m small.high) refl refl

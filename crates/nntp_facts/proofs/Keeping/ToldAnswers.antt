@@ -80,6 +80,7 @@ module _ (selected : Option Name) (s : Saying) (more : List Fact) (t : TellsTher
       there = u.tells.may.there;
       placed = u.tells.may.placed;
       article = u.tells.may.article;
+      overviews = u.tells.may.overviews;
       groups = u.tells.may.groups;
     };
   }

@@ -1,16 +1,17 @@
 -- Points that are about articles, where what an answer says conflicts with what is kept.
 use Rattle.std.proofs.Common.{ℕ, Bool, true, false, not, cond, IsTrue, List, ◌≡◌, ◌++◌, ◌||◌, ◌⊎◌, Option, None, Some, inl, inr, refl, sym, ap, subst, ◌∙◌}
 use Rattle.std.{proofs.{Common.{arith}, lemmas.Bool.{true≢false, cases_Bool, or_cases, or_left, or_right}}, specs.Prelude.{IfSome, IsFalse, MatchOption}}
-use Rattle.std.specs.{List.{list_any}, Cmp.Lexicographic.{same_text}}
-use Rattle.nntp_wire.specs.declared.command.What.{What}
-use Rattle.nntp_article.specs.{Article.Parts.{Id, Line}, Session.Machine.{head_fits}, declared.session.profile.Profile.{Profile}}
+use Rattle.std.specs.{List.{list_any}, Option.{option_map_or}, Cmp.Lexicographic.{same_text}}
+use Rattle.nntp_wire.specs.{Listing.{OverviewValue}, declared.{command.What.{What}, range.Range.{Range}}}
+use Rattle.nntp_article.specs.{Article.Parts.{Id, Line}, Session.Machine.{is_same, head_fits}, declared.session.profile.Profile.{Profile}}
 use Rattle.nntp_said.specs.Facts.{Fact}
 use Rattle.nntp_theory.specs.{Given.{first_given, head_in, body_in}, Together.{GiveOne, shows_article, denies_article}, Inner.Together.{SaidOfArticle, said_of}}
 use Rattle.nntp_theory.specs.{Inner.Together.{said_nothing, join_said, AreSame}, Conflict.{Point, Article, HeadOf, BodyOf, ConflictAt}}
-use Rattle.nntp_theory.proofs.{Conflicts.{at_point}, PointsByRank.{of_rank}, Together.{FactsOfASpoolStand.{same_itself}, TwoListsOfFacts.{give_one_both}}}
-use Rattle.nntp_theory.proofs.Together.TwoListsOfFacts.{give_same_of_both}
-use Rattle.nntp_facts.specs.Inner.{Kept.{Kept, said_kept}, Saying.{OfArticle, Sends, MayBeOf}, KeptSaying.{kept_by, said_in}, Points.{Statement, IsPointOf}}
-use Rattle.nntp_facts.{specs.Inner.Points.{IsBeside}, proofs.{Keeping.SaidOfArticles.{said_append}, PointsFound.StatementsRead.{article_told}}}
+use Rattle.nntp_theory.proofs.{Members.{any_in, found_in, first_found}, Conflicts.{at_point}, PointsByRank.{of_rank}, Together.FactsOfASpoolStand.{same_itself}}
+use Rattle.nntp_theory.proofs.Together.TwoListsOfFacts.{give_one_both, give_same_of_both}
+use Rattle.nntp_facts.specs.Inner.{Kept.{Kept, said_kept}, Saying.{OfArticle, Sends, MayBeOf}, KeptSaying.{kept_by, said_in, said_listed}, Points.{Statement}}
+use Rattle.nntp_facts.{specs.Inner.{Points.{IsPointOf, IsBeside, said_by}, Articles.{unsent}}, proofs.Keeping.SaidOfArticles.{said_append}}
+use Rattle.nntp_facts.proofs.{Keeping.{ListedOverviews.{none_gives}, OverviewsTold.{Overviews, plain_by_article}}, PointsFound.StatementsRead.{article_told}}
 use Rattle.nntp_facts.proofs.PointsFound.KindsOfPoints.{alone_once}
 
 -- ---- the parts of an article
@@ -59,39 +60,111 @@ module _ (profile : Profile) (facts : List Fact) (k : Kept) (t : Statement) (mor
 
   -- ---- whether an id has an article
 
-  said_all : (id : Id) → said_of all id ≡ join_said (said_of facts id) (said_in t.saying.article id)
+  said_all : (id : Id) → said_of all id ≡ join_said (said_of facts id) (said_by t.saying id)
   said_all id = said_append facts more id ∙ ap (join_said (said_of facts id)) (article_told profile t more h.tells id)
 
-  shown_in_all : (id : Id) → list_any (shows_article id) all ≡ (list_any (shows_article id) facts || (said_in t.saying.article id).is_shown)
+  shown_in_all : (id : Id) → list_any (shows_article id) all ≡ (list_any (shows_article id) facts || (said_by t.saying id).is_shown)
   shown_in_all id = ap (λ (s : SaidOfArticle). s.is_shown) (said_all id)
 
-  denied_in_all : (id : Id) → list_any (denies_article id) all ≡ (list_any (denies_article id) facts || (said_in t.saying.article id).is_denied)
+  denied_in_all : (id : Id) → list_any (denies_article id) all ≡ (list_any (denies_article id) facts || (said_by t.saying id).is_denied)
   denied_in_all id = ap (λ (s : SaidOfArticle). s.is_denied) (said_all id)
 
-  article_free : ((id : Id) → IsTrue (said_in t.saying.article id).is_shown → IsFalse (list_any (denies_article id) facts))
-      → ((id : Id) → IsTrue (said_in t.saying.article id).is_denied → IsFalse (list_any (shows_article id) facts)) → IsFree 7
-  article_free shown denied = of_rank Free 7 (λ id c. elim (or_cases (list_any (shows_article id) facts) (said_in t.saying.article id).is_shown (sym (shown_in_all id) ∙ c.0)) [
-    | inl s ↦ elim (or_cases (list_any (denies_article id) facts) (said_in t.saying.article id).is_denied (sym (denied_in_all id) ∙ c.1)) [
+  article_free : ((id : Id) → IsTrue (said_by t.saying id).is_shown → IsFalse (list_any (denies_article id) facts))
+      → ((id : Id) → IsTrue (said_by t.saying id).is_denied → IsFalse (list_any (shows_article id) facts)) → IsFree 7
+  article_free shown denied = of_rank Free 7 (λ id c. elim (or_cases (list_any (shows_article id) facts) (said_by t.saying id).is_shown (sym (shown_in_all id) ∙ c.0)) [
+    | inl s ↦ elim (or_cases (list_any (denies_article id) facts) (said_by t.saying id).is_denied (sym (denied_in_all id) ∙ c.1)) [
       | inl d ↦ at_point facts (Article id) (s, d) h.together
       | inr d ↦ true≢false (sym s ∙ denied id d)
     ]
     | inr s ↦ grind (arith, or_cases, denied_in_all, true≢false)
   ])
     where
-      apart : (o : Option (Id × OfArticle)) (id : Id) → IsTrue (said_in o id).is_shown → IsTrue (said_in o id).is_denied → ⊥
-      apart o id s d = grind (arith, true≢false)
+      listed_apart : (b : Bool) → IsTrue (cond b (said_kept (Some unsent)) said_nothing).is_shown → IsTrue (cond b (said_kept (Some unsent)) said_nothing).is_denied → ⊥
+      listed_apart b s d = grind (arith, true≢false)
 
-  pub no_article : t.saying.article ≡ None → IsFree 7
-  no_article e = grind (arith, article_free, true≢false)
+      said_apart : (o : Option (Id × OfArticle)) (id : Id) → IsTrue (said_in o id).is_shown → IsTrue (said_in o id).is_denied → ⊥
+      said_apart o id s d = grind (arith, true≢false)
+
+      by : (o : Overviews) (id : Id) → IsTrue (option_map_or (λ o. said_listed o.1 id) o (said_in t.saying.article id)).is_shown
+          → IsTrue (option_map_or (λ o. said_listed o.1 id) o (said_in t.saying.article id)).is_denied → ⊥
+      by None id s d = said_apart t.saying.article id s d
+      by (Some o) id s d = listed_apart (list_any (λ v. is_same v.id id) o.1) s d
+
+      apart : (id : Id) → IsTrue (said_by t.saying id).is_shown → IsTrue (said_by t.saying id).is_denied → ⊥
+      apart = by t.saying.overviews
+
+  -- where no overviews are said
+  said_plain : (id : Id) → t.saying.overviews ≡ None → said_by t.saying id ≡ said_in t.saying.article id
+  said_plain id plain = ap (λ (o : Overviews). option_map_or (λ o. said_listed o.1 id) o (said_in t.saying.article id)) plain
+
+  pub no_article : t.saying.overviews ≡ None → t.saying.article ≡ None → IsFree 7
+  no_article plain e =
+      let none : (id : Id) → said_by t.saying id ≡ said_nothing = λ id. said_plain id plain ∙ ap (λ a. said_in a id) e in
+      article_free (λ id s. absurd (true≢false (sym s ∙ ap (λ (s : SaidOfArticle). s.is_shown) (none id))))
+      (λ id d. absurd (true≢false (sym d ∙ ap (λ (s : SaidOfArticle). s.is_denied) (none id))))
+
+  -- ---- overviews
+
+  module _ (o : Range × List OverviewValue) (listed : t.saying.overviews ≡ Some o) where
+    said_of_listed : (id : Id) → said_by t.saying id ≡ said_listed o.1 id
+    said_of_listed id = ap (λ (o : Overviews). option_map_or (λ o. said_listed o.1 id) o (said_in t.saying.article id)) listed
+
+    -- an overview shows an article, and none is denied
+    listed_shown : (id : Id) → IsTrue (said_by t.saying id).is_shown → IsTrue (list_any (λ v. is_same v.id id) o.1)
+    listed_shown id s = by (list_any (λ v. is_same v.id id) o.1) (sym (ap (λ (s : SaidOfArticle). s.is_shown) (said_of_listed id)) ∙ s)
+      where
+        by : (b : Bool) → IsTrue (cond b (said_kept (Some unsent)) said_nothing).is_shown → IsTrue b
+        by true s = refl
+        by false s = s
+
+    none_denied : (id : Id) → IsTrue (said_by t.saying id).is_denied → ⊥
+    none_denied id d = by (list_any (λ v. is_same v.id id) o.1) (sym (ap (λ (s : SaidOfArticle). s.is_denied) (said_of_listed id)) ∙ d)
+      where
+        by : (b : Bool) → IsTrue (cond b (said_kept (Some unsent)) said_nothing).is_denied → ⊥
+        by true d = true≢false (sym d)
+        by false d = true≢false (sym d)
+
+    abbrev denied_at : OverviewValue → Option Point
+    denied_at v = cond (list_any (denies_article v.id) facts) (Some (Article v.id)) None
+
+    denied_free : (id : Id) (b : Bool) → cond b (Some (Article id)) None ≡ None → b ≡ false
+    denied_free id true e = absurd (cc)
+    denied_free id false e = refl
+
+    denied_there : (id : Id) (point : Point) (b : Bool) → cond b (Some (Article id)) None ≡ Some point → (b ≡ true) × (point ≡ Article id)
+    denied_there id point true e = (refl, cc)
+    denied_there id point false e = absurd (cc)
+
+    -- the first that is denied
+    pub listed_article : (p : Option Point) → p ≡ first_given denied_at o.1 → IsPointOf all 7 p
+    listed_article None found = article_free
+        (λ id s. let f = found_in (λ (v : OverviewValue). is_same v.id id) o.1 (listed_shown id s) in
+        subst (λ id. IsFalse (list_any (denies_article id) facts)) (same_text f.0.id id (sym f.2)) (denied_free f.0.id _ (none_gives denied_at o.1 (sym found) f.0 f.1)))
+        (λ id d. absurd (none_denied id d))
+    listed_article (Some point) found =
+        let f = first_found denied_at o.1 point (sym found) in
+        let d = denied_there f.0.id point (list_any (denies_article f.0.id) facts) f.2 in
+        let there : list_any (λ v. is_same v.id f.0.id) o.1 ≡ true = any_in (λ (v : OverviewValue). is_same v.id f.0.id) f.0 o.1 f.1 (same_itself f.0.id) in
+        let shown : (said_by t.saying f.0.id).is_shown ≡ true = ap (λ (s : SaidOfArticle). s.is_shown) (said_of_listed f.0.id ∙ ap (λ b. cond b (said_kept (Some unsent)) said_nothing) there) in
+        subst (λ point. IsPointOf all 7 (Some point)) (sym d.1) (
+          (
+            shown_in_all f.0.id ∙ or_right (list_any (shows_article f.0.id) facts) (said_by t.saying f.0.id).is_shown shown,
+            denied_in_all f.0.id ∙ or_left (list_any (denies_article f.0.id) facts) (said_by t.saying f.0.id).is_denied d.0,
+          ),
+          refl,
+        )
 
   -- where something is said of an id
   module _ (id : Id) (a : OfArticle) (e : t.saying.article ≡ Some (id, a)) where
-    own : said_in t.saying.article id ≡ said_kept (Some (kept_by a))
-    own = ap (λ o. said_in o id) e ∙ ap (λ b. cond b (said_kept (Some (kept_by a))) said_nothing) (same_itself id)
+    plain : t.saying.overviews ≡ None
+    plain = plain_by_article h.tells.before t.saying h.tells.tells.asks h.tells.tells.may (λ none some. let n : None ≡ Some (id, a) = sym none ∙ some in cc) e
+
+    own : said_by t.saying id ≡ said_kept (Some (kept_by a))
+    own = said_plain id plain ∙ ap (λ o. said_in o id) e ∙ ap (λ b. cond b (said_kept (Some (kept_by a))) said_nothing) (same_itself id)
 
     -- of others nothing is
-    others : (q : Id) → (id ≡ q) ⊎ (said_in t.saying.article q ≡ said_nothing)
-    others q = grind (arith, cases_Bool, same_text)
+    others : (q : Id) → (id ≡ q) ⊎ (said_by t.saying q ≡ said_nothing)
+    others q = grind (arith, cases_Bool, same_text, said_plain q plain)
 
     own_free : (IsTrue (not (kept_by a).is_denied) → IsFalse (list_any (denies_article id) facts)) → (IsTrue (kept_by a).is_denied → IsFalse (list_any (shows_article id) facts)) → IsFree 7
     own_free shown denied = article_free
@@ -120,7 +193,7 @@ module _ (profile : Profile) (facts : List Fact) (k : Kept) (t : Statement) (mor
 
   -- ---- heads and bodies
 
-  part_given : (part : Part) (id : Id) → first_given (part_in part id) more ≡ part_of part (said_in t.saying.article id)
+  part_given : (part : Part) (id : Id) → first_given (part_in part id) more ≡ part_of part (said_by t.saying id)
   part_given Head id = ap (λ (s : SaidOfArticle). s.head) (article_told profile t more h.tells id)
   part_given Body id = ap (λ (s : SaidOfArticle). s.body) (article_told profile t more h.tells id)
 
@@ -128,32 +201,39 @@ module _ (profile : Profile) (facts : List Fact) (k : Kept) (t : Statement) (mor
   abbrev IsAlike : Part → Id → Option (List Line) → Type 0
   IsAlike part id sent = AreSame sent (first_given (part_in part id) facts)
 
-  part_once : (part : Part) (id : Id) → IsAlike part id (part_of part (said_in t.saying.article id)) → GiveOne (part_in part id) all
+  part_once : (part : Part) (id : Id) → IsAlike part id (part_of part (said_by t.saying id)) → GiveOne (part_in part id) all
   part_once Head id same = give_one_both (head_in id) facts more (h.together.heads id)
       (alone_once profile (head_in id) (λ name. refl) (λ name ask. refl) t more h.tells (h.tells.agree.heads id)) (subst (IsAlike Head id) (sym (part_given Head id)) same)
   part_once Body id same = give_one_both (body_in id) facts more (h.together.bodies id)
       (alone_once profile (body_in id) (λ name. refl) (λ name ask. refl) t more h.tells (h.tells.agree.bodies id)) (subst (IsAlike Body id) (sym (part_given Body id)) same)
 
-  part_free : (part : Part) → ((id : Id) → IsAlike part id (part_of part (said_in t.saying.article id))) → IsFree (part_rank part)
+  part_free : (part : Part) → ((id : Id) → IsAlike part id (part_of part (said_by t.saying id))) → IsFree (part_rank part)
   part_free Head same = of_rank Free 8 (λ id c. c (part_once Head id (same id)))
   part_free Body same = of_rank Free 9 (λ id c. c (part_once Body id (same id)))
 
   -- of an answer that sends no such part
   pub no_part : (part : Part) (o : Option (Id × OfArticle)) → t.saying.article ≡ o → IfSome o (λ a. part_of part (said_kept (Some (kept_by a.1))) ≡ None) → IsFree (part_rank part)
-  no_part part o e none = part_free part (λ id. subst (IsAlike part id) (sym (ap (λ a. part_of part (said_in a id)) e ∙ by o none id)) tt)
+  no_part part o e none = part_free part (λ id. subst (IsAlike part id) (sym (of t.saying.overviews id)) tt)
     where
       by : (o : Option (Id × OfArticle)) → IfSome o (λ a. part_of part (said_kept (Some (kept_by a.1))) ≡ None) → (id : Id) → part_of part (said_in o id) ≡ None
       by o none id = grind (arith, none_of)
 
+      of_listed : (b : Bool) → part_of part (cond b (said_kept (Some unsent)) said_nothing) ≡ None
+      of_listed b = grind (arith, none_of)
+
+      of : (os : Overviews) (id : Id) → part_of part (option_map_or (λ o. said_listed o.1 id) os (said_in t.saying.article id)) ≡ None
+      of None id = ap (λ a. part_of part (said_in a id)) e ∙ by o none id
+      of (Some l) id = of_listed (list_any (λ v. is_same v.id id) l.1)
+
   -- of one that sends it, if it sends one
   module _ (part : Part) (id : Id) (what : What) (lines : Option (List Line)) (e : t.saying.article ≡ Some (id, Sends what lines)) (sent : Option (List Line))
       (is : IsTrue (head_fits what id lines) → sent ≡ part_of part (said_kept (Some (kept_by (Sends what lines))))) where
-    said_part : part_of part (said_in t.saying.article id) ≡ sent
+    said_part : part_of part (said_by t.saying id) ≡ sent
     said_part = ap (part_of part) (own id (Sends what lines) e) ∙ sym (is (subst (λ o. IfSome o (MayBeOf t.saying.group)) e h.tells.tells.may.article))
 
     same_part : IsAlike part id sent → IsFree (part_rank part)
     same_part same = part_free part (λ q. elim (others id (Sends what lines) e q) [
-      | inl s ↦ subst (λ q. IsAlike part q (part_of part (said_in t.saying.article q))) s (subst (IsAlike part id) (sym said_part) same)
+      | inl s ↦ subst (λ q. IsAlike part q (part_of part (said_by t.saying q))) s (subst (IsAlike part id) (sym said_part) same)
       | inr none ↦ subst (IsAlike part q) (sym (ap (part_of part) none ∙ none_of part)) tt
     ])
 

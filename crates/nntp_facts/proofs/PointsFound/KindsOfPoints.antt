@@ -1,21 +1,20 @@
 -- Points of each kind, where what an answer says conflicts with what is kept.
-use Rattle.std.proofs.Common.{arith, ℕ, Bool, true, false, not, cond, IsTrue, List, [], ◌≡◌, ◌∷◌, ◌++◌, ◌&&◌, ◌||◌, ◌<◌, ◌==◌, ◌⊎◌, Option, None, Some, inl}
-use Rattle.std.proofs.{Common.{inr, refl, sym, ap, subst, ◌∙◌, append-nil}, lemmas.Bool.{true≢false, cases_Bool, and_parts, or_cases, or_left, or_right}}
-use Rattle.std.{proofs.lemmas.{Bool.{eq-eqb, eqb-true, not-true}, List.Folds.{list_any-append}}, specs.Prelude.{IfSome, IsFalse, MatchOption, option_map}}
-use Rattle.std.specs.{List.{AllByRecursion, list_any, list_all}, Option.{option_map_or, option_or}, Cmp.Lexicographic.{same_text}}
+use Rattle.std.proofs.Common.{arith, ℕ, Bool, true, false, not, cond, IsTrue, List, [], ◌≡◌, ◌∷◌, ◌++◌, ◌&&◌, ◌||◌, ◌<◌, ◌⊎◌, Option, None, Some, inl, inr}
+use Rattle.std.proofs.{Common.{refl, sym, ap, subst, ◌∙◌, append-nil}, lemmas.Bool.{true≢false, cases_Bool, and_parts, or_cases, or_left, or_right, not-true}}
+use Rattle.std.{proofs.lemmas.List.Folds.{list_any-append}, specs.{Prelude.{IfSome, IsFalse, MatchOption, option_map}, List.{AllByRecursion, list_any}}}
+use Rattle.std.specs.{List.{list_all}, Option.{option_map_or, option_or}, Cmp.Lexicographic.{same_text}}
 use Rattle.nntp_wire.specs.{Listing.{ActiveValue}, Decided.{matches_name}, declared.marks.Marks.TheVariants.{Lenient}}
-use Rattle.nntp_article.specs.{Article.Parts.{Id}, Session.{Spool.{Name}, Machine.{is_same, names_differ}}, declared.session.profile.Profile.{Profile}}
+use Rattle.nntp_article.specs.{Session.{Spool.{Name}, Machine.{is_same, names_differ}}, declared.session.profile.Profile.{Profile}}
 use Rattle.nntp_said.specs.{Asks.{Ask, Bounds, Estimates}, Facts.{Fact, ThereIs, Asks, GroupsAre, group_of}}
-use Rattle.nntp_theory.specs.Given.{asks_of, shows_group, is_shown_group, first_given, id_in, is_known, is_denied, demand, IsGivenNumber}
-use Rattle.nntp_theory.specs.{Together.{is_possible, MeetsDemand, GiveOne, denies_group, number_in}, Conflict.{widest, the_group, Point, Step, Group, Number}}
-use Rattle.nntp_theory.{specs.Conflict.{Count, First, IdOf, PlaceOf, rank, ConflictAt, AreTooMany}, proofs.Members.{all_at, all_from, found_in}}
-use Rattle.nntp_theory.proofs.{Conflicts.{at_point}, PointsByRank.{of_rank}, Together.{FactsJoin.{asks_append}, FactsOfASpoolStand.{same_itself}}}
-use Rattle.nntp_theory.proofs.Together.TwoListsOfFacts.{give_one_both, give_same_of_both, none_if}
+use Rattle.nntp_theory.specs.{Given.{asks_of, shows_group, is_shown_group, first_given, is_known, is_denied, demand, IsGivenNumber}, Together.{is_possible}}
+use Rattle.nntp_theory.specs.{Together.{MeetsDemand, GiveOne, denies_group}, Conflict.{widest, the_group, Point, Step, Group, Number, Count, First, rank}}
+use Rattle.nntp_theory.{specs.Conflict.{ConflictAt, AreTooMany}, proofs.{Members.{all_at, all_from, found_in}, Conflicts.{at_point}, PointsByRank.{of_rank}}}
+use Rattle.nntp_theory.proofs.Together.{FactsJoin.{asks_append}, FactsOfASpoolStand.{same_itself}}
 use Rattle.nntp_numbers.specs.Inner.Part.{Says}
-use Rattle.nntp_facts.specs.Inner.{Kept.{Kept, id_of, place_of}, Saying.{OfGroup, asked_id, IsAlone}, ListedGroups.{is_listed, MayList, NoneIsMissing}}
-use Rattle.nntp_facts.specs.Inner.Points.{Statement, TellsAlone, IsPointOf, IsPointIn, IsBeside, IsAbout, is_impossible, shows_name, denies_name, id_told}
-use Rattle.nntp_facts.{specs.Inner.Points.{place_told, bounds_of}, proofs.Keeping.ListedGroups.{no_bounds, bounds_at}}
-use Rattle.nntp_facts.proofs.PointsFound.StatementsRead.{shown_told, denied_told, asks_some, asks_listed, asks_none, id_given, place_given}
+use Rattle.nntp_facts.specs.Inner.{Kept.{Kept}, Saying.{OfGroup, asked_id, IsAlone}, ListedGroups.{is_listed, MayList, NoneIsMissing}, Points.{Statement}}
+use Rattle.nntp_facts.specs.Inner.Points.{TellsAlone, IsPointOf, IsPointIn, IsBeside, IsAbout, is_impossible, shows_name, denies_name, bounds_of}
+use Rattle.nntp_facts.proofs.{Keeping.ListedGroups.{no_bounds, bounds_at}, PointsFound.StatementsRead.{shown_told, denied_told, asks_some, asks_listed}}
+use Rattle.nntp_facts.proofs.PointsFound.StatementsRead.{asks_none}
 
 -- an ask can't be met
 abbrev pub cannot : Ask → Bool
@@ -188,76 +187,6 @@ module _ (profile : Profile) (facts : List Fact) (k : Kept) (t : Statement) (mor
 
   pub no_numbers_free : (n : ℕ) → 1 < n → n < 5 → t.saying.group ≡ None → t.saying.groups ≡ None → IsFree n
   no_numbers_free n low high e none = each_free n low high (λ name. inl (asks_none profile t more h.tells e none name))
-
-  -- ---- ids
-
-  once_ids : (name : Name) (n : ℕ) → GiveOne (id_in name n) more
-  once_ids name n = alone_once profile (id_in name n) (λ name. refl) (λ name ask. refl) t more h.tells (h.tells.agree.ids name n)
-
-  once_places : (name : Name) (id : Id) → GiveOne (number_in name id) more
-  once_places name id = alone_once profile (number_in name id) (λ name. refl) (λ name ask. refl) t more h.tells (h.tells.agree.ids_once name id)
-
-  pub id_free : ((name : Name) (n : ℕ) → IfSome (id_told name n t) (λ x. IfSome (first_given (id_in name n) facts) (λ y. x ≡ y))) → IsFree 5
-  id_free same = of_rank Free 5 (λ name n c. c (give_one_both (id_in name n) facts more (h.together.ids name n) (once_ids name n)
-      (subst (λ o. IfSome o (λ x. IfSome (first_given (id_in name n) facts) (λ y. x ≡ y))) (sym (id_given profile t more h.tells name n)) (same name n))))
-
-  pub place_free : ((name : Name) (id : Id) → IfSome (place_told name id t) (λ x. IfSome (first_given (number_in name id) facts) (λ y. x ≡ y))) → IsFree 6
-  place_free same = of_rank Free 6 (λ name id c. c (give_one_both (number_in name id) facts more (h.together.ids_once name id) (once_places name id)
-      (subst (λ o. IfSome o (λ x. IfSome (first_given (number_in name id) facts) (λ y. x ≡ y))) (sym (place_given profile t more h.tells name id)) (same name id))))
-
-  -- what is given where the answer shows no id, or one at a number
-  pub no_ids : t.saying.group ≡ None → IsFree 5
-  no_ids e = grind (arith, id_free)
-
-  pub no_id : (g : OfGroup) → t.saying.group ≡ Some g → g.id ≡ None → IsFree 5
-  no_id g e is = grind (arith, id_free, none_if)
-
-  id_here : (g : OfGroup) (n : ℕ) (id : Id) (name : Name) (m : ℕ) → t.saying.group ≡ Some g → g.id ≡ Some (n, id) → id_told name m t ≡ cond (is_same g.name name) (cond (n == m) (Some id) None) None
-  id_here g n id name m e is = ap (λ o. option_map_or (λ h. cond (is_same h.name name) (id_of h.id m) None) o None) e ∙ ap (λ o. cond (is_same g.name name) (id_of o m) None) is
-
-  pub other_id : (g : OfGroup) (n : ℕ) (id : Id) → t.saying.group ≡ Some g → g.id ≡ Some (n, id) → (IfSome (first_given (id_in g.name n) facts) (λ y. id ≡ y) → ⊥) → ConflictAt all (IdOf g.name n)
-  other_id g n id e is other one = other (subst (λ o. IfSome o (λ x. IfSome (first_given (id_in g.name n) facts) (λ y. x ≡ y)))
-      (id_given profile t more h.tells g.name n ∙ id_here g n id g.name n e is ∙ (λ i. cond (same_itself g.name i) (cond (eq-eqb n n refl i) (Some id) None) None))
-      (give_same_of_both (id_in g.name n) facts more one))
-
-  pub same_id : (g : OfGroup) (n : ℕ) (id : Id) → t.saying.group ≡ Some g → g.id ≡ Some (n, id) → IfSome (first_given (id_in g.name n) facts) (λ y. id ≡ y) → IsFree 5
-  same_id g n id e is same = id_free (λ name m. subst (λ o. IfSome o (λ x. IfSome (first_given (id_in name m) facts) (λ y. x
-      ≡ y))) (sym (id_here g n id name m e is)) (by name m (is_same g.name name) refl (n == m) refl))
-    where
-      by : (name : Name) (m : ℕ) (a : Bool) → is_same g.name name ≡ a → (b : Bool) → (n == m) ≡ b
-          → IfSome (cond a (cond b (Some id) None) None) (λ x. IfSome (first_given (id_in name m) facts) (λ y. x ≡ y))
-      by name m true s true at = subst (λ name. IfSome (first_given (id_in name m) facts) (λ y. id ≡ y)) (same_text g.name name (sym s))
-          (subst (λ m. IfSome (first_given (id_in g.name m) facts) (λ y. id ≡ y)) (eqb-true n m at) same)
-      by name m true s false at = tt
-      by name m false s b at = tt
-
-  -- the same of its number
-  pub no_places : t.saying.group ≡ None → IsFree 6
-  no_places e = grind (arith, place_free)
-
-  pub no_place : (g : OfGroup) → t.saying.group ≡ Some g → g.id ≡ None → IsFree 6
-  no_place g e is = grind (arith, place_free, none_if)
-
-  place_here : (g : OfGroup) (n : ℕ) (id : Id) (name : Name) (other : Id) → t.saying.group ≡ Some g → g.id ≡ Some (n, id)
-      → place_told name other t ≡ cond (is_same g.name name) (cond (is_same id other) (Some n) None) None
-  place_here g n id name other e is = ap (λ o. option_map_or (λ h. cond (is_same h.name name) (place_of h.id other) None) o None) e ∙ ap (λ o. cond (is_same g.name name) (place_of o other) None) is
-
-  pub other_place : (g : OfGroup) (n : ℕ) (id : Id) → t.saying.group ≡ Some g → g.id ≡ Some (n, id) → (IfSome (first_given (number_in g.name id) facts) (λ y. n ≡ y) → ⊥)
-      → ConflictAt all (PlaceOf g.name id)
-  other_place g n id e is other one = other (subst (λ o. IfSome o (λ x. IfSome (first_given (number_in g.name id) facts) (λ y. x ≡ y)))
-      (place_given profile t more h.tells g.name id ∙ place_here g n id g.name id e is ∙ (λ i. cond (same_itself g.name i) (cond (same_itself id i) (Some n) None) None))
-      (give_same_of_both (number_in g.name id) facts more one))
-
-  pub same_place : (g : OfGroup) (n : ℕ) (id : Id) → t.saying.group ≡ Some g → g.id ≡ Some (n, id) → IfSome (first_given (number_in g.name id) facts) (λ y. n ≡ y) → IsFree 6
-  same_place g n id e is same = place_free (λ name other. subst (λ o. IfSome o (λ x. IfSome (first_given (number_in name other) facts) (λ y. x
-      ≡ y))) (sym (place_here g n id name other e is)) (by name other (is_same g.name name) refl (is_same id other) refl))
-    where
-      by : (name : Name) (other : Id) (a : Bool) → is_same g.name name ≡ a → (b : Bool) → is_same id other ≡ b
-          → IfSome (cond a (cond b (Some n) None) None) (λ x. IfSome (first_given (number_in name other) facts) (λ y. x ≡ y))
-      by name other true s true at = subst (λ name. IfSome (first_given (number_in name other) facts) (λ y. n ≡ y)) (same_text g.name name (sym s))
-          (subst (λ other. IfSome (first_given (number_in g.name other) facts) (λ y. n ≡ y)) (same_text id other (sym at)) same)
-      by name other true s false at = tt
-      by name other false s b at = tt
 
   -- ---- what is found
 

@@ -1,13 +1,14 @@
 -- What a bad answer and accepted ones say, each by itself, as points of conflict are looked for.
-use Rattle.std.specs.Prelude.{◌≡◌, true, false, ◌<◌, ◌||◌, ◌&&◌, not, ℕ, Bool, List, [], ◌∷◌, ◌++◌, Option, None, option_map, if◌then◌else◌, MatchOption}
-use Rattle.std.specs.{List.{AllByRecursion, flat_map}, Option.{option_map_or}}
+use Rattle.std.specs.Prelude.{◌≡◌, true, false, ◌<◌, ◌||◌, ◌&&◌, ◌==◌, not, ℕ, Bool, List, [], ◌∷◌, ◌++◌, Option, None, Some, option_map, if◌then◌else◌}
+use Rattle.std.specs.{Prelude.{MatchOption}, List.{AllByRecursion, flat_map}, Option.{option_map_or}}
 use Rattle.nntp_article.specs.{Article.Parts.{Id}, Session.{Spool.{Name}, Machine.{is_same}}, declared.session.profile.Profile.{Profile}}
 use Rattle.nntp_article.specs.Inner.Misfit.{numbers_of}
 use Rattle.nntp_wire.specs.{Decided.{matches_name}, Listing.{ActiveValue}}
 use Rattle.nntp_said.specs.{Asks.{Ask, Bounds}, Facts.{Fact, group_of}}
-use Rattle.nntp_theory.specs.{Inner.{Together.{IsWellFormed, AgreeWithin, Together}, Conflict.{FitsThere}}, Conflict.{Placed, told, with_group, Point, Number}}
-use Rattle.nntp_theory.specs.Conflict.{Count, First, rank, ConflictAt}
-use Rattle.nntp_facts.specs.Inner.{Kept.{id_of, place_of, Kept, IsKept}, ListedGroups.{is_listed}, Noted.{FactsKept, profile_kept}, Saying.{Saying, Tells}}
+use Rattle.nntp_theory.specs.{Inner.{Together.{IsWellFormed, AgreeWithin, Together, SaidOfArticle}, Conflict.{FitsThere}}, Conflict.{Placed, told, with_group}}
+use Rattle.nntp_theory.specs.Conflict.{Point, Number, Count, First, IdOf, PlaceOf, rank, ConflictAt}
+use Rattle.nntp_facts.specs.Inner.{Kept.{id_of, place_of, Kept, IsKept}, ListedGroups.{is_listed}, ListedOverviews.{id_listed, place_listed}, Noted.{FactsKept}}
+use Rattle.nntp_facts.specs.Inner.{Noted.{profile_kept}, KeptSaying.{said_in, said_listed}, Saying.{Saying, Tells}}
 
 -- ---- what the last answer of a conflict says
 
@@ -42,17 +43,37 @@ abbrev pub denies_name : Name → Statement → Bool
 denies_name name t = option_map_or (λ g. is_same g name) t.saying.there_is_no false || option_map_or (λ l. option_map_or (λ w. matches_name w name) l.0 true && not
     (is_listed l.1 name)) t.saying.groups false
 
+-- the id that a saying shows at a number of its group, by an overview or otherwise
+abbrev pub id_said : Saying → Option (ℕ × Id) → ℕ → Option Id
+id_said s id n = option_map_or (λ o. id_listed o.1 n) s.overviews (id_of id n)
+
 -- the id that it shows at the number
 abbrev pub id_told : Name → ℕ → Statement → Option Id
-id_told name n t = option_map_or (λ g. if is_same g.name name then id_of g.id n else None) t.saying.group None
+id_told name n t = option_map_or (λ g. if is_same g.name name then id_said t.saying g.id n else None) t.saying.group None
+
+-- the number at which a saying shows an id of its group
+abbrev pub place_said : Saying → Option (ℕ × Id) → Id → Option ℕ
+place_said s at id = option_map_or (λ o. place_listed o.1 id) s.overviews (place_of at id)
 
 -- the number at which it shows the id
 abbrev pub place_told : Name → Id → Statement → Option ℕ
-place_told name id t = option_map_or (λ g. if is_same g.name name then place_of g.id id else None) t.saying.group None
+place_told name id t = option_map_or (λ g. if is_same g.name name then place_said t.saying g.id id else None) t.saying.group None
+
+-- what it says of an id: by overviews that it has an article, or otherwise
+abbrev pub said_by : Saying → Id → SaidOfArticle
+said_by s id = option_map_or (λ o. said_listed o.1 id) s.overviews (said_in s.article id)
 
 -- the bounds between which the group is listed
 abbrev pub bounds_of : Name → List ActiveValue → List Ask
 bounds_of name lines = flat_map (λ line. if is_same line.name name then Bounds line.low line.high ∷ [] else []) lines
+
+-- the number as a point, if it has another id than this
+abbrev pub other_id_at : (ℕ → Option Id) → Name → ℕ × Id → Option Point
+other_id_at ids name e = if option_map_or (λ other. is_same other e.1) (ids e.0) true then None else Some (IdOf name e.0)
+
+-- the id, if it has another number than this
+abbrev pub other_place_of : (Id → Option ℕ) → Name → ℕ × Id → Option Point
+other_place_of places name e = if option_map_or (λ other. other == e.0) (places e.1) true then None else Some (PlaceOf name e.1)
 
 -- ---- points
 

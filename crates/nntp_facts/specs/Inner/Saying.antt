@@ -1,11 +1,12 @@
 -- What an answer says of the spool, in parts (RFC 3977, sections 6 and 7.6.3).
 use Rattle.std.specs.Prelude.{◌≡◌, ℕ, true, IsTrue, List, [], ◌∷◌, ◌++◌, map, Option, None, Some, option_map, unwrap_or, IfSome, MatchOption, ⊤, ◌⊎◌}
-use Rattle.nntp_article.specs.{Article.Parts.{Id, Line}, Session.{Spool.{Name}, Machine.{Visible, head_fits}}}
-use Rattle.nntp_wire.specs.{declared.command.What.{What}, Answer.{Response, sends}, Listing.{ActiveValue}}
-use Rattle.nntp_said.specs.{Asks.{Ask, Has}, Facts.{Fact, ThereIs, ThereIsNo, Asks, IdAt, TextIs, NoArticle, GroupsAre, group_of}}
+use Rattle.std.specs.Option.{option_map_or}
+use Rattle.nntp_article.specs.{Article.Parts.{Id, Line}, Session.{Spool.{Name}, Machine.{Visible, head_fits, overview_numbers}}, Inner.Listed.{Lists}}
+use Rattle.nntp_wire.specs.{declared.{command.What.{What}, range.Range.{Range}}, Answer.{Response, sends}, Listing.{ActiveValue, OverviewValue}}
+use Rattle.nntp_said.specs.{Asks.{Ask, ListsIn, Has}, Facts.{Fact, ThereIs, ThereIsNo, Asks, IdAt, TextIs, NoArticle, OverviewsAre, GroupsAre, group_of}}
 use Rattle.nntp_theory.specs.Given.{is_shown_group}
 use Rattle.nntp_numbers.specs.Inner.{Part.{Said, Says}, PartOf.{nothing_said, part_with}, Summary.{AreBounded}}
-use Rattle.nntp_facts.specs.Inner.ListedGroups.{MayList}
+use Rattle.nntp_facts.specs.Inner.{ListedGroups.{MayList}, ListedOverviews.{HaveOwn}}
 
 -- what is said of one group: of its numbers, and the id at a number, if one is shown
 pub record OfGroup : Type 0 where
@@ -19,12 +20,14 @@ pub data OfArticle : Type 0 where
   Exists : OfArticle
   Sends : (what : What) → (lines : Option (List Line)) → OfArticle
 
--- all that an answer says: that there is such a group, or none; what it says of the numbers of one group, and of an id; and the groups that match
+-- all that an answer says: that there is such a group, or none; what it says of the numbers of one group, and of an id; the
+-- overviews of those in a range; and the groups that match
 pub record Saying : Type 0 where
   pub there_is : Option Name
   pub there_is_no : Option Name
   pub group : Option OfGroup
   pub article : Option (Id × OfArticle)
+  pub overviews : Option (Range × List OverviewValue)
   pub groups : Option (Option (List ℕ) × List ActiveValue)
 
 -- ---- as facts
@@ -69,15 +72,28 @@ abbrev pub groups_facts : Option (Option (List ℕ) × List ActiveValue) → Lis
 groups_facts None = []
 groups_facts (Some l) = GroupsAre l.0 l.1 ∷ []
 
--- all that is said, where this is asked of the numbers of the group
+-- all that is said where no overviews are, and this is asked of the numbers of the group
 abbrev pub facts_in : Saying → List Ask → List Fact
 facts_in s asks = sent_facts s.article ++ (there_facts s.there_is ++ (group_facts s.group asks ++ (missing_facts s.there_is_no ++ (lack_facts s.article ++ groups_facts s.groups))))
+
+-- the overviews of numbers of the group
+abbrev pub overviews_facts : Option OfGroup → Range × List OverviewValue → List Fact
+overviews_facts None o = []
+overviews_facts (Some g) o = OverviewsAre g.name o.0 o.1 ∷ []
+
+-- all that is said, where this is asked of the numbers of the group: overviews, or else the other parts
+abbrev pub facts_told : Saying → List Ask → List Fact
+facts_told s asks = option_map_or (overviews_facts s.group) s.overviews (facts_in s asks)
+
+-- the group of whose numbers overviews are said, if any are
+abbrev pub listing_group : Saying → Option OfGroup
+listing_group s = option_map_or (λ o. s.group) s.overviews None
 
 -- ---- made of facts
 
 -- nothing
 abbrev pub nothing : Saying
-nothing = record { there_is = None; there_is_no = None; group = None; article = None; groups = None }
+nothing = record { there_is = None; there_is_no = None; group = None; article = None; overviews = None; groups = None }
 
 -- what is said of the group, or nothing yet of this one
 abbrev pub begun : Option OfGroup → Name → OfGroup
@@ -106,6 +122,7 @@ saying_with shown (Asks name ask) s = record s { group = Some (with_ask shown as
 saying_with shown (IdAt name n id) s = record s { group = Some (with_id shown s.group name n id); article = Some (placed s.article id) }
 saying_with shown (TextIs what id lines) s = record s { article = Some (id, Sends what lines) }
 saying_with shown (NoArticle id) s = record s { article = Some (id, Lacks) }
+saying_with shown (OverviewsAre name r os) s = record s { group = Some (with_ask shown (ListsIn r (overview_numbers os)) (begun s.group name)); overviews = Some (r, os) }
 saying_with shown (GroupsAre p lines) s = record s { groups = Some (p, lines) }
 
 -- all of these are said
@@ -137,6 +154,17 @@ pub record IsAlone (s : Saying) : Type 0 where
   pub there_is_no : s.there_is_no ≡ None
   pub group : s.group ≡ None
   pub article : s.article ≡ None
+  pub overviews : s.overviews ≡ None
+
+-- the overviews are those of the numbers that are listed in the range, each with an id of its own, and nothing is said beside them
+pub record AreOfRange (s : Saying) (asks : List Ask) (o : Range × List OverviewValue) : Type 0 where
+  pub lists : asks ≡ ListsIn o.0 (overview_numbers o.1) ∷ []
+  pub own : HaveOwn o.1
+  pub group : MatchOption s.group ⊥ (λ g. g.id ≡ None)
+  pub there_is : s.there_is ≡ None
+  pub there_is_no : s.there_is_no ≡ None
+  pub article : s.article ≡ None
+  pub groups : s.groups ≡ None
 
 -- an answer that fits says it behind these facts, and asks this of the numbers of the group
 pub record MaySay (facts : List Fact) (s : Saying) (asks : List Ask) : Type 0 where
@@ -145,12 +173,13 @@ pub record MaySay (facts : List Fact) (s : Saying) (asks : List Ask) : Type 0 wh
   pub there : IfSome s.there_is (λ name. MatchOption s.group ⊥ (λ g. g.name ≡ name))
   pub placed : IfSome s.group (λ g. IfSome g.id (λ e. IsToExist s.article e.1))
   pub article : IfSome s.article (MayBeOf s.group)
+  pub overviews : IfSome s.overviews (AreOfRange s asks)
   pub groups : IfSome s.groups (λ l. MayList l.0 l.1 × IsAlone s)
 
 -- the saying tells these facts, behind those before
 pub record Tells (facts : List Fact) (s : Saying) (more : List Fact) : Type 0 where
   pub asks : List Ask
-  pub same : facts_in s asks ≡ more
+  pub same : facts_told s asks ≡ more
   pub may : MaySay facts s asks
 
 -- the saying tells these facts, and its group is the one of whose numbers they speak: it says that there is such a group, or this one is selected
@@ -167,9 +196,9 @@ TellsThere selected s more = (facts : List Fact) → IfSome selected (λ name. i
 abbrev pub IsSelectedShown : Visible → List Fact → Type 0
 IsSelectedShown v facts = IfSome v.selected (λ name. is_shown_group facts name ≡ true)
 
--- these groups are those that match, if the saying lists them
-abbrev pub AreListed : Saying → List ActiveValue → Type 0
-AreListed s groups = IfSome s.groups (λ l. groups ≡ l.1)
+-- these groups are those that match, and these the overviews of the range, if the saying lists them
+abbrev pub AreListed : Saying → Lists → Type 0
+AreListed s lists = IfSome s.groups (λ l. lists.groups ≡ l.1) × IfSome s.overviews (λ o. lists.overviews ≡ o.1)
 
 -- the numbers that an answer shows: the one that it gives, or those that it lists
 abbrev pub numbers_shown : List ℕ → Response → List ℕ

@@ -1,10 +1,10 @@
 -- What the values of src/saying.rt mean.
 use Rattle.std.specs.Prelude.{ℕ, List, Option, option_map}
-use Rattle.nntp_wire.specs.Listing.{ActiveValue, active_groups}
+use Rattle.nntp_wire.specs.{Listing.{ActiveValue, OverviewValue, active_groups, overviews_of}, declared.range.Range.{Range}}
 use Rattle.nntp_article.specs.Article.Parts.{Id}
 use Rattle.nntp_numbers.specs.Inner.PartView.{said}
 use Rattle.nntp_facts.specs.declared.saying.{IdAt.{IdAt}, GroupPart.{GroupPart}, ArticlePart.{ArticlePart, TheVariants.{Lacks, Exists, Sends}}}
-use Rattle.nntp_facts.specs.declared.saying.{ActivePart.{ActivePart}, Saying.{Saying}}
+use Rattle.nntp_facts.specs.declared.saying.{OverviewsPart.{OverviewsPart}, ActivePart.{ActivePart}, Saying.{Saying}}
 use Rattle.nntp_facts.specs.Inner.Saying as said_of
 
 -- the id at a number
@@ -21,6 +21,10 @@ article_said (Lacks id) = (id.now, said_of.Lacks)
 article_said (Exists id) = (id.now, said_of.Exists)
 article_said (Sends id what block) = (id.now, said_of.Sends what (option_map (λ b. b.now) block))
 
+-- the overviews of a range
+abbrev pub overviews_said : OverviewsPart → Range × List OverviewValue
+overviews_said l = (l.range, overviews_of l.block.now)
+
 -- the groups that match
 abbrev pub active_said : ActivePart → Option (List ℕ) × List ActiveValue
 active_said l = (l.wildmat.now, active_groups l.block.now)
@@ -32,5 +36,6 @@ saying_of s = record {
   there_is_no = option_map (λ name. name.now) s.there_is_no;
   group = option_map of_group s.group;
   article = option_map article_said s.article;
+  overviews = option_map overviews_said s.overviews;
   groups = option_map active_said s.groups;
 }

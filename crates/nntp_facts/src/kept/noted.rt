@@ -1,11 +1,11 @@
 //! What an answer says, added to all that was said before.
-ghost use Rattle.std.specs.Prelude.{◌≡◌, IsTrue, List, IfOk, map};
+ghost use Rattle.std.specs.Prelude.{◌≡◌, IsTrue, List, IfOk};
 ghost use Rattle.std.specs.List.{AllByRecursion};
-ghost use Rattle.nntp_wire.specs.Inner.View.{active_value, asked};
+ghost use Rattle.nntp_wire.specs.Inner.View.{asked};
 ghost use Rattle.nntp_wire.specs.Inner.AnswerView.{response};
 ghost use Rattle.nntp_article.specs.declared.session.profile.Profile.{Profile};
 ghost use Rattle.nntp_article.specs.Session.Machine.{Visible, fits};
-ghost use Rattle.nntp_article.specs.Inner.Misfit.{groups_of, numbers_of};
+ghost use Rattle.nntp_article.specs.Inner.Listed.{lists, lists_of};
 ghost use Rattle.nntp_said.specs.Facts.{Fact, here, facts_of};
 ghost use Rattle.nntp_theory.specs.Inner.Together.{IsWellFormed, Together};
 ghost use Rattle.nntp_facts.specs.Inner.Saying.{IsSelectedShown};
@@ -13,16 +13,17 @@ ghost use Rattle.nntp_facts.specs.Inner.Kept.{IsKept, AreAdded};
 
 use crate::kept::Kept;
 use crate::saying::{Saying, numbers_shown};
+use nntp_article::Listed;
 use nntp_said::{Position, facts_of};
-use nntp_wire::{ActiveLine, Answer, Marks, Prompt};
+use nntp_wire::{Answer, Marks, Prompt};
 use std::alloc::{AllocError, Allocator};
 
 impl<A: Allocator + Copy> Kept<A> {
     /// Adds what an answer says that fits, if it stands together with all before, and tells whether it
     /// does. If not, the value stays as it was. After an error it says nothing of use.
     ///
-    /// Marks are read so, this group is selected, and the session stands at the position; `numbers` and
-    /// `groups` are those that the answer lists. Where it says nothing, no saying is made of it.
+    /// Marks are read so, this group is selected, and the session stands at the position; `listed` is
+    /// what the answer lists. Where it says nothing, no saying is made of it.
     pub(crate) fn note_answer<'s>(
         &mut self,
         how: Marks,
@@ -30,12 +31,11 @@ impl<A: Allocator + Copy> Kept<A> {
         at: Position,
         prompt: &'s Prompt<'s>,
         answer: &'s Answer<'s>,
-        numbers: &'s [u64],
-        groups: &[ActiveLine<'_>],
+        listed: &'s Listed<'_, A>,
     ) -> Result<bool, AllocError>
         ensures { IfOk result (λ does. (profile : Profile) (v : Visible) (all : List Fact) → IsTrue (fits profile v (asked prompt.now) (response answer.now))
             → IsSelectedShown v all → selected.now ≡ here v
-            → numbers.now ≡ numbers_of (response answer.now) → map active_value groups.now ≡ groups_of (response answer.now)
+            → lists listed.now ≡ lists_of (response answer.now)
             → IsKept all self.old → Together all → AllByRecursion IsWellFormed (facts_of how v at (asked prompt.now) (response answer.now))
             → AreAdded all (facts_of how v at (asked prompt.now) (response answer.now)) self.old self.new does) }
     {
@@ -43,7 +43,7 @@ impl<A: Allocator + Copy> Kept<A> {
         if facts.first().is_none() {
             return Ok(true);
         }
-        let saying = Saying::by(&mut facts, numbers_shown(answer, numbers));
-        self.note(&saying, groups)
+        let saying = Saying::by(&mut facts, numbers_shown(answer, listed.numbers()));
+        self.note(&saying, listed)
     }
 }

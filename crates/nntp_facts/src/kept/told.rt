@@ -47,7 +47,7 @@ impl<A: Allocator + Copy> Kept<A> {
         if !self.tell_group(limit, &saying, answer.selected())? {
             return Ok(false);
         }
-        self.note(&saying, listed.groups())
+        self.note(&saying, &listed)
     }
 
     /// Adds that there is the group of which the answer speaks, if it speaks of one and this stands
@@ -75,7 +75,7 @@ impl<A: Allocator + Copy> Kept<A> {
             → AreAdded facts (a_group profile name.now) self.old self.new does) }
     {
         let numbers = NumbersPart::of_widest(limit);
-        self.note(&Saying::selects(name, numbers), &[])
+        self.note(&Saying::selects(name, numbers), &Listed::Nothing)
     }
 
     /// Adds what the answer at the place says by itself, as [`tell`](Kept::tell) does. Where there is

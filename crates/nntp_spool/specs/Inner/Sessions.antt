@@ -1,8 +1,8 @@
 -- What is said with the words of `Sessions.antt`, and needn't be believed.
 use Rattle.std.specs.{Prelude.{true, ◌≡◌, ℕ, List, [], ◌∷◌, ⊤}, List.{AllByRecursion}}
 use Rattle.nntp_pair.specs.Pairing.{Paired, asked_at}
-use Rattle.nntp_article.specs.Session.{Spool.{Spool}, Machine.{State, is_ascending, names_differ, overview_numbers, MayAnswer, after}}
-use Rattle.nntp_article.specs.{Inner.Listed.{Lists}, declared.session.profile.Profile.{Profile}}
+use Rattle.nntp_article.specs.{Session.{Spool.{Spool}, Machine.{State, is_ascending, names_differ, overview_numbers, MayAnswer, after}}, Inner.Listed.{Lists}}
+use Rattle.nntp_article.specs.declared.session.profile.Profile.{Profile}
 use Rattle.nntp_said.specs.{Asks.{Ask, ListsIn}, Facts.{Fact, Asks, OverviewsAre, GroupsAre}}
 
 -- the numbers that are listed, if any are, are these, and ascend

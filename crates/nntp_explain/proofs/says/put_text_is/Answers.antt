@@ -2,8 +2,7 @@ use Rattle.std.{proofs.Common.{◌∙◌, ap, refl, sym}, specs.Prelude.{codes, 
 use Rattle.nntp_said.specs.Facts.{TextIs}
 use Rattle.nntp_facts.specs.Inner.PointView.{point_of}
 use Rattle.nntp_article.specs.Session.Machine.{is_same}
-use Rattle.nntp_explain.specs.Reasons.{octets_line}
-use Rattle.nntp_explain.proofs.SaysLemmas.{on_ok, line_told, told_article}
+use Rattle.nntp_explain.{specs.Reasons.{octets_line}, proofs.SaysLemmas.{on_ok, line_told, told_article}}
 use Rattle.nntp_explain.proofs.says.put_text_is.Goals as goal
 
 pub returns-in-Article : goal.returns-in-Article

@@ -2,6 +2,7 @@
 ghost use Rattle.std.specs.Prelude.{◌≡◌, ◌++◌, if◌then◌else◌, false, List, None, Some, MatchOption, option_map};
 ghost use Rattle.std.specs.Option.{option_map_or};
 ghost use Rattle.std.specs.FinMap.{get};
+ghost use Rattle.nntp_wire.specs.Listing.{overviews_of};
 ghost use Rattle.nntp_facts.specs.Inner.Articles.{is_there};
 ghost use Rattle.nntp_theory.specs.Conflict.{Article, HeadOf, BodyOf};
 ghost use Rattle.nntp_theory.specs.Given.{first_given, head_in, body_in};
@@ -18,6 +19,7 @@ use crate::kept::Kept;
 use crate::point::Point;
 use crate::points::Statement;
 use crate::saying::ArticlePart;
+use nntp_wire::Block;
 use std::alloc::Allocator;
 
 impl<A: Allocator> Kept<A> {
@@ -27,12 +29,29 @@ impl<A: Allocator> Kept<A> {
         ensures { (profile : Profile) (facts more : List Fact) → IsBeside profile facts self.now (statement_of told.now) more
             → IsPointOf (facts ++ more) 7 (option_map point_of result) }
     {
+        if let Some(list) = &told.saying.overviews {
+            return self.lacked_listed_article(list.block);
+        }
         match &told.saying.article {
             None => None,
             Some(ArticlePart::Lacks(id)) => self.shown_article(*id),
             Some(ArticlePart::Exists(id)) => self.lacked_article(*id),
             Some(ArticlePart::Sends { id, .. }) => self.lacked_article(*id),
         }
+    }
+
+    /// Returns the first id of an overview of which it is kept that it has no article.
+    fn lacked_listed_article<'s>(&self, block: &Block<'s>) -> Option<Point<'s>>
+        ensures { option_map point_of result ≡ first_given (λ o. if option_map_or (λ a. a.is_denied) (get self.now.articles o.id) false then Some
+            (Article o.id) else None) (overviews_of block.now) }
+    {
+        for overview in block.overviews() {
+            let point = self.lacked_article(overview.id.as_str());
+            if point.is_some() {
+                return point;
+            }
+        }
+        None
     }
 
     /// Returns the id, if it is kept that it has an article.

@@ -1,18 +1,23 @@
 //! Ids and numbers that are kept otherwise.
-ghost use Rattle.std.specs.Prelude.{◌≡◌, ◌↔◌, ◌++◌, List, IsTrue, IfSome, option_map, option_copied};
+ghost use Rattle.std.specs.Prelude.{◌≡◌, ◌++◌, List, option_map};
+ghost use Rattle.nntp_wire.specs.Listing.{overviews_of};
 ghost use Rattle.nntp_article.specs.declared.session.profile.Profile.{Profile};
+ghost use Rattle.nntp_article.specs.Session.Spool.{Name};
 ghost use Rattle.nntp_said.specs.Facts.{Fact};
-ghost use Rattle.nntp_facts.specs.Inner.Points.{IsBeside, IsPointOf};
+ghost use Rattle.nntp_theory.specs.Given.{first_given};
+ghost use Rattle.nntp_facts.specs.Inner.Kept.{AreKept, Told};
+ghost use Rattle.nntp_facts.specs.Inner.Points.{IsBeside, IsPointOf, other_id_at, other_place_of};
 ghost use Rattle.nntp_facts.specs.Inner.PointView.{point_of};
 ghost use Rattle.nntp_facts.specs.Inner.StatementView.{statement_of};
 
 use crate::kept::Kept;
 use crate::point::Point;
 use crate::points::Statement;
+use nntp_wire::Block;
 use std::alloc::Allocator;
 
 impl<A: Allocator> Kept<A> {
-    /// Returns the number at which the answer shows an id, if another id is kept there.
+    /// Returns the first number at which the answer shows an id, and another one is kept.
     pub(crate) fn other_id<'s>(&self, told: &Statement<'s>) -> Option<Point<'s>>
         ensures { (profile : Profile) (facts more : List Fact) → IsBeside profile facts self.now (statement_of told.now) more
             → IsPointOf (facts ++ more) 5 (option_map point_of result) }
@@ -20,17 +25,40 @@ impl<A: Allocator> Kept<A> {
         let Some(group) = &told.saying.group else {
             return None;
         };
-        let at = group.id?;
-        if is_id(self.groups.id(group.name, at.number), at.id) {
-            return None;
+        if let Some(list) = &told.saying.overviews {
+            return self.other_listed_id(group.name, list.block);
         }
-        Some(Point::IdOf {
-            name: group.name,
-            number: at.number,
-        })
+        let at = group.id?;
+        self.other_id_at(group.name, at.number, at.id)
     }
 
-    /// Returns the id that the answer shows, if it is kept at another number.
+    /// Returns the first number of an overview at which another id is kept.
+    fn other_listed_id<'s>(&self, name: &'s [u8], block: &Block<'s>) -> Option<Point<'s>>
+        ensures { (tells : Name → Told) → AreKept tells self.now.groups → option_map point_of result
+            ≡ first_given (λ o. other_id_at (tells name.now).ids name.now (o.number, o.id)) (overviews_of block.now) }
+    {
+        for overview in block.overviews() {
+            let point = self.other_id_at(name, overview.number, overview.id.as_str());
+            if point.is_some() {
+                return point;
+            }
+        }
+        None
+    }
+
+    /// Returns the number, if another id than this is kept there.
+    fn other_id_at<'s>(&self, name: &'s [u8], number: u64, id: &str) -> Option<Point<'s>>
+        ensures { (tells : Name → Told) → AreKept tells self.now.groups
+            → option_map point_of result ≡ other_id_at (tells name.now).ids name.now (number, id.now) }
+    {
+        if self.groups.may_have(name, number, id) {
+            None
+        } else {
+            Some(Point::IdOf { name, number })
+        }
+    }
+
+    /// Returns the first id that the answer shows, and that is kept at another number.
     pub(crate) fn other_place<'s>(&self, told: &Statement<'s>) -> Option<Point<'s>>
         ensures { (profile : Profile) (facts more : List Fact) → IsBeside profile facts self.now (statement_of told.now) more
             → IsPointOf (facts ++ more) 6 (option_map point_of result) }
@@ -38,33 +66,39 @@ impl<A: Allocator> Kept<A> {
         let Some(group) = &told.saying.group else {
             return None;
         };
-        let at = group.id?;
-        if is_number(self.groups.place(group.name, at.id), at.number) {
-            return None;
+        if let Some(list) = &told.saying.overviews {
+            return self.other_listed_place(group.name, list.block);
         }
-        Some(Point::PlaceOf {
-            name: group.name,
-            id: at.id.as_bytes(),
-        })
+        let at = group.id?;
+        self.other_place_of(group.name, at.number, at.id)
     }
-}
 
-/// Tells whether the id that is kept is this one, if one is.
-fn is_id(kept: Option<&str>, id: &str) -> bool
-    ensures { IsTrue result ↔ IfSome (option_copied kept.entry) (λ other. id.now ≡ other) }
-{
-    match kept {
-        Some(other) => other == id,
-        None => true,
+    /// Returns the first id of an overview that is kept at another number.
+    fn other_listed_place<'s>(&self, name: &'s [u8], block: &Block<'s>) -> Option<Point<'s>>
+        ensures { (tells : Name → Told) → AreKept tells self.now.groups → option_map point_of result
+            ≡ first_given (λ o. other_place_of (tells name.now).places name.now (o.number, o.id)) (overviews_of block.now) }
+    {
+        for overview in block.overviews() {
+            let point = self.other_place_of(name, overview.number, overview.id.as_str());
+            if point.is_some() {
+                return point;
+            }
+        }
+        None
     }
-}
 
-/// Tells whether the number that is kept is this one, if one is.
-fn is_number(kept: Option<u64>, number: u64) -> bool
-    ensures { IsTrue result ↔ IfSome kept (λ other. number ≡ other) }
-{
-    match kept {
-        Some(other) => other == number,
-        None => true,
+    /// Returns the id, if it is kept at another number than this.
+    fn other_place_of<'s>(&self, name: &'s [u8], number: u64, id: &'s str) -> Option<Point<'s>>
+        ensures { (tells : Name → Told) → AreKept tells self.now.groups
+            → option_map point_of result ≡ other_place_of (tells name.now).places name.now (number, id.now) }
+    {
+        if self.groups.may_stand_at(name, number, id) {
+            None
+        } else {
+            Some(Point::PlaceOf {
+                name,
+                id: id.as_bytes(),
+            })
+        }
     }
 }

@@ -1,7 +1,6 @@
 use Rattle.std.{proofs.{Common.{◌≡◌, true, false, Option, is_some, refl, sym, ap, subst, ◌∙◌, arith}, Math.Path.{ap₂}}, specs.Prelude.{is_none}}
 use Rattle.nntp_wire.specs.Inner.{View.{asked}, AnswerView.{response}}
-use Rattle.nntp_article.specs.{Session.Machine.{visible_after}, Inner.{Misfit.{numbers_of, groups_of}, Listed.{Lists}}}
-use Rattle.nntp_article.proofs.SessionLemmas.Misfits.{fits_by_reason}
+use Rattle.nntp_article.{specs.{Session.Machine.{visible_after}, Inner.Listed.{lists_of}}, proofs.SessionLemmas.Misfits.{fits_by_reason}}
 use Rattle.nntp_said.specs.Asks.{position_after}
 use Rattle.nntp_facts.{specs.Inner.{Kept.{AreAdded}, Noted.{profile_kept, HasNotedBehind}}, proofs.Keeping.NotedExchange.{unfit, weighed, refused, accepted}}
 use Rattle.nntp_facts.proofs.facts.Facts.note_listing.Goals as goal
@@ -34,8 +33,7 @@ returns-then-not-branch g c profile earlier past stands =
     refused profile _ _ c.note_answer.new.self earlier past pair _ _ is w before c.prompt-prompt.ensures says.value (λ all shown kept together formed.
     subst (AreAdded all _ c.self.inside.kept c.note_answer.new.self) c.if-not-branch.true
     (c.in_ok-note_answer.ensures c.profile-profile.result c.self.inside.visible all (sym fits_so ∙ does) shown c.selected_name-here.ensures
-    (c.numbers-numbers.ensures ∙ ap (λ (l : Lists). l.numbers) c.requires.listed ∙ ap numbers_of (sym says.value))
-    (c.groups-groups.ensures ∙ ap (λ (l : Lists). l.groups) c.requires.listed ∙ ap groups_of (sym says.value)) kept together formed))
+    (c.requires.listed ∙ ap lists_of (sym says.value)) kept together formed))
 
 pub returns : goal.returns
 returns g c profile earlier past stands =
@@ -57,5 +55,4 @@ returns g c profile earlier past stands =
     }) (λ all shown kept together formed.
     subst (AreAdded all _ c.self.inside.kept c.note_answer.new.self) c.if-not-branch.false
     (c.in_ok-note_answer.ensures c.profile-profile.result c.self.inside.visible all (sym fits_so ∙ does) shown c.selected_name-here.ensures
-    (c.numbers-numbers.ensures ∙ ap (λ (l : Lists). l.numbers) c.requires.listed ∙ ap numbers_of (sym says.value))
-    (c.groups-groups.ensures ∙ ap (λ (l : Lists). l.groups) c.requires.listed ∙ ap groups_of (sym says.value)) kept together formed))
+    (c.requires.listed ∙ ap lists_of (sym says.value)) kept together formed))

@@ -1,11 +1,18 @@
 use Rattle.std.{proofs.Common.{rules, ◌≡◌, cond, ap, refl, sym, ◌∙◌, None, Some}, specs.Prelude.{option_map}}
-use Rattle.nntp_theory.specs.Conflict.{Article}
-use Rattle.nntp_facts.specs.Inner.{Saying.{Lacks, Exists, Sends}, SayingView.{article_said}, PointView.{point_of}, StatementView.{statement_of}}
-use Rattle.nntp_facts.proofs.{Keeping.KeptArticles.{shown_kept, denied_kept}, PointsFound.ArticlesBeside.{lacks, has, no_article}}
+use Rattle.nntp_theory.specs.{Given.{first_given}, Conflict.{Article}}
+use Rattle.nntp_facts.specs.Inner.{Saying.{Lacks, Exists, Sends}, SayingView.{article_said, overviews_said}, PointView.{point_of}, StatementView.{statement_of}}
+use Rattle.nntp_facts.proofs.{Keeping.KeptArticles.{shown_kept, denied_kept}, PointsFound.ArticlesBeside.{lacks, has, listed_article, no_article}}
 use Rattle.nntp_facts.proofs.kept.Kept.denied_article.Goals as goal
 
+pub returns-in-Some : goal.returns-in-Some
+returns-in-Some g c profile facts more h =
+    listed_article profile facts c.args.self.now (statement_of c.args.told.now) more h (overviews_said c.in-Some.list) (ap (option_map overviews_said) c.in-Some.is)
+    (option_map point_of c.lacked_listed_article.result) (c.lacked_listed_article.ensures
+    ∙ (λ i. first_given (λ o. cond (sym (denied_kept facts c.args.self.now.articles o.id h.kept.articles) i) (Some (Article o.id)) None) (overviews_said c.in-Some.list).1))
+
 pub returns-in-None : goal.returns-in-None
-returns-in-None g c profile facts more h = no_article profile facts c.args.self.now (statement_of c.args.told.now) more h (ap (option_map article_said) c.in-None.is)
+returns-in-None g c profile facts more h =
+    no_article profile facts c.args.self.now (statement_of c.args.told.now) more h (ap (option_map overviews_said) c.in_default.is) (ap (option_map article_said) c.in-None.is)
 
 pub returns-in-Some-Lacks : goal.returns-in-Some-Lacks
 returns-in-Some-Lacks g c profile facts more h =

@@ -1,29 +1,24 @@
-use Rattle.std.{proofs.{Common.{Option, ◌≡◌, ◌++◌, ap, refl, sym, subst, ◌∙◌}, lemmas.Bool.{true≢false}}, specs.Prelude.{IfSome, option_map}}
-use Rattle.nntp_article.specs.Article.Parts.{Id}
-use Rattle.nntp_facts.specs.Inner.{Kept.{IsKept, told}, Points.{IsPointOf}, PointView.{point_of}, SayingView.{of_group, id_at}, StatementView.{statement_of}}
-use Rattle.nntp_facts.proofs.PointsFound.KindsOfPoints.{no_ids, no_id, other_id, same_id}
+use Rattle.std.{proofs.Common.{ap, sym, subst, ◌++◌}, specs.Prelude.{option_map}}
+use Rattle.nntp_facts.specs.Inner.{Kept.{told}, Points.{IsPointOf}, PointView.{point_of}, SayingView.{of_group, id_at, overviews_said}}
+use Rattle.nntp_facts.{specs.Inner.StatementView.{statement_of}, proofs.PointsFound.IdsBeside.{no_ids, no_id, id_point, listed_id_point}}
 use Rattle.nntp_facts.proofs.kept.Kept.other_id.Goals as goal
 
 pub returns-in_default : goal.returns-in_default
 returns-in_default g c profile facts more h = no_ids profile facts c.args.self.now (statement_of c.args.told.now) more h (ap (option_map of_group) c.in_default.is)
 
+pub returns-in-Some-overviews : goal.returns-in-Some-overviews
+returns-in-Some-overviews g c profile facts more h =
+    listed_id_point profile facts c.args.self.now (statement_of c.args.told.now) more h (overviews_said c.in-Some-overviews.list) (ap (option_map overviews_said) c.in-Some-overviews.is) (of_group c.in-Some.group)
+    (ap (option_map of_group) c.in-Some.is) (option_map point_of c.other_listed_id.result) (c.other_listed_id.ensures (told facts) h.kept.groups)
+
 pub returns-in_err-at : goal.returns-in_err-at
 returns-in_err-at g c profile facts more h =
     subst (λ o. IsPointOf (facts ++ more) 5 (option_map point_of o)) (sym c.from_residual.ensures)
-    (no_id profile facts c.args.self.now (statement_of c.args.told.now) more h (of_group c.in-Some.group) (ap (option_map of_group) c.in-Some.is) (ap id_at c.in_err-at.was))
-
-pub returns-then-is_id : goal.returns-then-is_id
-returns-then-is_id g c profile facts more h =
-    let k = subst (IsKept facts) (sym c.self.view_is) h.kept in
-    same_id profile facts c.args.self.now (statement_of c.args.told.now) more h (of_group c.in-Some.group) c.in_ok-at.at.number c.in_ok-at.at.id.now
-    (ap (option_map of_group) c.in-Some.is) (ap id_at c.in_ok-at.was)
-    (subst (λ (o : Option Id). IfSome o (λ y. c.in_ok-at.at.id.now ≡ y)) (c.id.ensures (told facts) k.groups) (c.is_id.ensures.0 c.if-is_id.true))
+    (no_id profile facts c.args.self.now (statement_of c.args.told.now) more h (of_group c.in-Some.group) (ap (option_map of_group) c.in-Some.is) (ap (option_map overviews_said) c.in_default-overviews.is)
+    (ap id_at c.in_err-at.was))
 
 pub returns : goal.returns
 returns g c profile facts more h =
-    let k = subst (IsKept facts) (sym c.self.view_is) h.kept in (
-      other_id profile facts c.args.self.now (statement_of c.args.told.now) more h (of_group c.in-Some.group) c.in_ok-at.at.number c.in_ok-at.at.id.now
-          (ap (option_map of_group) c.in-Some.is) (ap id_at c.in_ok-at.was)
-          (λ same. true≢false (sym (c.is_id.ensures.1 (subst (λ (o : Option Id). IfSome o (λ y. c.in_ok-at.at.id.now ≡ y)) (sym (c.id.ensures (told facts) k.groups)) same)) ∙ c.if-is_id.false)),
-      refl,
-    )
+    id_point profile facts c.args.self.now (statement_of c.args.told.now) more h (of_group c.in-Some.group) (c.in_ok-at.at.number, c.in_ok-at.at.id.now)
+    (ap (option_map of_group) c.in-Some.is) (ap (option_map overviews_said) c.in_default-overviews.is) (ap id_at c.in_ok-at.was) (option_map point_of c.other_id_at.result)
+    (c.other_id_at.ensures (told facts) h.kept.groups)

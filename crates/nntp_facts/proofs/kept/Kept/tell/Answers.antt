@@ -31,4 +31,4 @@ returns g c = if_ok c.note.result (λ does adds facts kept together fit.
     (c.in_ok-tell_group.ensures profile facts own refl kept together (subst (λ o. TellsThere o saying own) (sym c.selected.ensures) there)) in
     let formed = c.answer-response.ensures.well_formed profile.marks (record start.visible { selected = a.selected }) a.position in
     answer_told profile a facts together c.tell_group.new.self c.note.new.self saying does group.0 group.1 formed c.answer-response.ensures.few_lines there
-    (adds (c.of-saying.ensures.groups _ (c.groups.ensures ∙ ap (λ (l : Lists). l.groups) c.in_ok-listed.ensures)))) c.note.ensures
+    (adds (c.of-saying.ensures.listed _ c.in_ok-listed.ensures))) c.note.ensures

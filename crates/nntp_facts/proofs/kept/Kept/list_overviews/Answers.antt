@@ -1,0 +1,23 @@
+use Rattle.std.proofs.{Common.{◌≡◌, true, None, map, sym, ap, subst, ◌∙◌}, lemmas.Bool.{true≢false}}
+use Rattle.nntp_wire.specs.Inner.View.{overview_value}
+use Rattle.nntp_theory.proofs.OkResults.{on_ok}
+use Rattle.nntp_facts.specs.Inner.{Kept.{Kept as KeptValue, IsKept, Told, told, Agree, MayShow, Changes, with_part}, KeptSaying.{IsTextOf}}
+use Rattle.nntp_facts.{specs.Inner.SayingView.{of_group}, proofs.Keeping.OverviewsJoin.{asks, numbers_told, numbers_change, here_told, all_given}}
+use Rattle.nntp_facts.proofs.Keeping.OverviewsJoin.{overviews_kept}
+use Rattle.nntp_facts.proofs.kept.Kept.list_overviews.Goals as goal
+
+pub returns : goal.returns
+returns g c = on_ok c.give_all.result (λ given facts range kept together may joins.
+    let k = subst (IsKept facts) (sym c.self.view_is) kept in
+    let name = (of_group c.args.group.now).name in
+    let os = map overview_value c.args.overviews.now in
+    let tells = numbers_told facts name range os in
+    let here = here_told facts name range os in
+    let shown : (tells name).is_shown ≡ true = ap (λ (t : Told). t.is_shown) here in
+    let numbers = c.in_ok-add.ensures (told facts) (asks facts name range os) (subst (IsTextOf None) (sym may.id) tt) k.groups may.numbers
+    (λ not_shown. absurd (true≢false (sym may.shown ∙ not_shown)))
+    (subst (Agree (told facts name).ids (told facts name).places) (sym may.id) tt) (subst (MayShow (told facts name)) (sym may.id) tt) tells
+    (subst (λ id. Changes (told facts) tells name (with_part (told facts name) (asks facts name range os) id)) (sym may.id) (numbers_change facts name range os)) in
+    let gives = given facts tells numbers k.articles shown may.own
+    (all_given facts name range os together may.own joins tells shown (ap (λ (t : Told). t.ids) here) (ap (λ (t : Told). t.places) here)) in
+    overviews_kept facts name range os may.shown c.args.self.now c.give_all.new.self kept (c.give_all.ensures.names ∙ ap (λ (k : KeptValue). k.names) c.self.view_is) gives.0 gives.1) c.give_all.ensures.kept
