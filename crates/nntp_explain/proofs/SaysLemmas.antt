@@ -1,5 +1,5 @@
 -- What lines say, one after the other.
-use Rattle.std.proofs.Common.{arith, ◌≡◌, ap, refl, ℕ, Bool, true, cond, List, [], ◌∷◌, ◌++◌, ◌||◌, Option, append_assoc, append-nil, Result}
+use Rattle.std.proofs.Common.{arith, ◌≡◌, ap, refl, ℕ, Bool, true, cond, List, [], ◌∷◌, ◌++◌, Option, append_assoc, append-nil, Result}
 use Rattle.std.{proofs.lemmas.List.Concat.{flat_map-append}, specs.{Prelude.{OnOk, IsTrue, decimal}, List.{flat_map, list_any}}}
 use Rattle.nntp_article.specs.{Article.Parts.{Id, Line, is_empty, head_part, body_part}, Session.Spool.{Name}}
 use Rattle.nntp_wire.specs.Listing.{ActiveValue}

@@ -1,5 +1,5 @@
 //! What overviews say of one message-id, as `explain` prints it.
-ghost use Rattle.std.specs.Prelude.{◌≡◌, ◌++◌, [], OnOk, option_map};
+ghost use Rattle.std.specs.Prelude.{◌≡◌, ◌++◌, [], OnOk};
 ghost use Rattle.std.specs.Option.{option_map_or};
 ghost use Rattle.nntp_wire.specs.Listing.{overviews_of};
 ghost use Rattle.nntp_theory.specs.Given.{first_given, id_of_overview};
@@ -44,7 +44,7 @@ pub(crate) fn put_overview_of<A: Allocator + Copy>(
 
 /// Returns the id of the first overview at the number.
 fn id_at<'a>(block: &Block<'a>, number: u64) -> Option<MessageId<'a>>
-    ensures { option_map (λ id. id.now) result ≡ first_given (id_of_overview number) (overviews_of block.now) }
+    ensures { result ≡ first_given (id_of_overview number) (overviews_of block.now) }
 {
     for overview in block.overviews() {
         if overview.number == number {

@@ -102,8 +102,8 @@ impl<A: Allocator + Copy> Kept<A> {
         }
     }
 
-    /// Adds what an answer says that lists no groups and no overviews, if it stands together with all before, and
-    /// tells whether it does. After an error the value says nothing of use.
+    /// Adds what an answer says that lists no groups and no overviews, if it stands together with all
+    /// before, and tells whether it does. After an error the value says nothing of use.
     fn note_parts(&mut self, saying: &Saying<'_>) -> Result<bool, AllocError>
         ensures { IfOk result (λ does. (saying_of saying.now).groups ≡ None → (saying_of saying.now).overviews ≡ None
             → (facts more : List Fact) → IsKept facts self.old → Together facts → AllByRecursion IsWellFormed more

@@ -259,7 +259,8 @@ module _ (facts : List Fact) where
 -- facts that fit and are placed stand together, or conflict at a first point
 pub stand_or_conflict : (profile : Profile) (how : Marks) (facts : List Fact) → AllByRecursion (IsFitting profile) facts → AllByRecursion (IsPlaced how facts) facts → AllByRecursion IsWellFormed facts
     → ((point : Point) × IsFirstPoint facts point) ⊎ Together facts
-stand_or_conflict profile how facts fitting placed formed = first_or_none facts how placed given formed (all_from AgreesWithItself facts (λ fact i. agrees fact (all_at (IsFitting profile) fact facts fitting i)))
+stand_or_conflict profile how facts fitting placed formed = first_or_none facts how placed given formed
+    (all_from AgreesWithItself facts (λ fact i. agrees fact (all_at (IsFitting profile) fact facts fitting i)))
   where
     agrees : (fact : Fact) → IsFitting profile fact → AgreesWithItself fact
     agrees (OverviewsAre name r os) f = f.1

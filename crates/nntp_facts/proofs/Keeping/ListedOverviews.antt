@@ -100,7 +100,8 @@ module _ (x : OverviewValue) (xs : List OverviewValue) (own : HaveOwn (x ∷ xs)
   module _ (o : OverviewValue) (i : In o xs) where
     other_number : (x.number == o.number) ≡ false
     other_number = false_from_ne_true (x.number == o.number) (λ e.
-        let less : x.number < o.number = ltb-true x.number o.number (each_of (λ m. nat_lt x.number m) (overview_numbers xs) o.number numbers_parts.0 (in_map (λ (o : OverviewValue). o.number) o xs i)) in
+        let there = in_map (λ (o : OverviewValue). o.number) o xs i in
+        let less : x.number < o.number = ltb-true x.number o.number (each_of (λ m. nat_lt x.number m) (overview_numbers xs) o.number numbers_parts.0 there) in
         let same : x.number ≡ o.number = eqb-true x.number o.number e in omega (arith, less, same))
 
     other_id : is_same x.id o.id ≡ false

@@ -94,7 +94,8 @@ overviews_added facts more s g lists old new does e listed t formed adds =
 
 -- ---- where nothing is listed
 
-module _ (facts more : List Fact) (s : Saying) (no_list : s.groups ≡ None) (plain : s.overviews ≡ None) (t : Tells facts s more) (together : Together facts) (formed : AllByRecursion IsWellFormed more) where
+module _ (facts more : List Fact) (s : Saying) (no_list : s.groups ≡ None) (plain : s.overviews ≡ None) (t : Tells facts s more)
+    (together : Together facts) (formed : AllByRecursion IsWellFormed more) where
   -- the parts tell all
   same : facts_in s t.asks ≡ more
   same = sym (plain_told facts s t.asks t.may plain) ∙ t.same

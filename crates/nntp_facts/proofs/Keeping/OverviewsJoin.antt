@@ -132,7 +132,8 @@ module _ (facts : List Fact) (name : Name) (r : Range) (os : List OverviewValue)
       numbers = numbers_join facts more name asks t (asked_here name asks more asked_there) (asked_elsewhere name asks more asked_there)
 
   -- so each overview's id may be given
-  pub all_given : Together facts → HaveOwn os → Join facts more → (tells : Name → Told) → (tells name).is_shown ≡ true → (tells name).ids ≡ (told facts name).ids → (tells name).places ≡ (told facts name).places
+  pub all_given : Together facts → HaveOwn os → Join facts more → (tells : Name → Told) → (tells name).is_shown ≡ true
+      → (tells name).ids ≡ (told facts name).ids → (tells name).places ≡ (told facts name).places
       → AllByRecursion (MayGive facts (tells name)) os
   all_given t own j tells shown ids places = all_from (MayGive facts (tells name)) os (λ o i. record {
     shown = shown;

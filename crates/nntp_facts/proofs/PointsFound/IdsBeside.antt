@@ -79,7 +79,8 @@ module _ (profile : Profile) (facts : List Fact) (k : Kept) (t : Statement) (mor
       → id_told name m t ≡ cond (is_same g.name name) (cond (n == m) (Some id) None) None
   id_here g n id name m e plain is = plain_id g name m e plain ∙ ap (λ o. cond (is_same g.name name) (id_of o m) None) is
 
-  other_id : (g : OfGroup) (n : ℕ) (id : Id) → t.saying.group ≡ Some g → t.saying.overviews ≡ None → g.id ≡ Some (n, id) → (IfSome (first_given (id_in g.name n) facts) (λ y. id ≡ y) → ⊥) → ConflictAt all (IdOf g.name n)
+  other_id : (g : OfGroup) (n : ℕ) (id : Id) → t.saying.group ≡ Some g → t.saying.overviews ≡ None → g.id ≡ Some (n, id)
+      → (IfSome (first_given (id_in g.name n) facts) (λ y. id ≡ y) → ⊥) → ConflictAt all (IdOf g.name n)
   other_id g n id e plain is other one = other (subst (λ o. IfSome o (λ x. IfSome (first_given (id_in g.name n) facts) (λ y. x ≡ y)))
       (id_given profile t more h.tells g.name n ∙ id_here g n id g.name n e plain is ∙ (λ i. cond (same_itself g.name i) (cond (eq-eqb n n refl i) (Some id) None) None))
       (give_same_of_both (id_in g.name n) facts more one))

@@ -31,7 +31,8 @@ loop-overview-preserved g c = (
       let whole : all ≡ front ++ o ∷ rest =
       ap (map overview_value) (sym (take-append-drop i overviews)) ∙ map-append overview_value (take i overviews) (drop i overviews) ∙ ap (λ left. front ++ left) steps in
       let so = c.loop-overview.invariant.1 facts tells kept articles shown own may in
-      let given = c.in_ok-give.ensures.kept (so_far facts tells name front o rest) (with_overviews tells name front) so.0 (articles_so_far facts tells name front o rest c.loop-overview.self.articles so.1)
+      let given = c.in_ok-give.ensures.kept (so_far facts tells name front o rest) (with_overviews tells name front) so.0
+      (articles_so_far facts tells name front o rest c.loop-overview.self.articles so.1)
       (may_give_next facts tells name front o rest all whole own may) in
       subst (λ os. AreKept (with_overviews tells name os) c.give.new.self.groups × ((id : Id) → join_said (said_of facts id) (said_listed os id) ≡ said_kept (get c.give.new.self.articles id)))
       (sym (one_more overview_value overviews i c.overview-item.result c.loop-overview-test.true c.overview-item.is)) (
@@ -44,7 +45,8 @@ pub returns-clause-kept : goal.returns-clause-kept
 returns-clause-kept g c facts tells kept articles shown own may =
     let overviews = c.args.overviews.now in
     let whole : map overview_value (take c.loop-overview.overview-index overviews) ≡ map overview_value overviews = grind (arith, take_all) in
-    subst (λ os. AreKept (with_overviews tells c.args.name.now os) c.loop-overview.self.groups × ((id : Id) → join_said (said_of facts id) (said_listed os id) ≡ said_kept (get c.loop-overview.self.articles id)))
+    subst (λ os. AreKept (with_overviews tells c.args.name.now os) c.loop-overview.self.groups
+    × ((id : Id) → join_said (said_of facts id) (said_listed os id) ≡ said_kept (get c.loop-overview.self.articles id)))
     whole (c.loop-overview.invariant.1 facts tells kept articles shown own may)
 
 pub returns-in_err-give-clause-names : goal.returns-in_err-give-clause-names

@@ -20,4 +20,5 @@ returns g c = on_ok c.give_all.result (λ given facts range kept together may jo
     (subst (λ id. Changes (told facts) tells name (with_part (told facts name) (asks facts name range os) id)) (sym may.id) (numbers_change facts name range os)) in
     let gives = given facts tells numbers k.articles shown may.own
     (all_given facts name range os together may.own joins tells shown (ap (λ (t : Told). t.ids) here) (ap (λ (t : Told). t.places) here)) in
-    overviews_kept facts name range os may.shown c.args.self.now c.give_all.new.self kept (c.give_all.ensures.names ∙ ap (λ (k : KeptValue). k.names) c.self.view_is) gives.0 gives.1) c.give_all.ensures.kept
+    overviews_kept facts name range os may.shown c.args.self.now c.give_all.new.self kept
+    (c.give_all.ensures.names ∙ ap (λ (k : KeptValue). k.names) c.self.view_is) gives.0 gives.1) c.give_all.ensures.kept

@@ -11,7 +11,8 @@ returns-then-not-may_give g c facts kept = (
       let overviews = c.args.overviews.now in
       let steps = next_left overview_value overviews c.loop-overview.overview-index c.overview-item.result c.loop-overview-test.true c.overview-item.is in
       let left = subst (AllByRecursion (OverviewJoins facts c.args.name.now)) steps ((c.loop-overview.invariant facts kept).1 all) in
-      absurd (true≢false (sym ((gives_joins facts c.args.name.now c.args.self.now (overview_value c.overview-item.result) kept).1 left.0) ∙ sym (c.may_give.ensures (told facts) kept.groups) ∙ c.if-not-may_give.true)),
+      let may = (gives_joins facts c.args.name.now c.args.self.now (overview_value c.overview-item.result) kept).1 left.0 in
+      absurd (true≢false (sym may ∙ sym (c.may_give.ensures (told facts) kept.groups) ∙ c.if-not-may_give.true)),
 )
 
 pub loop-overview-preserved : goal.loop-overview-preserved

@@ -21,5 +21,7 @@ returns-else-at_all g c facts range kept t formed may =
     let os = map overview_value c.args.overviews.now in
     let join = overviews_join facts name range os t formed may.own in
     let numbers = c.joins.ensures.at_all (told facts) (asks facts name range os) k.groups (t.numbers name) may.numbers (λ not_shown. absurd (true≢false (sym may.shown ∙ not_shown)))
-    (subst (Agree (told facts name).ids (told facts name).places) (sym may.id) tt) (subst (IsShownAt (told facts name)) (sym may.id) tt) in
-    (λ never. absurd (true≢false (sym never ∙ c.if-at_all.false)), λ j. absurd (true≢false (sym (numbers.1 ((join.0 j).0, subst (MayShow (told facts name)) (sym may.id) tt)) ∙ sym c.at_all.ensures ∙ c.if-at_all.false)))
+    (subst (Agree (told facts name).ids (told facts name).places) (sym may.id) tt) (subst (IsShownAt (told facts name)) (sym may.id) tt) in (
+      λ never. absurd (true≢false (sym never ∙ c.if-at_all.false)),
+      λ j. absurd (true≢false (sym (numbers.1 ((join.0 j).0, subst (MayShow (told facts name)) (sym may.id) tt)) ∙ sym c.at_all.ensures ∙ c.if-at_all.false)),
+    )

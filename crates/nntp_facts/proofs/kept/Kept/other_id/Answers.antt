@@ -8,14 +8,14 @@ returns-in_default g c profile facts more h = no_ids profile facts c.args.self.n
 
 pub returns-in-Some-overviews : goal.returns-in-Some-overviews
 returns-in-Some-overviews g c profile facts more h =
-    listed_id_point profile facts c.args.self.now (statement_of c.args.told.now) more h (overviews_said c.in-Some-overviews.list) (ap (option_map overviews_said) c.in-Some-overviews.is) (of_group c.in-Some.group)
-    (ap (option_map of_group) c.in-Some.is) (option_map point_of c.other_listed_id.result) (c.other_listed_id.ensures (told facts) h.kept.groups)
+    listed_id_point profile facts c.args.self.now (statement_of c.args.told.now) more h (overviews_said c.in-Some-overviews.list) (ap (option_map overviews_said) c.in-Some-overviews.is)
+    (of_group c.in-Some.group) (ap (option_map of_group) c.in-Some.is) (option_map point_of c.other_listed_id.result) (c.other_listed_id.ensures (told facts) h.kept.groups)
 
 pub returns-in_err-at : goal.returns-in_err-at
 returns-in_err-at g c profile facts more h =
     subst (λ o. IsPointOf (facts ++ more) 5 (option_map point_of o)) (sym c.from_residual.ensures)
-    (no_id profile facts c.args.self.now (statement_of c.args.told.now) more h (of_group c.in-Some.group) (ap (option_map of_group) c.in-Some.is) (ap (option_map overviews_said) c.in_default-overviews.is)
-    (ap id_at c.in_err-at.was))
+    (no_id profile facts c.args.self.now (statement_of c.args.told.now) more h (of_group c.in-Some.group) (ap (option_map of_group) c.in-Some.is)
+    (ap (option_map overviews_said) c.in_default-overviews.is) (ap id_at c.in_err-at.was))
 
 pub returns : goal.returns
 returns g c profile facts more h =

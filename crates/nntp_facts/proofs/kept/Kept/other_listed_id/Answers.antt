@@ -29,4 +29,5 @@ loop-overview-preserved g c = (
 pub returns : goal.returns
 returns g c tells kept =
     let name = c.args.name.now in
-    let at : OverviewValue → Option Point = λ o. other_id_at (tells name).ids name (o.number, o.id) in sym (ap (first_given at) c.in-None.ensures.steps.0) ∙ c.loop-overview.invariant.2 tells kept
+    let at : OverviewValue → Option Point = λ o. other_id_at (tells name).ids name (o.number, o.id) in
+    sym (ap (first_given at) c.in-None.ensures.steps.0) ∙ c.loop-overview.invariant.2 tells kept
