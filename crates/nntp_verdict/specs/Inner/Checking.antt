@@ -70,7 +70,8 @@ pub record IsDecided (limit : Limit) (marks : Marks) (judgement : JudgementOfAll
   pub for_good : IsNoForGood before judgement
   pub verdict : (client server : List ℕ) → IsVerdictFrom limit marks before (with_more session client server) judgement
 
--- these sessions came, and octets of one more, joined, and the checker holds what it has to of them, to judge them by this limit and these marks
+-- these sessions came, and octets of one more, joined, and the checker holds what it has to of them, to judge them by this
+-- limit and these marks; where it goes on, it takes OVER and XOVER as they are taken in the last one
 abbrev pub StandsForAll : Limit → Marks → Checked → List Recorded → Recorded → Type 0
 StandsForAll limit marks (judging overviews facts answers fed) before session =
     HasPassed (profile_of limit marks) before session facts answers fed × (session.client.overviews ≡ overviews)
