@@ -85,7 +85,7 @@ impl<'s> SaidFacts<'s> {
         }
     }
 
-    /// Tells whether one of the facts that are left gives the message-id at a number.
+    /// Tells whether one of the facts that are left, overviews aside, gives the message-id at a number.
     pub fn place(&self, id: &str) -> bool
         ensures { IsTrue result ↔ Place id.now self.now }
     {
@@ -93,7 +93,8 @@ impl<'s> SaidFacts<'s> {
     }
 }
 
-/// Tells whether one of the facts, up to the first place that has none, gives the message-id at a number.
+/// Tells whether one of the facts, up to the first place that has none and overviews aside, gives the
+/// message-id at a number.
 fn one_places(places: &[Option<Fact<'_>>], id: &str) -> bool
     ensures { IsTrue result ↔ Place id.now (facts_at places.now) }
 {
@@ -108,7 +109,7 @@ fn one_places(places: &[Option<Fact<'_>>], id: &str) -> bool
     false
 }
 
-/// Tells whether the fact gives the message-id at a number.
+/// Tells whether the fact, which is no list of overviews, gives the message-id at a number.
 fn gives(fact: &Fact<'_>, id: &str) -> bool
     ensures { IsTrue result ↔ Place id.now (fact_of fact.now ∷ []) }
 {
