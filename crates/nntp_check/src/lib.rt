@@ -27,7 +27,7 @@ pub use nntp_pair::{Class, PairError as CheckError};
 pub use nntp_several::Recorded;
 pub use nntp_spool::{Counts, Kind, ReadFault, Spool, Watched, WriteFault};
 pub use nntp_verdict::{Checker, SessionsVerdict, Verdict, check, check_sessions};
-pub use nntp_wire::{Limit, Marks};
+pub use nntp_wire::{Limit, Marks, Overviews};
 pub use program::run_program;
 pub use run::{run_check, run_explain, run_show, run_task, run_verify};
 pub use run_fault::RunFault;

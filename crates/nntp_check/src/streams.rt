@@ -3,11 +3,13 @@ ghost use Rattle.std.specs.Prelude.{◌≡◌, IfOk, OnOk};
 ghost use Rattle.nntp_check.specs.Capture.{blank, nothing, sessions_of, with_another};
 ghost use Rattle.nntp_check.specs.Inner.Collecting.{held_in};
 ghost use Rattle.nntp_several.specs.Sessions.{unnamed};
+ghost use Rattle.nntp_wire.specs.declared.overviews.Overviews.TheVariants.{Opaque};
 
 use crate::sink::Sink;
 use crate::source::Source;
 use nntp_pair::PairError;
 use nntp_several::{Named, Recorded};
+use nntp_wire::Overviews;
 use std::alloc::{AllocError, Allocator};
 use std::marker::Model;
 use std::mem;
@@ -46,9 +48,11 @@ impl<A: Allocator + Copy> Collected<A> {
 
     /// What was recorded of it.
     fn recorded(&self) -> Recorded<'_>
-        ensures { result ≡ self.now.session }
+        ensures session { result ≡ self.now.session }
+        ensures opaque { result.client.overviews ≡ Opaque }
     {
         Recorded {
+            overviews: Overviews::Opaque,
             client: &self.client,
             server: &self.server,
         }
@@ -101,7 +105,8 @@ impl<A: Allocator + Copy> Streams<A> {
 
     /// What was recorded of the last session.
     pub(crate) fn last(&self) -> Recorded<'_>
-        ensures { result ≡ (held_in self.now).last.session }
+        ensures session { result ≡ (held_in self.now).last.session }
+        ensures opaque { result.client.overviews ≡ Opaque }
     {
         self.last.recorded()
     }

@@ -13,7 +13,7 @@ use crate::explainer::Explainer;
 use nntp_pair::{PairClass, Pairs, Step};
 use nntp_printing::put_number;
 use nntp_several::{Named, Recorded};
-use nntp_wire::{Limit, Marks};
+use nntp_wire::{Limit, Marks, Overviews};
 use std::alloc::{AllocError, Allocator};
 
 /// What is to be told of sessions.
@@ -25,7 +25,8 @@ pub struct Explanation<A: Allocator> {
     pub is_without_fault: bool,
 }
 
-/// Explains what is bad of a session, of which these are both streams.
+/// Explains what is bad of a session, of which these are both streams. OVER and XOVER are opaque: a session of
+/// [`explain_sessions`] says how they are taken in it.
 ///
 /// # Errors
 ///
@@ -76,7 +77,13 @@ impl<'a, A: Allocator + Copy> Explainer<'a, A> {
         ensures { IfOk result (λ good. IsExplanation self.old.facts.limit self.old.facts.marks (taken Opaque client.now) server.now self.new.text.items good) }
     {
         self.begin(None);
-        let unanswered = self.read(&Recorded { client, server })?;
+        let overviews = Overviews::Opaque;
+        let session = Recorded {
+            overviews,
+            client,
+            server,
+        };
+        let unanswered = self.read(&session)?;
         self.text.extend_from_slice(b"end ")?;
         self.finish(u128::from(unanswered))
     }
@@ -125,7 +132,7 @@ impl<'a, A: Allocator + Copy> Explainer<'a, A> {
         ensures { IfOk result (λ unanswered. (profile : Profile) (b : Before) → HasBegun profile b session.now self.old
             → IsRead profile b session.now.client session.now.server (kept_of self.new) self.new.text.items unanswered) }
     {
-        let mut pairs = Pairs::new(session.client, session.server);
+        let mut pairs = Pairs::taking(session.overviews, session.client, session.server);
         loop {
             match pairs.next() {
                 Step::Exchange(exchange) => self.note(exchange)?,

@@ -1,5 +1,5 @@
 //! Several sessions: their calls by a choice, and what these answer as octets that a test compares.
-use crate::choices::checker_by;
+use crate::choices::{checker_by, checker_taking};
 use crate::told::is_told_of_sessions;
 use crate::verdicts::show_bad;
 use nntp_pair::{Class, PairError};
@@ -7,21 +7,30 @@ use nntp_sessions::{Choice, with_spool_text};
 use nntp_several::{Recorded, VerifiedSessions, verify_sessions};
 use nntp_spool::Spool;
 use nntp_verdict::{Checker, SessionsVerdict, check_sessions};
-use nntp_wire::Marks;
+use nntp_wire::{Marks, Overviews};
 use std::alloc::{AllocError, Allocator, Global};
 use std::test::Fail;
 
-/// Sessions, of each of which these are the streams of the client and of the server.
+/// A session of these streams of the client and of the server, where OVER and XOVER are taken so.
+pub fn recorded_taking<'a>(
+    overviews: Overviews,
+    (client, server): (&'a str, &'a str),
+) -> Recorded<'a> {
+    Recorded {
+        overviews,
+        client: client.as_bytes(),
+        server: server.as_bytes(),
+    }
+}
+
+/// Sessions, of each of which these are the streams of the client and of the server, where OVER and XOVER are opaque.
 pub fn recorded<'a>(
     alloc: Global,
     sessions: &[(&'a str, &'a str)],
 ) -> Result<Vec<Recorded<'a>>, AllocError> {
     let mut recorded = Vec::new(alloc);
-    for (client, server) in sessions {
-        recorded.push(Recorded {
-            client: client.as_bytes(),
-            server: server.as_bytes(),
-        })?;
+    for streams in sessions {
+        recorded.push(recorded_taking(Overviews::Opaque, *streams))?;
     }
     Ok(recorded)
 }
@@ -221,7 +230,21 @@ pub fn checked_by_octets(
     choice: Choice,
     sessions: &[Recorded<'_>],
 ) -> Result<Vec<u8>, Fail> {
-    let mut checker = checker_by(choice, alloc);
+    checked_taking(alloc, choice, Overviews::Opaque, sessions)
+}
+
+/// What a checker says that takes OVER and XOVER so, to which the streams come octet by octet.
+///
+/// # Errors
+///
+/// Those of `finished_sessions`.
+pub fn checked_taking(
+    alloc: Global,
+    choice: Choice,
+    overviews: Overviews,
+    sessions: &[Recorded<'_>],
+) -> Result<Vec<u8>, Fail> {
+    let mut checker = checker_taking(choice, alloc, overviews);
     feed_octets(&mut checker, sessions)?;
     finished_sessions(alloc, checker, sessions.len())
 }

@@ -1,9 +1,12 @@
 //! A session as it was recorded, and its name.
+use nntp_wire::Overviews;
 use std::marker::Model;
 
 /// What client and server sent in one session (RFC 3977, section 3.1), as it was recorded.
 #[derive(Drop)]
 pub struct Recorded<'a> {
+    /// How OVER and XOVER of the client are taken.
+    pub overviews: Overviews,
     /// All octets that the client sent.
     pub client: &'a [u8],
     /// All octets that the server sent.
@@ -13,11 +16,10 @@ pub struct Recorded<'a> {
 impl<'a> Model for Recorded<'a> {
     ghost use Rattle.nntp_several.specs.Sessions.{Recorded as RecordedValue};
     ghost use Rattle.nntp_wire.specs.Session.{taken};
-    ghost use Rattle.nntp_wire.specs.declared.overviews.Overviews.TheVariants.{Opaque};
 
     ghost Value = { RecordedValue };
 
-    ghost view = { λ session. record { client = taken Opaque session.client.now; server = session.server.now } };
+    ghost view = { λ session. record { client = taken session.overviews session.client.now; server = session.server.now } };
 }
 
 /// A session with its name.
@@ -31,8 +33,6 @@ pub struct Named<'a> {
 
 impl<'a> Model for Named<'a> {
     ghost use Rattle.nntp_several.specs.Sessions.{Named as NamedValue};
-    ghost use Rattle.nntp_wire.specs.Session.{taken};
-    ghost use Rattle.nntp_wire.specs.declared.overviews.Overviews.TheVariants.{Opaque};
 
     ghost Value = { NamedValue };
 

@@ -5,7 +5,7 @@ ghost use Rattle.nntp_several.specs.Verifying.{IsVerifiedOfAll};
 ghost use Rattle.nntp_several.specs.Inner.VerifyingView.{verified_shown};
 
 use crate::recorded::Recorded;
-use nntp_spool::{Spool, Verified, verify};
+use nntp_spool::{Spool, Verified, verify_taking};
 use nntp_wire::Marks;
 use std::alloc::{AllocError, Allocator, Global};
 
@@ -27,8 +27,8 @@ pub enum VerifiedSessions<A: Allocator = Global> {
     },
 }
 
-/// Tells whether the spool explains each of the sessions, as [`verify`] does of one. If it doesn't, the
-/// value tells the first session of which it doesn't explain an answer, and the first such answer.
+/// Tells whether the spool explains each of the sessions, as [`verify_taking`] does of one. If it doesn't,
+/// the value tells the first session of which it doesn't explain an answer, and the first such answer.
 ///
 /// # Errors
 ///
@@ -43,7 +43,14 @@ pub fn verify_sessions<A: Allocator + Copy, S: Allocator>(
 {
     let mut answers = Vec::new(alloc);
     for session in sessions {
-        match verify(alloc, marks, spool, session.client, session.server)? {
+        match verify_taking(
+            alloc,
+            marks,
+            spool,
+            session.overviews,
+            session.client,
+            session.server,
+        )? {
             Verified::Permits { answers: count } => answers.push(count)?,
             Verified::Refuses { index } => {
                 return Ok(VerifiedSessions::Refuses {

@@ -12,6 +12,7 @@ use nntp_sessions::{
 use nntp_several::Recorded;
 use nntp_slow_judge::Judged;
 use nntp_verdict::{Checker, Verdict};
+use nntp_wire::Overviews;
 use std::alloc::{AllocError, Global};
 use std::process::Abort;
 use std::test::Fail;
@@ -28,12 +29,12 @@ fn feed_cut(
             checker.begin_session()?;
         }
         is_first = false;
-        let Recorded { client, server } = session;
+        let (client, server) = (session.client, session.server);
         let places = (
             random.below(client.len().saturating_add(1)),
             random.below(server.len().saturating_add(1)),
         );
-        feed_split(checker, (*client, *server), places)?;
+        feed_split(checker, (client, server), places)?;
     }
     Ok(())
 }
@@ -172,6 +173,7 @@ fn sessions_of<'a>(
     let mut sessions = Vec::new(alloc);
     for (client, server) in list {
         sessions.push(Recorded {
+            overviews: Overviews::Opaque,
             client: client.as_slice(),
             server: server.as_slice(),
         })?;
@@ -182,7 +184,8 @@ fn sessions_of<'a>(
 /// A name that tells how sessions are judged, and their streams.
 fn name_of(alloc: Global, choice: Choice, sessions: &[Recorded<'_>]) -> Result<String, AllocError> {
     let mut name = format!(in alloc; "{choice:?}")?;
-    for Recorded { client, server } in sessions {
+    for session in sessions {
+        let (client, server) = (session.client, session.server);
         let streams = format!(in alloc; ": {}; {}", client.escape_ascii(), server.escape_ascii())?;
         name.push_str(streams.as_str())?;
     }

@@ -13,5 +13,5 @@ mod watched;
 pub use output::{WriteFault, put};
 pub use text::{Kind, ReadFault};
 pub use value::{Article, Counts, Spool, SpoolBuilder, SpoolFault};
-pub use verification::{Verified, verify};
+pub use verification::{Verified, verify, verify_taking};
 pub use watched::Watched;

@@ -28,7 +28,7 @@ use last_group::LastGroup;
 use nntp_article::{Listed, Profile, Visible};
 use nntp_pair::{Exchange, Pairs, Step};
 use nntp_said::{Position, facts_of};
-use nntp_wire::Marks;
+use nntp_wire::{Marks, Overviews};
 use std::alloc::{AllocError, Allocator};
 pub use verified::Verified;
 
@@ -38,7 +38,8 @@ pub use verified::Verified;
 ///
 /// `client` and `server` are all octets of the two streams. The session is judged by the spool's
 /// limit of article numbers (RFC 3977, section 6), and with the water marks of a 211 read as
-/// `marks` tells (section 6.1.1.2). What is taken of `alloc` is given back.
+/// `marks` tells (section 6.1.1.2). OVER and XOVER are opaque: [`verify_taking`] is told how they
+/// are taken. What is taken of `alloc` is given back.
 ///
 /// # Errors
 ///
@@ -52,6 +53,24 @@ pub fn verify<A: Allocator + Copy, S: Allocator>(
 ) -> Result<Verified, AllocError>
     ensures { IfOk result (λ verified. IsVerified (profile_of spool.now.limit marks) spool.now.spool (taken Opaque client.now) server.now verified) }
 {
+    verify_taking(alloc, marks, spool, Overviews::Opaque, client, server)
+}
+
+/// Tells whether the spool explains both streams of a session, as [`verify`] does, where OVER and XOVER are taken so.
+///
+/// # Errors
+///
+/// [`AllocError`], if memory is refused.
+pub fn verify_taking<A: Allocator + Copy, S: Allocator>(
+    alloc: A,
+    marks: Marks,
+    spool: &Spool<S>,
+    overviews: Overviews,
+    client: &[u8],
+    server: &[u8],
+) -> Result<Verified, AllocError>
+    ensures { IfOk result (λ verified. IsVerified (profile_of spool.now.limit marks) spool.now.spool (taken overviews client.now) server.now verified) }
+{
     let profile = Profile::of(spool.limit(), marks);
     let content = spool.content();
     let mut visible = Visible::new(alloc);
@@ -61,6 +80,7 @@ pub fn verify<A: Allocator + Copy, S: Allocator>(
         alloc,
         profile,
         content,
+        overviews,
         client,
         server,
         &mut visible,
@@ -68,12 +88,13 @@ pub fn verify<A: Allocator + Copy, S: Allocator>(
     )
 }
 
-/// Goes over the exchanges of both streams, from the state before the greeting on, as [`verify`]
-/// does.
+/// Goes over the exchanges of both streams, from the state before the greeting on, as
+/// [`verify_taking`] does.
 fn judge<A: Allocator + Copy, S: Allocator>(
     alloc: A,
     profile: Profile,
     content: &Content<S>,
+    overviews: Overviews,
     client: &[u8],
     server: &[u8],
     visible: &mut Visible<A>,
@@ -82,9 +103,9 @@ fn judge<A: Allocator + Copy, S: Allocator>(
     requires spool { IsSpool profile.limit content.now }
     requires start { visible.old ≡ start.visible }
     requires counted { AreCounted content.now counts.old }
-    ensures { IfOk result (λ verified. IsVerified profile content.now (taken Opaque client.now) server.now verified) }
+    ensures { IfOk result (λ verified. IsVerified profile content.now (taken overviews client.now) server.now verified) }
 {
-    let mut pairs = Pairs::new(client, server);
+    let mut pairs = Pairs::taking(overviews, client, server);
     let mut group = LastGroup::new(content);
     let mut position = Position::Nowhere;
     let mut answers = 0;

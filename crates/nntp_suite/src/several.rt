@@ -11,7 +11,7 @@ use nntp_sessions::{
 };
 use nntp_several::Recorded;
 use nntp_spool::Verified;
-use nntp_wire::{Answer, Command, Prompt};
+use nntp_wire::{Answer, Command, Overviews, Prompt};
 use std::alloc::Global;
 use std::test::Fail;
 
@@ -170,10 +170,12 @@ fn expect_parted(
     greeted.extend_from_slice(server_rest)?;
     let sessions = [
         Recorded {
+            overviews: Overviews::Opaque,
             client: client_front,
             server: server_front,
         },
         Recorded {
+            overviews: Overviews::Opaque,
             client: client_rest,
             server: greeted.as_slice(),
         },

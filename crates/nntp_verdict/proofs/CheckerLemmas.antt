@@ -3,7 +3,7 @@ use Rattle.std.proofs.Common.{◌≡◌, ◌≢◌, ◌∙◌, refl, sym, ap, su
 use Rattle.std.proofs.{Common.{inl, arith, append_assoc, append-nil, length-append, Result, MatchResult, OnOk, IfErr}, lemmas.Bool.{false≢true, true≢false}}
 use Rattle.std.{proofs.lemmas.Option.{slice_get_within}, specs.Prelude.{MatchOption, ⊤}}
 use Rattle.nntp_article.specs.{Session.Limit.{profile_of}, declared.session.profile.Profile.{Profile}}
-use Rattle.nntp_wire.specs.{declared.{limit.Limit.{Limit}, marks.Marks.{Marks}, overviews.Overviews.TheVariants.{Opaque}}, Session.{ClientStream, taken}}
+use Rattle.nntp_wire.specs.{declared.{limit.Limit.{Limit}, marks.Marks.{Marks}, overviews.Overviews.{Overviews}}, Session.{ClientStream, taken}}
 use Rattle.nntp_pair.specs.{Pairing.{Paired, Unpaired, IsNext, bad as pair_end, HasNext}, declared.class.PairClass.{PairClass}}
 use Rattle.nntp_pair.specs.declared.{octet_counts.OctetCounts.{OctetCounts}, peek.Peek.{Peek}, side.Side.{Side, TheVariants.{Client, Server}}}
 use Rattle.nntp_pair.specs.{declared.pair_error.PairError.{PairError}, Inner.Feeding.{Fed, IsFed, IsTaken, IsPeek, EndsForGood, left_of, unfed, with_octets}}
@@ -64,14 +64,15 @@ pub held : (profile : Profile) (before : List Recorded) (session : Recorded) (fa
 held profile before session facts answers fed p whole = grind arith
 
 -- where nothing has come, nothing is next
-pub nothing-next : (fed : Fed) → fed ≡ unfed Opaque → ¬ (HasNext (left_of fed))
-nothing-next fed none (x, behind, next) = grind (arith, next-shorter)
+pub nothing-next : (overviews : Overviews) (fed : Fed) → fed ≡ unfed overviews → ¬ (HasNext (left_of fed))
+nothing-next overviews fed none (x, behind, next) = grind (arith, next-shorter)
 
 -- a session begins behind those that have ended
-pub session-begins : (profile : Profile) (before : List Recorded) (facts : FactsKept) (answers : List ℕ) (fed : Fed) → fed ≡ unfed Opaque → IsFed fed (taken Opaque []) [] []
+pub session-begins : (profile : Profile) (before : List Recorded) (overviews : Overviews) (facts : FactsKept) (answers : List ℕ) (fed : Fed) → fed ≡ unfed overviews
+    → IsFed fed (taken overviews []) [] []
     → HaveEnded profile before facts answers
-    → HasPassed profile before unrecorded facts answers fed
-session-begins profile before facts answers fed is fed_is e = search nothing-next
+    → HasPassed profile before (unrecorded overviews) facts answers fed
+session-begins profile before overviews facts answers fed is fed_is e = search nothing-next
 
 -- what is held is kept, with octets of a side that are taken
 pub keeps-taken : (profile : Profile) (before : List Recorded) (session : Recorded) (facts : FactsKept) (answers : List ℕ) (fed then : Fed) (side : Side) (octets : List ℕ)
@@ -128,9 +129,10 @@ decided-verdict limit marks j counts before session stands = decided-from limit 
 stays-no : (limit : Limit) (marks : Marks) (before : List Recorded) (session : Recorded) (j : JudgementOfAll) → IsVerdictFrom limit marks before session j → IsNoForGood (before ++ session ∷ []) j
 stays-no limit marks before session (consistent_of_all L answers) verdict =
     let P : Recorded → ℕ → Type 0 = λ s n. IsAnsweredThroughout s.client s.server n in
+    let next : Recorded = unrecorded session.client.overviews in
     let some = as_many_counts P (before ++ session ∷ []) answers (verdict []).throughout in
-    let more = as_many_counts P (before ++ session ∷ unrecorded ∷ []) answers (verdict (unrecorded ∷ [])).throughout in
-    absurd (omega (arith, some, more, length-append before (session ∷ []), length-append before (session ∷ unrecorded ∷ [])))
+    let more = as_many_counts P (before ++ session ∷ next ∷ []) answers (verdict (next ∷ [])).throughout in
+    absurd (omega (arith, some, more, length-append before (session ∷ []), length-append before (session ∷ next ∷ [])))
 stays-no limit marks before session (bad_of_all j k class command reply) verdict = inl (placed (slice_get (before ++ session ∷ []) j) refl (verdict []).outcome.0)
   where
     placed : (o : Option Recorded) → slice_get (before ++ session ∷ []) j ≡ o
@@ -140,13 +142,13 @@ stays-no limit marks before session (bad_of_all j k class command reply) verdict
 
 -- so it stays where the session has ended
 pub decided-ended : (limit : Limit) (marks : Marks) (j : JudgementOfAll) (before : List Recorded) (session : Recorded) → IsVerdictFrom limit marks before session j
-    → StandsForAll limit marks (decided j (record { client = 0; server = 0 })) (before ++ session ∷ []) unrecorded
+    → StandsForAll limit marks (decided j (record { client = 0; server = 0 })) (before ++ session ∷ []) (unrecorded session.client.overviews)
 decided-ended limit marks j before session verdict = search (stays-no, append_assoc)
 
 -- so it does where it was decided before
 pub decided-goes-on : (limit : Limit) (marks : Marks) (j : JudgementOfAll) (counts : OctetCounts) (before : List Recorded) (session : Recorded)
     → StandsForAll limit marks (decided j counts) before session
-    → StandsForAll limit marks (decided j (record { client = 0; server = 0 })) (before ++ session ∷ []) unrecorded
+    → StandsForAll limit marks (decided j (record { client = 0; server = 0 })) (before ++ session ∷ []) (unrecorded session.client.overviews)
 decided-goes-on limit marks j counts before session stands = search (decided-ended, decided-from)
 
 -- ---- what isn't taken
@@ -154,7 +156,7 @@ decided-goes-on limit marks j counts before session stands = search (decided-end
 -- a checker that stands for some octets works, and counts them
 stands-counts : (limit : Limit) (marks : Marks) (held : Checked) (before : List Recorded) (session : Recorded) → StandsForAll limit marks held before session
     → (has_failed held ≡ false) × ((counts_of held).client ≡ length session.client.octets) × ((counts_of held).server ≡ length session.server)
-stands-counts limit marks (judging facts answers fed) before session s = (refl, s.keeps.fed_is.client_came, s.keeps.fed_is.server_came)
+stands-counts limit marks (judging overviews facts answers fed) before session s = (refl, s.0.keeps.fed_is.client_came, s.0.keeps.fed_is.server_came)
 stands-counts limit marks (decided j counts) before session s = (refl, s.1, s.2)
 stands-counts limit marks failed before session s = absurd s
 
@@ -174,10 +176,17 @@ if-err P R S r p f = grind arith
 -- ---- what a step of a checker does
 
 -- octets are taken by a judgement that goes on, where what is kept then stands for them
-pub taken-judging : (side : Side) (octets : List ℕ) (facts : FactsKept) (answers : List ℕ) (fed then : Fed) (after : Checked) → IsTaken side octets fed then
-    → ((limit : Limit) (marks : Marks) (before : List Recorded) (session : Recorded) → Keeps (profile_of limit marks) before session facts answers then → StandsForAll limit marks after before session)
-    → IsTakenBy side octets (judging facts answers fed) after
-taken-judging side octets facts answers fed then after taken stands = search keeps-taken
+pub taken-judging : (side : Side) (octets : List ℕ) (overviews : Overviews) (facts : FactsKept) (answers : List ℕ) (fed then : Fed) (after : Checked) → IsTaken side octets fed then
+    → ((limit : Limit) (marks : Marks) (before : List Recorded) (session : Recorded) → Keeps (profile_of limit marks) before session facts answers then
+    → session.client.overviews ≡ overviews → StandsForAll limit marks after before session)
+    → IsTakenBy side octets (judging overviews facts answers fed) after
+taken-judging side octets overviews facts answers fed then after taken stands = record {
+  worked = refl;
+  room = taken.room;
+  stands = λ limit marks ended session was.
+      stands limit marks ended (with_more session (given Client side octets) (given Server side octets))
+      (keeps-taken (profile_of limit marks) ended session facts answers fed then side octets was.0 taken) was.1;
+}
 
 -- and by one that is decided, where they are counted
 pub taken-decided : (side : Side) (octets : List ℕ) (j : JudgementOfAll) (counts more : OctetCounts) → count_of side counts + length octets < 2 ^ 64
@@ -195,25 +204,30 @@ pub begun-decided : (j : JudgementOfAll) (counts : OctetCounts) → HasBegun (de
 begun-decided j counts = record { worked = refl; stands = λ limit marks ended session stands. decided-goes-on limit marks j counts ended session stands }
 
 -- and where octets of the session that ends answer nothing
-pub begun-told : (facts : FactsKept) (answers : List ℕ) (fed : Fed) (j : JudgementOfAll)
+pub begun-told : (overviews : Overviews) (facts : FactsKept) (answers : List ℕ) (fed : Fed) (j : JudgementOfAll)
     → ((limit : Limit) (marks : Marks) (ended : List Recorded) (session : Recorded) → HasPassed (profile_of limit marks) ended session facts answers fed
     → IsVerdictFrom limit marks ended session j)
-    → HasBegun (judging facts answers fed) (decided j (record { client = 0; server = 0 }))
-begun-told facts answers fed j told = search decided-ended
+    → HasBegun (judging overviews facts answers fed) (decided j (record { client = 0; server = 0 }))
+begun-told overviews facts answers fed j told = record {
+  worked = refl;
+  stands = λ limit marks ended session was. decided-ended limit marks j ended session (told limit marks ended session was.0);
+}
 
 -- ---- what a judgement tells of a step
 
-module _ {A : Type 0} (facts : FactsKept) (answers : List ℕ) (fed : Fed) (new : FactsKept) (counts : List ℕ) (last : Fed) where
+module _ {A : Type 0} (overviews : Overviews) (facts : FactsKept) (answers : List ℕ) (fed : Fed) (new : FactsKept) (counts : List ℕ) (last : Fed) where
   -- octets are taken, where so many came then
   pub taken-settled : (side : Side) (octets : List ℕ) (then : Fed) (told : Option (SessionsVerdict A)) → IsTaken side octets fed then
       → HasJudged facts answers then new counts last told
-      → IsTakenBy side octets (judging facts answers fed) (settled (judging new counts last) (counted (given Client side octets) (given Server side octets) fed.counts) told)
+      → IsTakenBy side octets (judging overviews facts answers fed) (settled (judging overviews new counts last) (counted (given Client side octets) (given Server side octets) fed.counts) told)
   taken-settled side octets then None taken judged =
-      taken-judging side octets facts answers fed then (judging new counts last) taken (λ limit marks before session keeps. (judged limit marks before session keeps).0)
+      taken-judging side octets overviews facts answers fed then (judging overviews new counts last) taken
+      (λ limit marks before session keeps same. ((judged limit marks before session keeps).0, same))
   taken-settled side octets then (Some verdict) taken judged =
       let j = sessions_verdict_shown verdict in
-      taken-judging side octets facts answers fed then (decided j (counted (given Client side octets) (given Server side octets) fed.counts)) taken
-      (λ limit marks before session keeps. subst (λ n. StandsForAll limit marks (decided j n) before session) (ap (λ (f : Fed). f.counts) taken.value) (judged limit marks before session keeps))
+      taken-judging side octets overviews facts answers fed then (decided j (counted (given Client side octets) (given Server side octets) fed.counts)) taken
+      (λ limit marks before session keeps same.
+      subst (λ n. StandsForAll limit marks (decided j n) before session) (ap (λ (f : Fed). f.counts) taken.value) (judged limit marks before session keeps))
 
   -- and what is held then is held of some sessions
   pub taken-sound : (side : Side) (octets : List ℕ) (then : Fed) (told : Option (SessionsVerdict A)) → IsHeld facts answers fed → IsTaken side octets fed then
@@ -227,24 +241,27 @@ module _ {A : Type 0} (facts : FactsKept) (answers : List ℕ) (fed : Fed) (new 
   taken-sound side octets then (Some verdict) was taken judged = tt
 
   -- the next session begins
-  pub begun-settled : (told : Option (SessionsVerdict A)) → last ≡ unfed Opaque → IsFed last (taken Opaque []) [] []
+  pub begun-settled : (told : Option (SessionsVerdict A)) → last ≡ unfed overviews → IsFed last (taken overviews []) [] []
       → HasEnded facts answers fed new counts told
-      → HasBegun (judging facts answers fed) (settled (judging new counts last) (record { client = 0; server = 0 }) told)
+      → HasBegun (judging overviews facts answers fed) (settled (judging overviews new counts last) (record { client = 0; server = 0 }) told)
   begun-settled None is fed_is ended = record {
     worked = refl;
-    stands = λ limit marks before session passed.
-        session-begins (profile_of limit marks) (before ++ session ∷ []) new counts last is fed_is (ended limit marks before session passed.keeps);
+    stands = λ limit marks before session was. (
+      subst (λ o. HasPassed (profile_of limit marks) (before ++ session ∷ []) (unrecorded o) new counts last) (sym was.1)
+          (session-begins (profile_of limit marks) (before ++ session ∷ []) overviews new counts last is fed_is (ended limit marks before session was.0.keeps)),
+      was.1,
+    );
   }
   begun-settled (Some verdict) is fed_is ended =
-      begun-told facts answers fed (sessions_verdict_shown verdict) (λ limit marks before session passed. ended limit marks before session passed.keeps)
+      begun-told overviews facts answers fed (sessions_verdict_shown verdict) (λ limit marks before session passed. ended limit marks before session passed.keeps)
 
-  pub begun-sound : (told : Option (SessionsVerdict A)) → IsHeld facts answers fed → last ≡ unfed Opaque → IsFed last (taken Opaque []) [] []
+  pub begun-sound : (told : Option (SessionsVerdict A)) → IsHeld facts answers fed → last ≡ unfed overviews → IsFed last (taken overviews []) [] []
       → HasEnded facts answers fed new counts told
       → MatchOption told (IsHeld new counts last) (λ _. ⊤)
   begun-sound None was is fed_is ended =
       let before = was.before ++ was.session ∷ [] in
-      held (profile_kept facts) before unrecorded new counts last
-      (session-begins (profile_kept facts) before new counts last is fed_is (ended facts.limit facts.marks was.before was.session was.passed.keeps))
+      held (profile_kept facts) before (unrecorded overviews) new counts last
+      (session-begins (profile_kept facts) before overviews new counts last is fed_is (ended facts.limit facts.marks was.before was.session was.passed.keeps))
       (ap (λ (f : Fed). f.has_failed) is)
   begun-sound (Some verdict) was is fed_is ended = tt
 

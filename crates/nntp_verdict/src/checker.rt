@@ -26,7 +26,7 @@ use crate::judge::Judge;
 use crate::sessions_verdict::SessionsVerdict;
 use crate::verdict::Verdict;
 use nntp_pair::{Class, Ending, Feed, OctetCounts, PairClass, PairError, Peek, Side};
-use nntp_wire::{Limit, Marks};
+use nntp_wire::{Limit, Marks, Overviews};
 use std::alloc::{AllocError, Allocator, Global};
 use std::marker::Model;
 
@@ -75,18 +75,27 @@ enum State<A: Allocator> {
 /// A judgement that goes on: all exchanges that are whole have passed.
 #[derive(Drop)]
 struct Ongoing<A: Allocator> {
+    /// How OVER and XOVER are taken, in each session.
+    overviews: Overviews,
     judge: Judge<A>,
     feed: Feed<A>,
 }
 
 impl<A: Allocator + Copy> Checker<A> {
-    /// A checker to which no octet has come. It judges by the limit and the marks as [`check`](crate::check) does, and
-    /// takes no memory yet.
+    /// A checker to which no octet has come. It judges by the limit and the marks as [`check`](crate::check) does, with
+    /// OVER and XOVER opaque, and takes no memory yet.
     pub fn new(alloc: A, limit: Limit, marks: Marks) -> Checker<A>
         ensures { StandsFor limit marks result (taken Opaque []) [] }
     {
+        Checker::taking(alloc, limit, marks, Overviews::Opaque)
+    }
+
+    /// A checker to which no octet has come, where OVER and XOVER are taken so, in each session. It takes no memory yet.
+    pub fn taking(alloc: A, limit: Limit, marks: Marks, overviews: Overviews) -> Checker<A>
+        ensures { StandsFor limit marks result (taken overviews []) [] }
+    {
         Checker {
-            state: State::Judging(Ongoing::new(alloc, limit, marks)),
+            state: State::Judging(Ongoing::taking(alloc, limit, marks, overviews)),
         }
     }
 
@@ -145,7 +154,7 @@ impl<A: Allocator + Copy> Checker<A> {
     }
 
     /// Ends the session, and begins a further one of the same spool, of which no octet has come: the octets that
-    /// follow are its. What the exchanges that passed say of the spool goes on to it, and nothing else. Where octets of
+    /// follow are its, and OVER and XOVER are taken as in the one that ends. What the exchanges that passed say of the spool goes on to it, and nothing else. Where octets of
     /// the ended session are left that answer nothing, that is decided then, and so is all that follows.
     ///
     /// # Errors
@@ -288,14 +297,15 @@ fn without_session(bad: Option<(u64, u64, Class)>) -> Option<(u64, Class)>
 }
 
 impl<A: Allocator + Copy> Ongoing<A> {
-    /// Nothing has come.
-    fn new(alloc: A, limit: Limit, marks: Marks) -> Ongoing<A>
-        ensures passed { HasPassed (profile_of limit marks) [] unrecorded result.judge.facts result.judge.answers.items result.feed }
+    /// Nothing has come, and OVER and XOVER are taken so.
+    fn taking(alloc: A, limit: Limit, marks: Marks, overviews: Overviews) -> Ongoing<A>
+        ensures stands { StandsForAll limit marks (going_on result) [] (unrecorded overviews) }
         ensures sound { IsSound (going_on result) }
     {
         Ongoing {
+            overviews,
             judge: Judge::new(alloc, limit, marks),
-            feed: Feed::new(alloc),
+            feed: Feed::taking(alloc, overviews),
         }
     }
 
@@ -322,7 +332,7 @@ impl<A: Allocator + Copy> Ongoing<A> {
         ensures sound { IfOk result (λ told. MatchOption told (IsSound (going_on self.new)) (λ _. ⊤)) }
     {
         let told = end_session(&mut self.judge, &self.feed)?;
-        self.feed = Feed::new(self.judge.alloc());
+        self.feed = Feed::taking(self.judge.alloc(), self.overviews);
         Ok(told)
     }
 
@@ -333,7 +343,11 @@ impl<A: Allocator + Copy> Ongoing<A> {
             → HasPassed (profile_of limit marks) before session self.judge.facts self.judge.answers.items self.feed
             → IsVerdictOfAll limit marks (before ++ session ∷ []) (sessions_verdict_shown verdict)) }
     {
-        let Ongoing { mut judge, feed } = self;
+        let Ongoing {
+            mut judge,
+            feed,
+            ..
+        } = self;
         match end_session(&mut judge, &feed)? {
             Some(verdict) => Ok(verdict),
             None => judge.finish(),

@@ -19,14 +19,14 @@ use nntp_facts::{Facts, Noted};
 use nntp_pair::{Ahead, Class, Exchange, PairClass, Pairs, Step};
 use nntp_printing::{first_line, shown, shown_line};
 use nntp_several::Recorded;
-use nntp_wire::{Limit, Marks};
+use nntp_wire::{Limit, Marks, Overviews};
 use nntp_witness::witness;
 use std::alloc::{AllocError, Allocator};
 
 /// Judges the octets that a client and a server sent (RFC 3977, sections 3 to 7): whether some spool explains all
 /// answers, and if none does, which answer is the first that no spool explains together with those before it. The
 /// spools are those whose article numbers are within the limit, and the water marks of a 211 (RFC 3977, section 6.1.1)
-/// are read as `marks` tells.
+/// are read as `marks` tells. OVER and XOVER are opaque: a session of [`check_sessions`] says how they are taken in it.
 ///
 /// # Errors
 ///
@@ -40,7 +40,11 @@ pub fn check<A: Allocator + Copy>(
 ) -> Result<Verdict<A>, AllocError>
     ensures { IfOk result (λ verdict. IsVerdict limit marks (taken Opaque client.now) server.now (verdict_shown verdict)) }
 {
-    let session = [Recorded { client, server }];
+    let session = [Recorded {
+        overviews: Overviews::Opaque,
+        client,
+        server,
+    }];
     let verdict = check_sessions(alloc, limit, marks, &session)?;
     Ok(verdict.of_last())
 }
@@ -131,7 +135,7 @@ impl<A: Allocator + Copy> Judge<A> {
             → MatchOption told (HaveEnded (profile_of limit marks) (before ++ session.now ∷ []) self.new.facts self.new.answers.items)
             (λ verdict. IsVerdictFrom limit marks before session.now (sessions_verdict_shown verdict))) }
     {
-        let mut pairs = Pairs::new(session.client, session.server);
+        let mut pairs = Pairs::taking(session.overviews, session.client, session.server);
         loop {
             match pairs.next() {
                 Step::Exchange(exchange) => {

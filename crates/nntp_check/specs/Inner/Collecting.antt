@@ -1,6 +1,6 @@
 -- What the values of src/streams.rt and src/capture_checker.rt mean.
 use Rattle.std.specs.Prelude.{◌≡◌, ℕ, Bool, List}
-use Rattle.nntp_wire.specs.{declared.{limit.Limit.{Limit}, marks.Marks.{Marks}}, Inner.Held.{held as names_in}}
+use Rattle.nntp_wire.specs.{declared.{limit.Limit.{Limit}, marks.Marks.{Marks}, overviews.Overviews.TheVariants.{Opaque}}, Inner.Held.{held as names_in}}
 use Rattle.nntp_several.specs.Sessions.{unnamed}
 use Rattle.nntp_verdict.specs.{Inner.Checking.{StandsForAll}, Verdict.{sessions_verdict_shown}}
 use Rattle.nntp_check.specs.{Capture.{Held}, Report.{names_of, report_of}, declared.capture_checker.JudgedCapture.{JudgedCapture}}
@@ -10,9 +10,11 @@ use Rattle.nntp_check.specs.declared.{capture_checker.CaptureChecker.{CaptureChe
 abbrev pub held_in : {A : Type 0} → Streams A → Held
 held_in s = record { ended = s.ended.items; last = s.last; spool = s.spool.items }
 
--- the checker holds what it has to of these sessions, to judge them by the limit and the marks, and their names
+-- the checker holds what it has to of these sessions, to judge them by the limit and the marks, where OVER and XOVER of
+-- the next one are opaque as those of the last are, and their names
 pub record Judges {A : Type 0} (limit : Limit) (marks : Marks) (c : CaptureChecker A) (held : Held) : Type 0 where
   pub checks : StandsForAll limit marks c.checker (unnamed held.ended) held.last.session
+  pub opaque : held.last.session.client.overviews ≡ Opaque
   pub names : names_in c.names.items ≡ names_of held.ended
   pub last_name : c.last_name.items ≡ held.last.name
 

@@ -1,5 +1,5 @@
 //! What `explain_sessions` prints of several sessions of one spool.
-use nntp_check::{Limit, Marks};
+use nntp_check::{Limit, Marks, Overviews};
 use nntp_explain::explain_sessions;
 use nntp_several::{Named, Recorded};
 use std::alloc::{AllocError, Global};
@@ -71,7 +71,11 @@ fn named<'a>(
 ) -> Result<Vec<Named<'a>>, AllocError> {
     let mut all = Vec::new(alloc);
     for (name, client, server) in sessions {
-        let session = Recorded { client, server };
+        let session = Recorded {
+            overviews: Overviews::Opaque,
+            client,
+            server,
+        };
         all.push(Named { name, session })?;
     }
     Ok(all)

@@ -11,7 +11,7 @@ use Rattle.nntp_verdict.specs.declared.checker.State.{State, TheVariants.{Judgin
 
 -- what a judgement that goes on says, without where it lies in memory
 abbrev pub going_on : {A : Type 0} → Ongoing A → Checked
-going_on ongoing = judging ongoing.judge.facts ongoing.judge.answers.items ongoing.feed
+going_on ongoing = judging ongoing.overviews ongoing.judge.facts ongoing.judge.answers.items ongoing.feed
 
 -- what a state says
 abbrev pub of_state : {A : Type 0} → State A → Checked

@@ -1,6 +1,6 @@
 -- What is said with the words of `Checking.antt`, and needn't be believed.
 use Rattle.std.specs.Prelude.{◌≡◌, ℕ, ◌+◌, ◌^◌, ◌<◌, ◌≤◌, ⊤, Bool, true, false, List, [], ◌∷◌, ◌++◌, length, map, Option, None, Some}
-use Rattle.nntp_wire.specs.{declared.{limit.Limit.{Limit}, marks.Marks.{Marks}, overviews.Overviews.TheVariants.{Opaque}}, Session.{ClientStream, taken}}
+use Rattle.nntp_wire.specs.{declared.{limit.Limit.{Limit}, marks.Marks.{Marks}, overviews.Overviews.{Overviews}}, Session.{ClientStream, taken}}
 use Rattle.nntp_article.specs.{Session.Limit.{profile_of}, declared.session.profile.Profile.{Profile}}
 use Rattle.nntp_pair.specs.{Pairing.{Paired, HasNext}, Inner.{Sides.{given, count_of}, Feeding.{Fed, IsFed, left_of}}}
 use Rattle.nntp_pair.specs.declared.{octet_counts.OctetCounts.{OctetCounts}, side.Side.{Side, TheVariants.{Client, Server}}, pair_error.PairError.{PairError}}
@@ -13,11 +13,11 @@ use Rattle.nntp_pair.specs.declared.pair_error.PairError.TheVariants as errors
 
 -- ---- what a checker holds
 
--- the facts of the exchanges that passed, how many answers each session has that ended, and what has come of the last
--- session behind them; or the judgement, once nothing that follows can change it, and how many octets came of each stream
--- of that session; or that memory was refused
+-- how OVER and XOVER are taken, the facts of the exchanges that passed, how many answers each session has that ended, and
+-- what has come of the last session behind them; or the judgement, once nothing that follows can change it, and how many
+-- octets came of each stream of that session; or that memory was refused
 pub data Checked : Type 0 where
-  judging : (facts : FactsKept) → (answers : List ℕ) → (fed : Fed) → Checked
+  judging : (overviews : Overviews) → (facts : FactsKept) → (answers : List ℕ) → (fed : Fed) → Checked
   decided : (judgement : JudgementOfAll) → (counts : OctetCounts) → Checked
   failed : Checked
 
@@ -28,15 +28,15 @@ has_failed held = false
 
 -- how many octets came of each stream of the last session
 abbrev pub counts_of : Checked → OctetCounts
-counts_of (judging facts answers fed) = fed.counts
+counts_of (judging overviews facts answers fed) = fed.counts
 counts_of (decided judgement counts) = counts
 counts_of failed = record { client = 0; server = 0 }
 
 -- ---- what that stands for
 
--- a session of which nothing came yet
-abbrev pub unrecorded : Recorded
-unrecorded = record { client = taken Opaque []; server = [] }
+-- a session of which nothing came yet, where they are taken so
+abbrev pub unrecorded : Overviews → Recorded
+unrecorded overviews = record { client = taken overviews []; server = [] }
 
 -- sessions have ended, each with so many answers, and exchanges of one more have passed; some spool permits all of these, and the facts are theirs
 pub record Keeps (profile : Profile) (before : List Recorded) (session : Recorded) (facts : FactsKept) (answers : List ℕ) (fed : Fed) : Type 0 where
@@ -61,7 +61,7 @@ pub record IsHeld (facts : FactsKept) (answers : List ℕ) (fed : Fed) : Type 0 
 
 -- what a checker holds while its judgement goes on, it holds of some sessions
 abbrev pub IsSound : Checked → Type 0
-IsSound (judging facts answers fed) = IsHeld facts answers fed
+IsSound (judging overviews facts answers fed) = IsHeld facts answers fed
 IsSound (decided judgement counts) = ⊤
 IsSound failed = ⊤
 
@@ -70,9 +70,11 @@ pub record IsDecided (limit : Limit) (marks : Marks) (judgement : JudgementOfAll
   pub for_good : IsNoForGood before judgement
   pub verdict : (client server : List ℕ) → IsVerdictFrom limit marks before (with_more session client server) judgement
 
--- these sessions came, and octets of one more, joined, and the checker holds what it has to of them, to judge them by this limit and these marks
+-- these sessions came, and octets of one more, joined, and the checker holds what it has to of them, to judge them by this
+-- limit and these marks; where it goes on, it takes OVER and XOVER as they are taken in the last one
 abbrev pub StandsForAll : Limit → Marks → Checked → List Recorded → Recorded → Type 0
-StandsForAll limit marks (judging facts answers fed) before session = HasPassed (profile_of limit marks) before session facts answers fed
+StandsForAll limit marks (judging overviews facts answers fed) before session =
+    HasPassed (profile_of limit marks) before session facts answers fed × (session.client.overviews ≡ overviews)
 StandsForAll limit marks (decided judgement counts) before session =
     IsDecided limit marks judgement before session × (counts.client ≡ length session.client.octets) × (counts.server ≡ length session.server)
 StandsForAll limit marks failed before session = ⊥
@@ -99,10 +101,11 @@ IsUntaken errors.Memory side octets before after =
     (has_failed before ≡ false) × (count_of side (counts_of before) + length octets < 2 ^ 64) × (has_failed after ≡ true)
 
 -- the next session has begun: the checker holds what it has to of those that came before, and of one of which nothing came
+-- and in which OVER and XOVER are taken as in the last
 pub record HasBegun (before after : Checked) : Type 0 where
   pub worked : has_failed before ≡ false
   pub stands : (limit : Limit) (marks : Marks) (ended : List Recorded) (session : Recorded) → StandsForAll limit marks before ended session
-      → StandsForAll limit marks after (ended ++ session ∷ []) unrecorded
+      → StandsForAll limit marks after (ended ++ session ∷ []) (unrecorded session.client.overviews)
 
 -- no session has begun, for this reason, and this is left
 abbrev pub IsUnbegun : PairError → Checked → Checked → Type 0

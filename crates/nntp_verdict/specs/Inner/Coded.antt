@@ -22,8 +22,11 @@ abbrev pub same_overviews_back : (overviews : Overviews) → to_overviews (of_ov
 same_overviews_back Opaque = refl
 same_overviews_back Judged = refl
 
+abbrev pub coded_overviews : Coded Overviews
+coded_overviews = code_by _ coded_bool of_overviews to_overviews same_overviews_back
+
 abbrev pub coded_client : Coded ClientStream
-coded_client = code_by _ (coded× (coded_list coded_ℕ) (code_by _ coded_bool of_overviews to_overviews same_overviews_back))
+coded_client = code_by _ (coded× (coded_list coded_ℕ) coded_overviews)
     (λ c. (c.octets, c.overviews)) (λ p. record { octets = p.0; overviews = p.1 }) (λ _. refl)
 
 abbrev pub coded_fed : Coded Fed
@@ -79,24 +82,24 @@ coded_judgement = code_by JudgementParts
 
 -- what is held by its parts, where memory wasn't refused
 abbrev pub CheckedParts : Type 0
-CheckedParts = Option ((FactsKept × (List ℕ × Fed)) ⊎ (JudgementOfAll × (ℕ × ℕ)))
+CheckedParts = Option (((Overviews × FactsKept) × (List ℕ × Fed)) ⊎ (JudgementOfAll × (ℕ × ℕ)))
 
 abbrev pub of_checked : Checked → CheckedParts
-of_checked (judging facts answers fed) = Some (inl (facts, (answers, fed)))
+of_checked (judging overviews facts answers fed) = Some (inl ((overviews, facts), (answers, fed)))
 of_checked (decided judgement counts) = Some (inr (judgement, (counts.client, counts.server)))
 of_checked failed = None
 
 abbrev pub to_checked : CheckedParts → Checked
-to_checked (Some (inl parts)) = judging parts.0 parts.1.0 parts.1.1
+to_checked (Some (inl parts)) = judging parts.0.0 parts.0.1 parts.1.0 parts.1.1
 to_checked (Some (inr parts)) = decided parts.0 (record { client = parts.1.0; server = parts.1.1 })
 to_checked None = failed
 
 abbrev pub same_checked_back : (held : Checked) → to_checked (of_checked held) ≡ held
-same_checked_back (judging facts answers fed) = refl
+same_checked_back (judging overviews facts answers fed) = refl
 same_checked_back (decided judgement counts) = refl
 same_checked_back failed = refl
 
 abbrev pub coded_checked : Coded Checked
 coded_checked = code_by CheckedParts
-    (coded_option (coded⊎ (coded× coded_facts (coded× (coded_list coded_ℕ) coded_fed)) (coded× coded_judgement (coded× coded_ℕ coded_ℕ))))
+    (coded_option (coded⊎ (coded× (coded× coded_overviews coded_facts) (coded× (coded_list coded_ℕ) coded_fed)) (coded× coded_judgement (coded× coded_ℕ coded_ℕ))))
     of_checked to_checked same_checked_back

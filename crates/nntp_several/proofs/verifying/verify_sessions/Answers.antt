@@ -3,7 +3,7 @@ use Rattle.nntp_article.specs.Session.{Explains.{Explains}, Limit.{profile_of}}
 use Rattle.nntp_spool.specs.{Sessions.{RefusesAt}, Verifying.{IsVerified}}
 use Rattle.nntp_several.{specs.{Sessions.{Recorded}, Verifying.{PermitsAll, IsVerifiedOfAll}}, proofs.SessionsVerified.{permits_next, refuses_next}}
 use Rattle.nntp_several.proofs.SessionsVerified.{permits_last}
-use Rattle.nntp_wire.specs.{Session.{taken}, declared.overviews.Overviews.TheVariants.{Opaque}}
+use Rattle.nntp_wire.specs.Session.{taken}
 use Rattle.nntp_several.proofs.verifying.verify_sessions.Goals as goal
 
 pub loop-session-init : goal.loop-session-init
@@ -16,7 +16,7 @@ loop-session-preserved g c =
     let profile = profile_of c.args.spool.now.limit c.args.marks in
     let S = c.args.spool.now.spool in
     let n = c.in-Permits.count in
-    let told = subst (IsVerified profile S (taken Opaque c.session.inside.client.now) c.session.inside.server.now) c.in-Permits.is c.in_ok-count.ensures in
+    let told = subst (IsVerified profile S (taken c.session.inside.overviews c.session.inside.client.now) c.session.inside.server.now) c.in-Permits.is c.in_ok-count.ensures in
     permits_next profile S c.args.sessions.now c.loop-session.session-index c.loop-session.answers.items c.loop-session.invariant
     c.session-item.result c.push.new.self.items n c.loop-session-test.true c.session-item.is (subst (λ (s : Recorded). Explains profile S s.client s.server n) c.session.view_is told)
     c.in_ok-push-in-Permits.ensures.items
@@ -26,7 +26,7 @@ returns-in-Refuses g c =
     let profile = profile_of c.args.spool.now.limit c.args.marks in
     let S = c.args.spool.now.spool in
     let k = c.in-Refuses.index in
-    let told = subst (IsVerified profile S (taken Opaque c.session.inside.client.now) c.session.inside.server.now) c.in-Refuses.is c.in_ok-count.ensures in
+    let told = subst (IsVerified profile S (taken c.session.inside.overviews c.session.inside.client.now) c.session.inside.server.now) c.in-Refuses.is c.in_ok-count.ensures in
     refuses_next profile S c.args.sessions.now c.loop-session.session-index c.loop-session.answers.items c.loop-session.invariant
     c.session-item.result c.len.result k c.loop-session-test.true c.session-item.is (c.len.ensures ∙ c.loop-session.answers.ok.0)
     (subst (λ (s : Recorded). RefusesAt profile S s.client s.server k) c.session.view_is told)

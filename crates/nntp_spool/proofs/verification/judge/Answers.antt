@@ -1,5 +1,5 @@
 use Rattle.std.proofs.{Common.{arith, ◌≡◌, sym, subst, ◌∙◌}, lemmas.Bool.{true≢false}}
-use Rattle.nntp_wire.specs.{Inner.{View.{asked}, AnswerView.{response}}, Session.{taken}, declared.overviews.Overviews.TheVariants.{Opaque}}
+use Rattle.nntp_wire.specs.{Inner.{View.{asked}, AnswerView.{response}}, Session.{taken}}
 use Rattle.nntp_pair.specs.Pairing.{asked_at}
 use Rattle.nntp_article.specs.Session.{Machine.{MayAnswer, visible_after}, Spool.{Spool}}
 use Rattle.nntp_said.specs.{Asks.{position_after}, Inner.Asks.{state_at}}
@@ -14,7 +14,7 @@ returns-then-not-branch g c =
     let l = c.loop-exchange in
     let x = c.in-Exchange.exchange in
     let may = λ (S : Spool). MayAnswer c.args.profile S (state_at S l.visible l.position) (asked_at x.place) x.response in
-    not_permitted c.args.profile c.args.content.now c.requires.spool (taken Opaque c.args.client.now) c.args.server.now l.pairs (state_at c.args.content.now l.visible l.position) l.answers
+    not_permitted c.args.profile c.args.content.now c.requires.spool (taken c.args.overviews c.args.client.now) c.args.server.now l.pairs (state_at c.args.content.now l.visible l.position) l.answers
     l.invariant.0
     c.next.new.self x c.in-Exchange.ensures.step
     (λ m. true≢false (sym (c.in_ok-may_answer-in-Exchange.ensures.may.1 (subst may (sym l.invariant.2) m)) ∙ c.if-not-branch.true))
@@ -31,7 +31,7 @@ loop-exchange-preserved g c =
     let says_too : response c.answer-in-Exchange.result.now ≡ x.response = c.answer-in-Exchange.ensures.value in
     let shown = c.in_ok-advance-in-Exchange.ensures.ok ∙ (λ i. visible_after l.visible (asks i) (says i)) in
     let moved = c.after-position.ensures ∙ (λ i. position_after l.position (asks_too i) (says_too i)) in
-    let more = one_more_answer c.args.profile c.args.content.now (taken Opaque c.args.client.now) c.args.server.now l.pairs
+    let more = one_more_answer c.args.profile c.args.content.now (taken c.args.overviews c.args.client.now) c.args.server.now l.pairs
     c.next.new.self l.visible c.advance.new.self l.position c.after-position.result l.answers x l.invariant.0 c.in-Exchange.ensures.step
     (subst may same (c.in_ok-may_answer-in-Exchange.ensures.may.0 c.if-not-branch.false)) shown moved in (
       rw c.index-answers.ensures.value more,
@@ -42,13 +42,13 @@ loop-exchange-preserved g c =
 pub returns-in-Bad : goal.returns-in-Bad
 returns-in-Bad g c =
     let l = c.loop-exchange in
-    answers_nothing c.args.profile c.args.content.now c.requires.spool (taken Opaque c.args.client.now) c.args.server.now l.pairs (state_at c.args.content.now l.visible l.position) l.answers
+    answers_nothing c.args.profile c.args.content.now c.requires.spool (taken c.args.overviews c.args.client.now) c.args.server.now l.pairs (state_at c.args.content.now l.visible l.position) l.answers
     l.invariant.0
     c.in-Bad.class c.in-Bad.ensures.step.1
 
 pub returns-in-End : goal.returns-in-End
 returns-in-End g c =
     let l = c.loop-exchange in
-    all_permitted c.args.profile c.args.content.now c.requires.spool (taken Opaque c.args.client.now) c.args.server.now l.pairs (state_at c.args.content.now l.visible l.position) l.answers
+    all_permitted c.args.profile c.args.content.now c.requires.spool (taken c.args.overviews c.args.client.now) c.args.server.now l.pairs (state_at c.args.content.now l.visible l.position) l.answers
     l.invariant.0
     c.in-End.ensures.step.0.0

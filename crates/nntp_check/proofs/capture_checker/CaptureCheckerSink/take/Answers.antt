@@ -4,11 +4,21 @@ use Rattle.nntp_check.proofs.capture_checker.CaptureCheckerSink.take.Goals as go
 
 pub returns-in_ok-feed_client-in-Client-clause-ok : goal.returns-in_ok-feed_client-in-Client-clause-ok
 returns-in_ok-feed_client-in-Client-clause-ok g c = rw c.in-Client.is
-    (λ by held judges. record { checks = c.in_ok-feed_client-in-Client.ensures.stands by.0 by.1 _ held.last.session judges.checks; names = judges.names; last_name = judges.last_name })
+    (λ by held judges. record {
+      checks = c.in_ok-feed_client-in-Client.ensures.stands by.0 by.1 _ held.last.session judges.checks;
+      opaque = judges.opaque;
+      names = judges.names;
+      last_name = judges.last_name;
+    })
 
 pub returns-in_ok-feed_server-in-Server-clause-ok : goal.returns-in_ok-feed_server-in-Server-clause-ok
 returns-in_ok-feed_server-in-Server-clause-ok g c = rw c.in-Server.is
-    (λ by held judges. record { checks = c.in_ok-feed_server-in-Server.ensures.stands by.0 by.1 _ held.last.session judges.checks; names = judges.names; last_name = judges.last_name })
+    (λ by held judges. record {
+      checks = c.in_ok-feed_server-in-Server.ensures.stands by.0 by.1 _ held.last.session judges.checks;
+      opaque = judges.opaque;
+      names = judges.names;
+      last_name = judges.last_name;
+    })
 
 pub returns-in_err-feed_client-in-Client-clause-err : goal.returns-in_err-feed_client-in-Client-clause-err
 returns-in_err-feed_client-in-Client-clause-err g c = grind (arith, err_from_is_err_and, untaken-memory)

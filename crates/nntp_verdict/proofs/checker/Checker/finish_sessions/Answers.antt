@@ -17,5 +17,5 @@ returns-in_ok-finish-in-Judging g c =
       worked = ap has_failed is;
       verdict = λ limit marks before session stands.
           c.in_ok-finish-in-Judging.ensures limit marks before session
-          (subst (λ o. StandsForAll limit marks (going_on o) before session) (sym c.in-Judging.ongoing-is) (subst (λ held. StandsForAll limit marks held before session) is stands));
+          (subst (λ o. StandsForAll limit marks (going_on o) before session) (sym c.in-Judging.ongoing-is) (subst (λ held. StandsForAll limit marks held before session) is stands)).0;
     }

@@ -10,8 +10,9 @@ returns g c =
     let fed = c.args.self.now.feed in
     let new = c.end_session.new.judge in
     let told = c.in_ok-told.told in
-    let is = c.new.ensures in
+    let is = c.taking.ensures in
+    let overviews = c.args.self.now.overviews in
     record {
-      begun = begun-settled judge.facts judge.answers.items fed new.facts new.answers.items c.new.result told is.value is.fed c.in_ok-told.ensures;
-      sound = begun-sound judge.facts judge.answers.items fed new.facts new.answers.items c.new.result told c.requires is.value is.fed c.in_ok-told.ensures;
+      begun = begun-settled overviews judge.facts judge.answers.items fed new.facts new.answers.items c.taking.result told is.value is.fed c.in_ok-told.ensures;
+      sound = begun-sound overviews judge.facts judge.answers.items fed new.facts new.answers.items c.taking.result told c.requires is.value is.fed c.in_ok-told.ensures;
     }

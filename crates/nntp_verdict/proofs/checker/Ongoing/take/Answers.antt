@@ -34,7 +34,7 @@ returns g c =
     let taken = c.in-Ok.ensures in
     record {
       taken = told_of c.go_on.result _ _ c.go_on.ensures
-          (λ told judged. taken-settled judge.facts judge.answers.items fed new.facts new.answers.items last side octets then told taken judged);
+          (λ told judged. taken-settled c.args.self.now.overviews judge.facts judge.answers.items fed new.facts new.answers.items last side octets then told taken judged);
       sound = told_of c.go_on.result _ _ c.go_on.ensures
-          (λ told judged. taken-sound judge.facts judge.answers.items fed new.facts new.answers.items last side octets then told c.requires taken judged);
+          (λ told judged. taken-sound c.args.self.now.overviews judge.facts judge.answers.items fed new.facts new.answers.items last side octets then told c.requires taken judged);
     }

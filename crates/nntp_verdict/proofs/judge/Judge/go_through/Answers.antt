@@ -12,7 +12,7 @@ loop-exchange-init g c = λ limit marks before e. record {
     earlier = e.earlier;
     ended = e.ended;
     pairs = [];
-    next = sym (c.new-pairs.ensures ∙ ap (λ (s : Recorded). streams s.client s.server) c.session.view_is);
+    next = sym (c.taking-pairs.ensures ∙ ap (λ (s : Recorded). streams s.client s.server) c.session.view_is);
     stands = e.stands;
   };
   answers_are = e.answers_are;

@@ -1,0 +1,223 @@
+//! Verdicts on sessions in which OVER and XOVER are judged (RFC 3977, section 8.3; RFC 2980, section 2.8): those of a
+//! checker to which the octets come one by one, of lists of sessions, and of the spools that are given. Where they are
+//! opaque, each of these sessions is consistent.
+use nntp_fixtures::{
+    checked_sessions, checked_taking, checker_taking, expect_front, expect_octets, expect_verified,
+    finished, recorded_taking, verified_sessions,
+};
+use nntp_sessions::{NARROW_LENIENT, spool_text};
+use nntp_spool::{Verified, verify, verify_taking};
+use nntp_verdict::{Checker, Verdict, check};
+use nntp_wire::Overviews;
+use std::alloc::Global;
+use std::test::Fail;
+
+/// A session: both streams, and how the report on it begins, where OVER and XOVER are judged.
+#[derive(Clone, Copy)]
+struct Row {
+    client: &'static str,
+    server: &'static str,
+    judged: &'static str,
+}
+
+/// Behind overviews of 1 and 3 of the numbers 1 to 3, number 2 is there.
+const SHOWS_2: Row = Row {
+    client: "GROUP g\r\nXOVER 1-3\r\nSTAT 2\r\n",
+    server: "200 hi\r\n211 5 1 5 g\r\n\
+        224 x\r\n1\ts\tf\td\t<a@x>\tr\t9\t1\r\n3\ts\tf\td\t<c@x>\tr\t9\t1\r\n.\r\n223 2 <b@x>\r\n",
+    judged: "bad answer 3 Contradiction\ncommand STAT 2\nanswer 223 2 <b@x>\n",
+};
+
+/// Behind the same overviews, number 2 isn't there, and 1 has the id of its overview.
+const DENIES_2: Row = Row {
+    client: "GROUP g\r\nXOVER 1-3\r\nSTAT 2\r\nSTAT 1\r\n",
+    server: "200 hi\r\n211 5 1 5 g\r\n\
+        224 x\r\n1\ts\tf\td\t<a@x>\tr\t9\t1\r\n3\ts\tf\td\t<c@x>\tr\t9\t1\r\n.\r\n423 no\r\n223 1 <a@x>\r\n",
+    judged: "consistent answers=5 groups=1 ",
+};
+
+/// OVER of a range has no overview.
+const NO_LINE: Row = Row {
+    client: "GROUP g\r\nOVER 1-5\r\n",
+    server: "200 hi\r\n211 5 1 5 g\r\n224 x\r\n.\r\n",
+    judged: "bad answer 2 OutOfPlace\ncommand OVER 1-5\nanswer 224 x\n",
+};
+
+/// A number has another id than that of its overview.
+const ANOTHER_ID: Row = Row {
+    client: "GROUP g\r\nXOVER 1\r\nSTAT 1\r\n",
+    server: "200 hi\r\n211 5 1 5 g\r\n224 x\r\n1\ts\tf\td\t<a@x>\tr\t9\t1\r\n.\r\n223 1 <b@x>\r\n",
+    judged: "bad answer 3 Contradiction\ncommand STAT 1\nanswer 223 1 <b@x>\n",
+};
+
+const ROWS: [Row; 4] = [SHOWS_2, DENIES_2, NO_LINE, ANOTHER_ID];
+
+/// Gives both streams octet by octet, the server's first.
+fn feed_octets(checker: &mut Checker, row: &Row) -> Result<(), Fail> {
+    for octet in row.server.as_bytes() {
+        checker.feed_server(&[*octet])?;
+    }
+    for octet in row.client.as_bytes() {
+        checker.feed_client(&[*octet])?;
+    }
+    Ok(())
+}
+
+/// A checker that takes OVER and XOVER so, to which a session came octet by octet.
+fn fed(alloc: Global, overviews: Overviews, row: &Row) -> Result<Checker, Fail> {
+    let mut checker = checker_taking(NARROW_LENIENT, alloc, overviews);
+    feed_octets(&mut checker, row)?;
+    Ok(checker)
+}
+
+/// Where a verdict is a yes, the given spool permits the session.
+fn expect_permitted(
+    alloc: Global,
+    overviews: Overviews,
+    row: &Row,
+    verdict: &Verdict,
+) -> Result<(), Fail> {
+    let Verdict::Consistent { spool, answers } = verdict else {
+        return Ok(());
+    };
+    let (client, server) = (row.client.as_bytes(), row.server.as_bytes());
+    let verified = verify_taking(
+        alloc,
+        NARROW_LENIENT.marks,
+        spool,
+        overviews,
+        client,
+        server,
+    )?;
+    expect_verified(
+        row.client,
+        verified,
+        Verified::Permits { answers: *answers },
+    )
+}
+
+/// A checker that takes OVER and XOVER so reports so, and permits the session by the spool that it gives.
+fn expect(alloc: Global, overviews: Overviews, row: &Row, front: &str) -> Result<(), Fail> {
+    let report = finished(alloc, fed(alloc, overviews, row)?)?;
+    expect_front(row.client, &report, front)?;
+    let verdict = fed(alloc, overviews, row)?.finish()?;
+    expect_permitted(alloc, overviews, row, &verdict)
+}
+
+#[test]
+fn judged_overviews_decide(rt: HostRuntime) -> Result<(), Fail> {
+    for row in &ROWS {
+        expect(rt.alloc(), Overviews::Judged, row, row.judged)?;
+    }
+    Ok(())
+}
+
+#[test]
+fn opaque_overviews_say_nothing(rt: HostRuntime) -> Result<(), Fail> {
+    for row in &ROWS {
+        expect(rt.alloc(), Overviews::Opaque, row, "consistent ")?;
+    }
+    Ok(())
+}
+
+/// `check` and `verify` take them as opaque: a session is consistent, and its spool permits it.
+fn expect_opaque(alloc: Global, row: &Row) -> Result<(), Fail> {
+    let (client, server) = (row.client.as_bytes(), row.server.as_bytes());
+    let (limit, marks) = (NARROW_LENIENT.limit, NARROW_LENIENT.marks);
+    let verdict = check(alloc, limit, marks, client, server)?;
+    let Verdict::Consistent { spool, answers } = &verdict else {
+        return Err(Fail::new(format_args!("{} is bad", row.client)));
+    };
+    let verified = verify(alloc, marks, spool, client, server)?;
+    expect_verified(
+        row.client,
+        verified,
+        Verified::Permits { answers: *answers },
+    )
+}
+
+#[test]
+fn the_calls_of_one_session_take_them_as_opaque(rt: HostRuntime) -> Result<(), Fail> {
+    for row in &ROWS {
+        expect_opaque(rt.alloc(), row)?;
+    }
+    Ok(())
+}
+
+/// Two sessions, each with how OVER and XOVER are taken in it, and how the report on them begins.
+type Pair = ([(Overviews, Row); 2], &'static str);
+
+const PAIRS: [Pair; 4] = [
+    (
+        [(Overviews::Opaque, SHOWS_2), (Overviews::Judged, DENIES_2)],
+        "session 1\nbad answer 2 Contradiction\n",
+    ),
+    (
+        [(Overviews::Opaque, SHOWS_2), (Overviews::Opaque, DENIES_2)],
+        "session 1\nbad answer 3 Contradiction\n",
+    ),
+    (
+        [(Overviews::Judged, DENIES_2), (Overviews::Opaque, NO_LINE)],
+        "consistent answers=5,3\n",
+    ),
+    (
+        [(Overviews::Judged, DENIES_2), (Overviews::Judged, NO_LINE)],
+        "session 1\nbad answer 2 OutOfPlace\n",
+    ),
+];
+
+/// A list of sessions is judged each by its own choice; and where they have one choice, so by a checker.
+fn expect_pair(alloc: Global, ([first, second], front): Pair) -> Result<(), Fail> {
+    let sessions = [
+        recorded_taking(first.0, (first.1.client, first.1.server)),
+        recorded_taking(second.0, (second.1.client, second.1.server)),
+    ];
+    let report = checked_sessions(alloc, NARROW_LENIENT, &sessions)?;
+    expect_front(second.1.client, &report, front)?;
+    if first.0 != second.0 {
+        return Ok(());
+    }
+    let checked = checked_taking(alloc, NARROW_LENIENT, first.0, &sessions)?;
+    expect_octets(second.1.client, &checked, &report)
+}
+
+#[test]
+fn each_session_says_how_they_are_taken(rt: HostRuntime) -> Result<(), Fail> {
+    for pair in PAIRS {
+        expect_pair(rt.alloc(), pair)?;
+    }
+    Ok(())
+}
+
+/// The text of the spool that `check` gives for a session.
+fn given(alloc: Global, row: &Row) -> Result<Vec<u8>, Fail> {
+    let (client, server) = (row.client.as_bytes(), row.server.as_bytes());
+    let (limit, marks) = (NARROW_LENIENT.limit, NARROW_LENIENT.marks);
+    match check(alloc, limit, marks, client, server)? {
+        Verdict::Consistent { spool, .. } => Ok(spool_text(alloc, &spool)?),
+        Verdict::Bad { .. } => Err(Fail::new(format_args!("{} is bad", row.client))),
+    }
+}
+
+/// The same session twice, where OVER and XOVER are opaque and then so: what `verify_sessions` answers of a spool that
+/// has number 2 alone.
+fn expect_verified_twice(alloc: Global, overviews: Overviews, wanted: &str) -> Result<(), Fail> {
+    let streams = (SHOWS_2.client, SHOWS_2.server);
+    let sessions = [
+        recorded_taking(Overviews::Opaque, streams),
+        recorded_taking(overviews, streams),
+    ];
+    let text = given(alloc, &SHOWS_2)?;
+    let verified = verified_sessions(alloc, NARROW_LENIENT.marks, &text, &sessions)?;
+    expect_octets(wanted, verified.as_bytes(), wanted.as_bytes())
+}
+
+#[test]
+fn each_session_is_verified_by_its_choice(rt: HostRuntime) -> Result<(), Fail> {
+    expect_verified_twice(rt.alloc(), Overviews::Opaque, "permits answers=4,4\n")?;
+    expect_verified_twice(
+        rt.alloc(),
+        Overviews::Judged,
+        "session 1\nrefuses answer 2\n",
+    )
+}
