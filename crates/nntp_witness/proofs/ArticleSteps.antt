@@ -5,7 +5,7 @@ use Rattle.std.specs.{declared.cmp.Ordering.TheVariants.{Less}, Ordering.{nat_cm
 use Rattle.std.specs.FinMap.{FinMap, get, insert, get-insert, same_map}
 use Rattle.nntp_wire.{proofs.OptionLemmas.{none_of, some_is}, specs.declared.limit.Limit.{Limit}}
 use Rattle.nntp_article.specs.{Article.Parts.{Id}, Session.{Machine.{is_same}, Spool.{Spool, Text}}}
-use Rattle.nntp_said.specs.Facts.{Fact, IdAt, Holds}
+use Rattle.nntp_said.specs.Facts.{Fact, IdAt, OverviewsAre, Holds}
 use Rattle.nntp_theory.{specs.{Given.{IsGiven, mentions, is_mentioned}, Together.{shows_article}}, proofs.{Given.ConstructedSpool.{names_apart}, Members.{In}}}
 use Rattle.nntp_theory.proofs.{Members.{all_at, all_from, any_in, found_in}, Together.FactsOfASpoolStand.{same_itself}}
 use Rattle.nntp_facts.specs.Inner.Readers.{ShownArticle, IsShownArticle, AreShownArticles}
@@ -30,6 +30,9 @@ shown_has_article facts G given holds id t = let f = found_in (shows_article id)
   where
     by : (fact : Fact) → In fact facts → shows_article id fact ≡ true → Holds G fact → IsSome (get G.articles id)
     by (IdAt name n other) i t at = (given.articles id).1 (inl (name, n, at ∙ ap Some (same_text other id (sym t))))
+    by (OverviewsAre name r os) i t held =
+        let f = found_in (λ o. is_same o.id id) os t in
+        (given.articles id).1 (inl (name, f.0.number, all_at _ f.0 os held.1 f.1 ∙ ap Some (same_text f.0.id id (sym f.2))))
     by fact i t at = grind (arith, any_in)
 
 -- ---- before the first

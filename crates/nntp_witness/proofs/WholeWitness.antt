@@ -3,10 +3,10 @@ use Rattle.std.proofs.Common.{arith, ◌≡◌, ℕ, true, false, List, [], Opti
 use Rattle.std.{proofs.lemmas.Bool.{true≢false, false≢true}, specs.{Prelude.{unwrap_or}, List.{list_any}, Cmp.Lexicographic.{nat_list_cmp_total}, FinMap.{get}}}
 use Rattle.std.specs.FinMap.{empty, same_map}
 use Rattle.nntp_wire.specs.declared.limit.Limit.{Limit}
-use Rattle.nntp_article.specs.{Article.Parts.{Id}, Session.Spool.{Spool, Name, numbers}}
-use Rattle.nntp_said.specs.Facts.{Fact}
+use Rattle.nntp_article.specs.{Article.Parts.{Id}, Session.{Spool.{Spool, Name, numbers}, Machine.{is_same}}}
+use Rattle.nntp_said.specs.Facts.{Fact, OverviewsAre}
 use Rattle.nntp_theory.{specs.{Given.{IsGiven, id_in, id_shown, is_sent, gives_article}, Together.{shows_article}}, proofs.Given.ConstructedSpool.{names_apart}}
-use Rattle.nntp_theory.proofs.{Members.{any_in, found_in, first_found}, Together.FactsOfASpoolStand.{same_itself}}
+use Rattle.nntp_theory.proofs.{Members.{any_in, found_in, first_found}, Together.{ListedOverviews.{overview_at}, FactsOfASpoolStand.{same_itself}}}
 use Rattle.nntp_spool.{specs.{Inner.Building.{Building, finished}, Content.{ids_have_articles}}, proofs.{ShownMaps.{spool_is}, WholeSpools.{spool_knows}}}
 use Rattle.nntp_witness.specs.Inner.{Witness.{IsGivenSpool}, Making.{ArticlesLeft}}
 
@@ -22,6 +22,9 @@ sent_is_shown id facts t = let f = found_in (gives_article id) facts t in any_in
 
 -- and so is one that a fact shows for a number
 id_shows : (name : Name) (n : ℕ) (id : Id) (fact : Fact) → id_in name n fact ≡ Some id → shows_article id fact ≡ true
+id_shows name n id (OverviewsAre g r os) e =
+    let o = overview_at g name r os n id e in
+    any_in (λ o. is_same o.id id) o.overview os o.there (ap (λ other. is_same other id) o.same_id ∙ same_itself id)
 id_shows name n id fact e = grind (arith, same_itself)
 
 -- where one of the facts does

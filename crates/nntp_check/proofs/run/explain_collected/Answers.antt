@@ -1,9 +1,8 @@
-use Rattle.std.proofs.Common.{◌∙◌, ap, sym, subst}
+use Rattle.std.{proofs.Common.{◌∙◌, ap, sym, subst}, specs.Prelude.{IfOk}}
 use Rattle.nntp_wire.specs.Session.{taken}
 use Rattle.nntp_several.specs.Sessions.{Recorded}
 use Rattle.nntp_explain.specs.Explaining.{IsExplanation}
 use Rattle.nntp_check.specs.{Run.{ExplainsHeld}, Inner.Collecting.{held_in}}
-use Rattle.std.specs.Prelude.{IfOk}
 use Rattle.nntp_check.proofs.run.explain_collected.Goals as goal
 
 pub returns : goal.returns
