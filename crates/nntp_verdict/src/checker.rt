@@ -154,8 +154,9 @@ impl<A: Allocator + Copy> Checker<A> {
     }
 
     /// Ends the session, and begins a further one of the same spool, of which no octet has come: the octets that
-    /// follow are its, and OVER and XOVER are taken as in the one that ends. What the exchanges that passed say of the spool goes on to it, and nothing else. Where octets of
-    /// the ended session are left that answer nothing, that is decided then, and so is all that follows.
+    /// follow are its, and OVER and XOVER are taken as in the one that ends. What the exchanges that passed say of the
+    /// spool goes on to it, and nothing else. Where octets of the ended session are left that answer nothing, that is
+    /// decided then, and so is all that follows.
     ///
     /// # Errors
     ///

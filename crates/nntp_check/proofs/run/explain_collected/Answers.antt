@@ -10,5 +10,7 @@ returns g c =
     let session = c.session.inside in
     let opaque = ap (λ (s : Recorded). s.client.overviews) c.session.view_is ∙ c.last-session.ensures.opaque in
     let same = (λ i. record { client = taken (sym opaque i) session.client.now; server = session.server.now }) ∙ c.session.view_is ∙ c.last-session.ensures.session in
-    let alone = subst (λ (s : Recorded). IfOk c.explain.result (λ told. IsExplanation c.args.limit c.args.marks s.client s.server told.text.items told.is_without_fault)) same c.explain.ensures in
-    subst (λ several. IfOk c.explain.result (λ told. ExplainsHeld c.args.limit c.args.marks several (held_in c.args.streams.now) told.text.items told.is_without_fault)) (sym c.if-is_several.false) alone
+    let alone = subst (λ (s : Recorded). IfOk c.explain.result (λ told. IsExplanation c.args.limit c.args.marks s.client s.server told.text.items told.is_without_fault))
+    same c.explain.ensures in
+    subst (λ several. IfOk c.explain.result (λ told. ExplainsHeld c.args.limit c.args.marks several (held_in c.args.streams.now) told.text.items told.is_without_fault))
+    (sym c.if-is_several.false) alone
