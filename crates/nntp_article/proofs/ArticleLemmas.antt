@@ -8,3 +8,4 @@ pub mod ContentLemmas
 pub mod MissingLemmas
 pub mod HeadHasNoEmptyLine
 pub mod OneReading
+pub mod FieldLemmas

@@ -1,3 +1,4 @@
 pub mod Parts
 pub mod Control
 pub mod Required
+pub mod Fields

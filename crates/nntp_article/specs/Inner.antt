@@ -7,3 +7,4 @@ pub mod Ascending
 pub mod Misfit
 pub mod MisfitView
 pub mod Listed
+pub mod Fields

@@ -1,6 +1,7 @@
 //! Articles (RFC 3977, section 3.6; RFC 1036): their parts, heads, headers and control messages.
 mod control_headers;
 mod control_message;
+mod field;
 mod head;
 mod head_line;
 mod header;
@@ -12,6 +13,7 @@ mod said_id;
 
 pub use control_headers::control;
 pub use control_message::Control;
+pub use field::Field;
 pub use head::Head;
 pub use header::{Header, Headers, content};
 pub use missing_headers::Missing;

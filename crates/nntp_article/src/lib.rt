@@ -7,6 +7,6 @@ pub mod article;
 pub mod session;
 
 pub use article::{
-    Control, Head, Header, Headers, Missing, Parts, content, control, lines_say, missing,
+    Control, Field, Head, Header, Headers, Missing, Parts, content, control, lines_say, missing,
 };
 pub use session::{Listed, Misfit, Profile, Visible, is_article_number, is_generic_failure};

@@ -1,11 +1,11 @@
 -- What each answer of a session says of the spool, with the current article read off the session.
-use Rattle.std.specs.{Prelude.{◌≡◌, ℕ, ◌==◌, if◌then◌else◌, List, [], ◌∷◌, ◌++◌, Option, None, Some, unwrap_or}, Option.{option_map_or}, FinMap.{get}}
+use Rattle.std.specs.{List.{AllByRecursion}, Prelude.{◌≡◌, ℕ, ◌==◌, if◌then◌else◌, List, [], ◌∷◌, ◌++◌, Option, None, Some, unwrap_or}, Option.{option_map_or}, FinMap.{get}}
 use Rattle.nntp_article.specs.Session.{Spool.{Spool, IsGroup, numbers, HasText, Name}, Machine.{Visible, visible_after, ActivesAgree, is_one_of, none_in_range}}
-use Rattle.nntp_article.specs.{Session.Machine.{ListsOverviews, only, found}, Article.Parts.{Id, Line}}
+use Rattle.nntp_article.specs.{Session.Machine.{HasOverview, ListsOverviews, only}, Article.Parts.{Id, Line}}
 use Rattle.nntp_said.specs.Asks.{position_after, Ask, Meets, Estimates, ListsIn, Lacks, StandsAt, StandsNowhere, StepsUp, StepsDown, IsTop, IsBottom}
 use Rattle.nntp_said.specs.declared.position.Position.{Position}
 use Rattle.nntp_wire.specs.{Listing.{ActiveValue, OverviewValue, listed_numbers, active_groups, overviews_of}, declared.marks.Marks.{Marks}}
-use Rattle.nntp_wire.specs.{declared.{range.Range.{Range}, command.What.{What, TheVariants.{Stat}}}, Command.{Request, Target, Overviewed, by_id, by_number}}
+use Rattle.nntp_wire.specs.{declared.{range.Range.{Range}, command.What.{What}}, Command.{Request, Target, Overviewed, by_id, by_number}}
 use Rattle.nntp_wire.specs.{Command.{current, group, next, last, retrieve, list_group, list_active, over, the_id, in_range, the_current}, Answer.{Asked}}
 use Rattle.nntp_wire.specs.Answer.{Response, Success, to, group_is, numbers_are, sends, active_are, overviews_are, plain}
 
@@ -17,6 +17,7 @@ pub data Fact : Type 0 where
   IdAt : (name : Name) → (number : ℕ) → (id : Id) → Fact  -- the group gives the id at the number
   TextIs : (what : What) → (id : Id) → (lines : Option (List Line)) → Fact  -- the id has an article, of which these lines are sent
   NoArticle : (id : Id) → Fact  -- the id has no article
+  FieldsAre : (overviews : List OverviewValue) → Fact  -- the id of each has an article, whose head tells the same
   OverviewsAre : (name : Name) → (range : Range) → (overviews : List OverviewValue) → Fact  -- the overviews of the numbers of the group in the range are these
   GroupsAre : (wildmat : Option (List ℕ)) → (lines : List ActiveValue) → Fact  -- the groups that match are these
 
@@ -28,7 +29,8 @@ Holds S (Asks name ask) = Meets (numbers S name) ask
 Holds S (IdAt name n id) = get (numbers S name) n ≡ Some id
 Holds S (TextIs what id lines) = HasText S what id lines
 Holds S (NoArticle id) = get S.articles id ≡ None
-Holds S (OverviewsAre name range overviews) = ListsOverviews (numbers S name) range overviews
+Holds S (FieldsAre overviews) = AllByRecursion (HasOverview S) overviews
+Holds S (OverviewsAre name range overviews) = ListsOverviews S (numbers S name) range overviews
 Holds S (GroupsAre p lines) = ActivesAgree S p lines
 
 -- the fact is said, if the code is the expected one
@@ -53,17 +55,25 @@ facts_of_code v at (over keyword (in_range range)) code = if is_one_of (none_in_
 facts_of_code v at (over keyword the_current) code = on code 420 (Asks (here v) (StandsNowhere at))
 facts_of_code v at command code = []
 
+-- where an article stands of which this was asked: nowhere in the group, if it was asked for by its id and the number is 0
+abbrev pub facts_of_place : Visible → Position → Target → ℕ → Id → List Fact
+facts_of_place v at (by_id word) number id = if number == 0 then [] else IdAt (here v) number id ∷ []
+facts_of_place v at (by_number n) number id = IdAt (here v) number id ∷ []
+facts_of_place v at current number id = Asks (here v) (StandsAt at number) ∷ IdAt (here v) number id ∷ []
+
 -- what a success of ARTICLE, HEAD, BODY or STAT says
 abbrev pub facts_of_article : Visible → Position → What → Target → Success → List Fact
-facts_of_article v at what (by_id word) sent = TextIs what sent.id sent.block ∷ (if sent.number == 0 then [] else IdAt (here v) sent.number sent.id ∷ [])
-facts_of_article v at what (by_number n) sent = TextIs what sent.id sent.block ∷ IdAt (here v) sent.number sent.id ∷ []
-facts_of_article v at what current sent = TextIs what sent.id sent.block ∷ Asks (here v) (StandsAt at sent.number) ∷ IdAt (here v) sent.number sent.id ∷ []
+facts_of_article v at what which sent = TextIs what sent.id sent.block ∷ facts_of_place v at which sent.number sent.id
 
--- what overviews say: those of a range that they are all, and the only one of another command what STAT would say
+-- what the overview of one article says
+abbrev pub facts_of_overview : Visible → Position → Target → OverviewValue → List Fact
+facts_of_overview v at which o = FieldsAre (o ∷ []) ∷ facts_of_place v at which o.number o.id
+
+-- what overviews say: those of a range that they are all, and the only one of another command what its article tells
 abbrev pub facts_of_overviews : Visible → Position → Overviewed → List OverviewValue → List Fact
 facts_of_overviews v at (in_range range) overviews = OverviewsAre (here v) range overviews ∷ []
-facts_of_overviews v at (the_id word) overviews = option_map_or (λ o. facts_of_article v at Stat (by_id word) (found o)) (only overviews) []
-facts_of_overviews v at the_current overviews = option_map_or (λ o. facts_of_article v at Stat current (found o)) (only overviews) []
+facts_of_overviews v at (the_id word) overviews = option_map_or (facts_of_overview v at (by_id word)) (only overviews) []
+facts_of_overviews v at the_current overviews = option_map_or (facts_of_overview v at current) (only overviews) []
 
 -- what an answer says of the spool, where marks are read so
 abbrev pub facts_of : Marks → Visible → Position → Asked → Response → List Fact

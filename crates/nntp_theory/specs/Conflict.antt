@@ -1,14 +1,14 @@
 -- With which earlier answers a bad answer conflicts.
-use Rattle.std.specs.Prelude.{◌≡◌, ℕ, zero, suc, ◌<◌, ◌≤◌, not, List, [], ◌∷◌, ◌++◌, length, Option, None, Some, IsTrue, slice_get, Contains, MatchOption}
+use Rattle.std.specs.Prelude.{◌≡◌, ℕ, zero, suc, ◌<◌, ◌≤◌, not, List, [], ◌∷◌, ◌++◌, length, Option, None, Some, option_map, IsTrue, slice_get, Contains, MatchOption}
 use Rattle.std.specs.{List.{AllByRecursion, flat_map, list_any}, Option.{option_map_or}}
 use Rattle.nntp_wire.specs.{Answer.{Asked, Response}, declared.{water_marks.WaterMarks.{WaterMarks}, marks.Marks.{Marks, TheVariants.{Lenient}}}}
 use Rattle.nntp_article.specs.Session.{Spool.{Spool, IsSpool, Name, Numbers}, Machine.{Visible, visible_after, start, is_ascending}}
-use Rattle.nntp_article.specs.{declared.session.profile.Profile.{Profile}, Article.Parts.{Id}}
+use Rattle.nntp_article.specs.{declared.session.profile.Profile.{Profile}, Article.{Parts.{Id}, Fields.{Word, words_in}}, declared.article.field.Field.{Field}}
 use Rattle.nntp_said.specs.{Asks.{position_after, Ask, Estimates}, declared.position.Position.{Position, TheVariants.{Nowhere}}, Facts.{Fact, Holds, ThereIs}}
 use Rattle.nntp_said.specs.Facts.{Asks, facts_of, group_of}
 use Rattle.nntp_pair.specs.Pairing.{Paired, asked_at, asked_of, responses_of}
 use Rattle.nntp_theory.specs.{Classes.{visible_from, position_from}, Given.{is_known, is_denied, demand, IsGivenNumber, HasGivenNumbers, asks_of}}
-use Rattle.nntp_theory.specs.{Given.{is_shown_group, id_in, head_in, body_in}, Together.{is_possible, MeetsDemand, IsFewFor, denies_group, number_in}}
+use Rattle.nntp_theory.specs.{Given.{is_shown_group, id_in, head_in, fields_in, body_in}, Together.{is_possible, MeetsDemand, IsFewFor, denies_group, number_in}}
 use Rattle.nntp_theory.specs.Together.{shows_article, denies_article, GiveOne}
 
 -- an answer where it stands: the group that is selected before it, where the session stands in that group, what was asked, and the response
@@ -127,10 +127,15 @@ pub data Point : Type 0 where
   Article : (id : Id) → Point  -- whether the id has an article
   HeadOf : (id : Id) → Point  -- which head the article has
   BodyOf : (id : Id) → Point  -- which body the article has
+  FieldOf : (id : Id) → (field : Field) → Point  -- what a header of the article tells
 
 -- the given numbers are more than is estimated
 abbrev pub AreTooMany : List Ask → Type 0
 AreTooMany asks = (N : Numbers) × HasGivenNumbers asks N × ¬ (AllByRecursion (IsFewFor N) asks)
+
+-- the words of one header that are told of the id
+abbrev pub words_told : Id → Field → Fact → Option (List Word)
+words_told id field fact = option_map (λ fields. words_in fields field) (fields_in id fact)
 
 -- the facts conflict there; of the numbers of a group each part of `AsksStand` has its point
 abbrev pub ConflictAt : List Fact → Point → Type 0
@@ -144,6 +149,7 @@ ConflictAt facts (PlaceOf name id) = ¬ (GiveOne (number_in name id) facts)
 ConflictAt facts (Article id) = IsTrue (list_any (shows_article id) facts) × IsTrue (list_any (denies_article id) facts)
 ConflictAt facts (HeadOf id) = ¬ (GiveOne (head_in id) facts)
 ConflictAt facts (BodyOf id) = ¬ (GiveOne (body_in id) facts)
+ConflictAt facts (FieldOf id field) = ¬ (GiveOne (words_told id field) facts)
 
 -- in which order points are told, by their kinds
 abbrev pub rank : Point → ℕ
@@ -157,6 +163,7 @@ rank (PlaceOf name id) = 6
 rank (Article id) = 7
 rank (HeadOf id) = 8
 rank (BodyOf id) = 9
+rank (FieldOf id field) = 10
 
 -- the facts conflict at the point, and at none of a kind that is told before
 pub record IsFirstPoint (facts : List Fact) (point : Point) : Type 0 where

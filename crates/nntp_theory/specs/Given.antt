@@ -1,11 +1,11 @@
 -- The spool that is given for what a session says.
 use Rattle.std.specs.Prelude.{◌≡◌, ℕ, ◌+◌, ◌<◌, ◌≤◌, Bool, true, false, not, ◌&&◌, ◌||◌, ◌==◌, nat_lt, if◌then◌else◌, IsTrue, IsFalse, IsSome, ◌↔◌, ◌⊎◌, List}
-use Rattle.std.specs.{Prelude.{[], ◌∷◌, ◌++◌, Option, None, Some, is_some, ⊤, unwrap_or, codes, decimal}, List.{list_any, flat_map}, Option.{option_or}}
+use Rattle.std.specs.{Prelude.{[], ◌∷◌, ◌++◌, Option, None, Some, is_some, ⊤, option_map, unwrap_or, codes, decimal}, List.{list_any, flat_map}, Option.{option_or, option_map_or}}
 use Rattle.std.specs.FinMap.{get, entries, len}
-use Rattle.nntp_article.specs.{Article.Parts.{head_part, body_part, Id, Line}, Session.Spool.{Spool, Text, Numbers, IsNumber, IsGroup, numbers, Name}}
+use Rattle.nntp_article.specs.{Article.{Parts.{head_part, body_part, Id, Line}, Fields.{Fields, fields_told, fields_of_head, field_lines}}, Session.Spool.{Spool, Text, Numbers, IsNumber, IsGroup, numbers, Name}}
 use Rattle.nntp_article.specs.Session.Machine.{is_in_range, is_same, overview_numbers, start}
 use Rattle.nntp_said.specs.Asks.{Ask, Estimates, Bounds, ListsIn, Has, Lacks, StandsAt, StandsNowhere, StepsUp, StepsDown, IsTop, IsBottom}
-use Rattle.nntp_said.specs.{declared.position.Position.TheVariants.{Nowhere, First, Known}, Facts.{Fact, ThereIs, Asks, IdAt, TextIs, NoArticle, OverviewsAre}}
+use Rattle.nntp_said.specs.{declared.position.Position.TheVariants.{Nowhere, First, Known}, Facts.{Fact, ThereIs, Asks, IdAt, TextIs, NoArticle, FieldsAre, OverviewsAre}}
 use Rattle.nntp_said.specs.Facts.{GroupsAre, facts_from}
 use Rattle.nntp_theory.specs.declared.demand.Demand.{Demand, TheVariants.{NoDemand, NotEmpty, OnlyOne, SecondIs, Impossible}}
 use Rattle.nntp_wire.specs.{Answer.{Asked, Response}, Listing.{OverviewValue}, declared.marks.Marks.{Marks, TheVariants.{Strict}}}
@@ -161,12 +161,17 @@ id_in name n fact = None
 abbrev pub id_shown : List Fact → Name → ℕ → Option Id
 id_shown facts name n = first_given (id_in name n) facts
 
+-- one of the overviews has the id
+abbrev pub has_overview_of : Id → List OverviewValue → Bool
+has_overview_of id overviews = list_any (λ o. is_same o.id id) overviews
+
 -- the fact mentions the id: a success or a step names it, an overview has it, or it is denied
 abbrev pub mentions : Id → Fact → Bool
 mentions id (IdAt name n other) = is_same other id
 mentions id (TextIs what other lines) = is_same other id
 mentions id (NoArticle other) = is_same other id
-mentions id (OverviewsAre name range overviews) = list_any (λ o. is_same o.id id) overviews
+mentions id (FieldsAre overviews) = has_overview_of id overviews
+mentions id (OverviewsAre name range overviews) = has_overview_of id overviews
 mentions id fact = false
 
 -- one of the facts mentions the id
@@ -176,6 +181,7 @@ is_mentioned facts id = list_any (mentions id) facts
 -- the fact is of a success that names the id
 abbrev pub gives_article : Id → Fact → Bool
 gives_article id (TextIs what other lines) = is_same other id
+gives_article id (FieldsAre overviews) = has_overview_of id overviews
 gives_article id fact = false
 
 -- a success names the id
@@ -194,9 +200,23 @@ body_in id (TextIs Article other (Some lines)) = if is_same other id then Some (
 body_in id (TextIs Body other (Some lines)) = if is_same other id then Some lines else None
 body_in id fact = None
 
+-- what an overview tells, if it has the id
+abbrev pub fields_of_overview : Id → OverviewValue → Option Fields
+fields_of_overview id o = if is_same o.id id then Some (fields_told o) else None
+
+-- what is told of four headers of the id: by the first overview that has it, or by a head that is sent
+abbrev pub fields_in : Id → Fact → Option Fields
+fields_in id (FieldsAre overviews) = first_given (fields_of_overview id) overviews
+fields_in id (OverviewsAre name range overviews) = first_given (fields_of_overview id) overviews
+fields_in id fact = option_map fields_of_head (head_in id fact)
+
 -- a head that says the id and nothing else
 abbrev pub plain_head : Id → List Line
 plain_head id = (codes "Message-ID: " ++ id) ∷ []
+
+-- a head that says the id, and of the four headers what is told
+abbrev pub made_head : Id → Option Fields → List Line
+made_head id told = plain_head id ++ option_map_or field_lines told []
 
 -- the id that is invented with the number k
 abbrev pub invented : ℕ → Id
@@ -228,7 +248,7 @@ pub record IsGiven (facts : List Fact) (G : Spool) : Type 0 where
   pub ids_shown : (name : Name) (n : ℕ) (id : Id) → IsNumber (numbers G name) n → id_shown facts name n ≡ Some id → get (numbers G name) n ≡ Some id
   pub ids_invented : AreInvented facts 0 (unshown_ids facts G)
   pub articles : (id : Id) → IsSome (get G.articles id) ↔ (IsUsed G id ⊎ IsTrue (is_sent facts id))
-  pub heads : (id : Id) (t : Text) → get G.articles id ≡ Some t → t.head ≡ unwrap_or (first_given (head_in id) facts) (plain_head id)
+  pub heads : (id : Id) (t : Text) → get G.articles id ≡ Some t → t.head ≡ unwrap_or (first_given (head_in id) facts) (made_head id (first_given (fields_in id) facts))
   pub bodies : (id : Id) (t : Text) → get G.articles id ≡ Some t → t.body ≡ unwrap_or (first_given (body_in id) facts) []
 
 -- S has what is shown, and no fewer numbers in a group than G
@@ -237,6 +257,7 @@ pub record HasAtLeast (facts : List Fact) (G S : Spool) : Type 0 where
   pub numbers_shown : (name : Name) (n : ℕ) → IsTrue (is_shown (asks_of name facts) n) → IsNumber (numbers S name) n
   pub ids_shown : (name : Name) (n : ℕ) (id : Id) → id_shown facts name n ≡ Some id → get (numbers S name) n ≡ Some id
   pub heads_sent : (id : Id) (lines : List Line) → first_given (head_in id) facts ≡ Some lines → (t : Text) × (get S.articles id ≡ Some t) × (t.head ≡ lines)
+  pub fields_told : (id : Id) (fields : Fields) → first_given (fields_in id) facts ≡ Some fields → (t : Text) × (get S.articles id ≡ Some t) × (fields_of_head t.head ≡ fields)
   pub bodies_sent : (id : Id) (lines : List Line) → first_given (body_in id) facts ≡ Some lines → (t : Text) × (get S.articles id ≡ Some t) × (t.body ≡ lines)
   pub counts : (name : Name) → IsGroup G name → len (numbers G name) ≤ len (numbers S name)
 

@@ -4,8 +4,8 @@ use Rattle.std.specs.{List.{AllByRecursion, list_any, list_all}, Option.{option_
 use Rattle.nntp_wire.specs.{Decided.{matches_name}, Listing.{OverviewValue}}
 use Rattle.nntp_article.specs.{Article.Parts.{Id}, Session.{Spool.{Name, Numbers}, Machine.{is_in_range, is_same}}}
 use Rattle.nntp_said.specs.Asks.{Ask, Estimates, ListsIn, StandsAt, StandsNowhere, StepsUp, StepsDown, IsTop, IsBottom}
-use Rattle.nntp_said.specs.{declared.position.Position.TheVariants.{Nowhere, Known}, Facts.{Fact, ThereIsNo, IdAt, TextIs, NoArticle, OverviewsAre, GroupsAre}}
-use Rattle.nntp_theory.specs.{Given.{first_given}, declared.demand.Demand.{Demand, TheVariants.{NoDemand, NotEmpty, OnlyOne, SecondIs, Impossible}}}
+use Rattle.nntp_said.specs.{declared.position.Position.TheVariants.{Nowhere, Known}, Facts.{Fact, ThereIsNo, IdAt, TextIs, NoArticle, FieldsAre, OverviewsAre, GroupsAre}}
+use Rattle.nntp_theory.specs.{Given.{first_given, has_overview_of}, declared.demand.Demand.{Demand, TheVariants.{NoDemand, NotEmpty, OnlyOne, SecondIs, Impossible}}}
 
 -- ---- the numbers of one group
 
@@ -58,7 +58,8 @@ number_in name id fact = None
 abbrev pub shows_article : Id → Fact → Bool
 shows_article id (IdAt name n other) = is_same other id
 shows_article id (TextIs what other lines) = is_same other id
-shows_article id (OverviewsAre name range overviews) = list_any (λ o. is_same o.id id) overviews
+shows_article id (FieldsAre overviews) = has_overview_of id overviews
+shows_article id (OverviewsAre name range overviews) = has_overview_of id overviews
 shows_article id fact = false
 
 -- the fact says that the id has no article

@@ -18,7 +18,7 @@ pub words-solid : (word : List ℕ) → 0 < length word → is_solid word ≡ tr
 words-solid word some solid = rw (slice_split_none is_blank word (solid-all word solid)) (rw (lt-ltb 0 (length word) some) refl)
 
 -- also where a blank follows
-words-solid_then : (word : List ℕ) (b : ℕ) (rest : List ℕ) → 0 < length word → is_solid word ≡ true → is_blank b ≡ true → words_of (word ++ b ∷ rest) ≡ word ∷ words_of rest
+pub words-solid_then : (word : List ℕ) (b : ℕ) (rest : List ℕ) → 0 < length word → is_solid word ≡ true → is_blank b ≡ true → words_of (word ++ b ∷ rest) ≡ word ∷ words_of rest
 words-solid_then word b rest some solid h = rw (slice_split_at is_blank word b rest (solid-all word solid) h) (rw (lt-ltb 0 (length word) some) refl)
 
 -- an octet of an id is no blank

@@ -10,7 +10,7 @@ use Rattle.nntp_wire.specs.declared.{water_marks.WaterMarks.{WaterMarks}, marks.
 use Rattle.nntp_wire.specs.declared.command.{What.{What, TheVariants.{Article, Head, Body, Stat}}, OverviewKeyword.{OverviewKeyword, TheVariants.{Over, Xover}}}
 use Rattle.nntp_wire.specs.{Session.{closes}, Listing.{ActiveValue, OverviewValue, listed_numbers, active_groups, overviews_of}, Wildmat.{MatchesName}}
 use Rattle.nntp_wire.specs.Decided.{matches_name}
-use Rattle.nntp_article.specs.{Article.Parts.{Line, Id, is_empty, is_head, said_id, head_part}, Session.Spool.{Name, Spool, Numbers, IsGroup, IsNumber}}
+use Rattle.nntp_article.specs.{Article.{Parts.{Line, Id, is_empty, is_head, said_id, head_part}, Fields.{fields_of_head, fields_told}}, Session.Spool.{Name, Spool, Numbers, IsGroup, IsNumber}}
 use Rattle.nntp_article.specs.Session.Spool.{numbers, least, IsNextAbove, IsNextBelow, NoneAbove, NoneBelow, Lists, HasText}
 use Rattle.nntp_article.specs.declared.session.profile.Profile.{Profile}
 
@@ -235,15 +235,24 @@ ActivesAgree S p lines =
 abbrev pub found : OverviewValue → Success
 found o = record { code = 223; number = o.number; id = o.id; block = None }
 
--- the overviews are of all numbers in the range, and each has the id at its number
-abbrev pub ListsOverviews : Numbers → Range → List OverviewValue → Type 0
-ListsOverviews N range overviews = Lists N range (overview_numbers overviews) × AllByRecursion (λ o. get N o.number ≡ Some o.id) overviews
+-- the id of the overview has an article, whose head tells the same
+abbrev pub HasOverview : Spool → OverviewValue → Type 0
+HasOverview S o = MatchOption (get S.articles o.id) ⊥ (λ t. fields_of_head t.head ≡ fields_told o)
 
--- the overviews of a range are those that the selected group has in it; the only one of another command finds its article
+-- the overviews are of all numbers in the range, each has the id at its number, and its article tells the same
+abbrev pub ListsOverviews : Spool → Numbers → Range → List OverviewValue → Type 0
+ListsOverviews S N range overviews =
+    Lists N range (overview_numbers overviews) × AllByRecursion (λ o. (get N o.number ≡ Some o.id) × HasOverview S o) overviews
+
+-- an overview agrees, and its number has the id
+abbrev pub OverviewAgrees : Spool → State → Target → OverviewValue → Type 0
+OverviewAgrees S s which o = HasOverview S o × NumberAgrees S s which (found o)
+
+-- the overviews of a range are those that the selected group has in it; the only one of another command is that of its article
 abbrev pub OverviewsAgree : Spool → State → Overviewed → List OverviewValue → Type 0
-OverviewsAgree S s (in_range range) overviews = ListsOverviews (selected_numbers S s.visible) range overviews
-OverviewsAgree S s (the_id word) overviews = MatchOption (only overviews) ⊥ (λ o. ArticleAgrees S s Stat (by_id word) (found o))
-OverviewsAgree S s the_current overviews = MatchOption (only overviews) ⊥ (λ o. ArticleAgrees S s Stat current (found o))
+OverviewsAgree S s (in_range range) overviews = ListsOverviews S (selected_numbers S s.visible) range overviews
+OverviewsAgree S s (the_id word) overviews = MatchOption (only overviews) ⊥ (OverviewAgrees S s (by_id word))
+OverviewsAgree S s the_current overviews = MatchOption (only overviews) ⊥ (OverviewAgrees S s current)
 
 -- the condition over the spool of an answer that fits, a row each: what no row names agrees with no spool
 abbrev pub Agrees : Marks → Spool → State → Asked → Response → Type 0

@@ -2,6 +2,8 @@
 ghost use Rattle.std.specs.Prelude.{◌≡◌, ◌↔◌, IsTrue, List};
 ghost use Rattle.std.specs.List.{list_any};
 ghost use Rattle.nntp_article.specs.Article.Parts.{Line, Header, is_empty, headers, is_head, head_part, body_part};
+ghost use Rattle.nntp_article.specs.Article.Fields.{Fields, field_lines, fields_of_head};
+ghost use Rattle.nntp_article.specs.Inner.Fields.{AreWords};
 ghost use Rattle.nntp_article.specs.Inner.Parts.{AreHeaders, AreParts};
 
 /// Lines are a head exactly if they are one or more headers, one after the other: its headers.
@@ -19,4 +21,9 @@ pub fn headers_are_one_way()
 pub fn parts_are_one_way()
     ensures { (lines head body : List Line) → AreParts lines head body
         ↔ (IsTrue (list_any is_empty lines) × (head ≡ head_part lines) × (body ≡ body_part lines)) }
+{}
+
+/// The lines of a head that is made of the words of four headers tell these words.
+pub fn field_lines_tell_their_fields()
+    ensures { (fields : Fields) → AreWords fields → fields_of_head (field_lines fields) ≡ fields }
 {}

@@ -1,6 +1,6 @@
 -- What is said with the words of `Given.antt`, and needn't be believed.
 use Rattle.std.specs.Prelude.{ℕ, ◌+◌, List, [], ◌∷◌, length}
-use Rattle.nntp_said.specs.{Asks.{Estimates, ListsIn, StandsNowhere, IsTop, IsBottom}, Facts.{Fact, Asks, OverviewsAre, GroupsAre}}
+use Rattle.nntp_said.specs.{Asks.{Estimates, ListsIn, StandsNowhere, IsTop, IsBottom}, Facts.{Fact, Asks, FieldsAre, OverviewsAre, GroupsAre}}
 use Rattle.nntp_wire.specs.Answer.{Response}
 use Rattle.nntp_pair.specs.Inner.Pairing.{lines_in}
 
@@ -11,6 +11,7 @@ size_in (Asks name (ListsIn r ns)) = length ns
 size_in (Asks name (StandsNowhere at)) = 0
 size_in (Asks name (IsTop at)) = 0
 size_in (Asks name (IsBottom at)) = 0
+size_in (FieldsAre overviews) = length overviews
 size_in (OverviewsAre name range overviews) = length overviews
 size_in (GroupsAre p lines) = length lines
 size_in fact = 1

@@ -1,0 +1,62 @@
+-- The four headers that an overview tells of (RFC 3977, section 8.3.2).
+use Rattle.std.specs.{Prelude.{ℕ, List, [], ◌∷◌, ◌++◌, slice_get, codes}, List.{filter, flat_map, after_first}, Option.{option_map_or}}
+use Rattle.nntp_wire.specs.{Words.{words_of}, Octets.{space}, Listing.{OverviewValue}}
+use Rattle.nntp_article.specs.{Article.Parts.{Line, Header, headers, is_named, is_colon}, declared.article.field.Field.{Field, TheVariants.{Subject, From, Date, References}}}
+
+-- a word of a line
+abbrev pub Word : Type 0
+Word = List ℕ
+
+-- the words of the four headers
+pub record Fields : Type 0 where
+  pub subject : List Word
+  pub from : List Word
+  pub date : List Word
+  pub references : List Word
+
+-- those of one
+abbrev pub words_in : Fields → Field → List Word
+words_in fields Subject = fields.subject
+words_in fields From = fields.from
+words_in fields Date = fields.date
+words_in fields References = fields.references
+
+-- what an overview tells
+abbrev pub fields_told : OverviewValue → Fields
+fields_told o = record { subject = o.subject; from = o.from; date = o.date; references = o.references }
+
+-- ---- what a head tells
+
+-- the words behind the colon of a header, and those of the lines that continue it
+abbrev pub words_of_header : Header → List Word
+words_of_header [] = []
+words_of_header (first ∷ more) = words_of (after_first is_colon first) ++ flat_map words_of more
+
+-- the words of the first header of the name, none where there is no such header
+abbrev pub words_named : List ℕ → List Header → List Word
+words_named name headers = option_map_or words_of_header (slice_get (filter (is_named name) headers) 0) []
+
+-- what headers tell
+abbrev pub fields_among : List Header → Fields
+fields_among headers = record {
+  subject = words_named (codes "Subject") headers;
+  from = words_named (codes "From") headers;
+  date = words_named (codes "Date") headers;
+  references = words_named (codes "References") headers;
+}
+
+-- what the head tells
+abbrev pub fields_of_head : List Line → Fields
+fields_of_head lines = fields_among (headers lines)
+
+-- ---- a head that tells them
+
+-- the line of a header with these words, each behind a space; none where there is no word
+abbrev pub field_line : List ℕ → List Word → List Line
+field_line start [] = []
+field_line start (word ∷ words) = (start ++ flat_map (λ w. space ∷ w) (word ∷ words)) ∷ []
+
+-- the lines of headers that tell this
+abbrev pub field_lines : Fields → List Line
+field_lines fields = flat_map (λ (field : List ℕ × List Word). field_line field.0 field.1) (
+    (codes "Subject:", fields.subject) ∷ (codes "From:", fields.from) ∷ (codes "Date:", fields.date) ∷ (codes "References:", fields.references) ∷ [])
