@@ -1,8 +1,8 @@
 -- The spool that is given for what a session says.
 use Rattle.std.specs.Prelude.{◌≡◌, ℕ, ◌+◌, ◌<◌, ◌≤◌, Bool, true, false, not, ◌&&◌, ◌||◌, ◌==◌, nat_lt, if◌then◌else◌, IsTrue, IsFalse, IsSome, ◌↔◌, ◌⊎◌, List}
-use Rattle.std.specs.{Prelude.{[], ◌∷◌, ◌++◌, Option, None, Some, is_some, ⊤, option_map, unwrap_or, codes, decimal}, List.{list_any, flat_map}, Option.{option_or, option_map_or}}
+use Rattle.std.specs.{Prelude.{[], ◌∷◌, ◌++◌, Option, None, Some, is_some, ⊤, option_map, unwrap_or, codes, decimal}, List.{list_any, flat_map}, Option.{option_or}}
 use Rattle.std.specs.FinMap.{get, entries, len}
-use Rattle.nntp_article.specs.{Article.{Parts.{head_part, body_part, Id, Line}, Fields.{Fields, fields_told, fields_of_head, field_lines}}, Session.Spool.{Spool, Text, Numbers, IsNumber, IsGroup, numbers, Name}}
+use Rattle.nntp_article.specs.{Article.{Parts.{head_part, body_part, Id, Line}, Fields.{Fields, fields_told, fields_of_head, made_head}}, Session.Spool.{Spool, Text, Numbers, IsNumber, IsGroup, numbers, Name}}
 use Rattle.nntp_article.specs.Session.Machine.{is_in_range, is_same, overview_numbers, start}
 use Rattle.nntp_said.specs.Asks.{Ask, Estimates, Bounds, ListsIn, Has, Lacks, StandsAt, StandsNowhere, StepsUp, StepsDown, IsTop, IsBottom}
 use Rattle.nntp_said.specs.{declared.position.Position.TheVariants.{Nowhere, First, Known}, Facts.{Fact, ThereIs, Asks, IdAt, TextIs, NoArticle, FieldsAre, OverviewsAre}}
@@ -209,14 +209,6 @@ abbrev pub fields_in : Id → Fact → Option Fields
 fields_in id (FieldsAre overviews) = first_given (fields_of_overview id) overviews
 fields_in id (OverviewsAre name range overviews) = first_given (fields_of_overview id) overviews
 fields_in id fact = option_map fields_of_head (head_in id fact)
-
--- a head that says the id and nothing else
-abbrev pub plain_head : Id → List Line
-plain_head id = (codes "Message-ID: " ++ id) ∷ []
-
--- a head that says the id, and of the four headers what is told
-abbrev pub made_head : Id → Option Fields → List Line
-made_head id told = plain_head id ++ option_map_or field_lines told []
 
 -- the id that is invented with the number k
 abbrev pub invented : ℕ → Id

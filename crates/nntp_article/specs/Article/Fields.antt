@@ -1,7 +1,7 @@
 -- The four headers that an overview tells of (RFC 3977, section 8.3.2).
-use Rattle.std.specs.{Prelude.{ℕ, List, [], ◌∷◌, ◌++◌, slice_get, codes}, List.{filter, flat_map, after_first}, Option.{option_map_or}}
+use Rattle.std.specs.{Prelude.{ℕ, List, [], ◌∷◌, ◌++◌, Option, slice_get, codes}, List.{filter, flat_map, after_first}, Option.{option_map_or}}
 use Rattle.nntp_wire.specs.{Words.{words_of}, Octets.{space}, Listing.{OverviewValue}}
-use Rattle.nntp_article.specs.{Article.Parts.{Line, Header, headers, is_named, is_colon}, declared.article.field.Field.{Field, TheVariants.{Subject, From, Date, References}}}
+use Rattle.nntp_article.specs.{Article.Parts.{Line, Id, Header, headers, is_named, is_colon}, declared.article.field.Field.{Field, TheVariants.{Subject, From, Date, References}}}
 
 -- a word of a line
 abbrev pub Word : Type 0
@@ -49,7 +49,7 @@ fields_among headers = record {
 abbrev pub fields_of_head : List Line → Fields
 fields_of_head lines = fields_among (headers lines)
 
--- ---- a head that tells them
+-- ---- a head that is made
 
 -- the line of a header with these words, each behind a space; none where there is no word
 abbrev pub field_line : List ℕ → List Word → List Line
@@ -60,3 +60,11 @@ field_line start (word ∷ words) = (start ++ flat_map (λ w. space ∷ w) (word
 abbrev pub field_lines : Fields → List Line
 field_lines fields = flat_map (λ (field : List ℕ × List Word). field_line field.0 field.1) (
     (codes "Subject:", fields.subject) ∷ (codes "From:", fields.from) ∷ (codes "Date:", fields.date) ∷ (codes "References:", fields.references) ∷ [])
+
+-- a head that says the id and nothing else
+abbrev pub plain_head : Id → List Line
+plain_head id = (codes "Message-ID: " ++ id) ∷ []
+
+-- a head that says the id, and of the four headers what is told
+abbrev pub made_head : Id → Option Fields → List Line
+made_head id told = plain_head id ++ option_map_or field_lines told []
