@@ -1,14 +1,14 @@
 -- A spool permits a session exactly if each answer fits and all that the answers say holds of it.
-use Rattle.nntp_wire.specs.declared.{marks.Marks.{Marks}, command.{OverviewKeyword.TheVariants.{Over, Xover}, What.{What, TheVariants.{Stat}}}}
+use Rattle.nntp_wire.specs.declared.{marks.Marks.{Marks}, command.{OverviewKeyword.TheVariants.{Over, Xover}, What.{What}}}
 use Rattle.nntp_wire.specs.{Answer.{Asked, Response, Success, greeting, to, sends, overviews_are, plain}, Command.{Request, Target, by_id, by_number, current}}
 use Rattle.nntp_wire.specs.{Command.{group, list_group, next, last, retrieve, over, the_id, in_range, the_current}, Listing.{OverviewValue, overviews_of}}
 use Rattle.std.proofs.Common.{◌≡◌, ℕ, Bool, true, false, cond, ◌==◌, ◌&&◌, ◌||◌, ◌↔◌, inl, inr, IsTrue, List, [], ◌∷◌, ◌++◌, None, Some, is_some, refl, sym}
 use Rattle.std.{proofs.{Common.{subst, ◌∙◌}, lemmas.Bool.{and_parts, eqb-true, true≢false, false≢true}}, specs.Prelude.{IsFalse, is_none, ⊤, Option}}
 use Rattle.std.specs.{Prelude.{MatchOption}, Option.{option_map_or}, List.{AllByRecursion}}
 use Rattle.nntp_article.specs.Session.{Spool.{Spool}, Machine.{Visible, State, Agrees, MayAnswer, visible_after, CodeAgrees, is_generic, is_one_of, code_fits}}
-use Rattle.nntp_article.specs.{Session.Machine.{none_in_range, ArticleAgrees, found, only, number_fits, fits}, declared.session.profile.Profile.{Profile}}
+use Rattle.nntp_article.specs.{Session.Machine.{none_in_range, ArticleAgrees, NumberAgrees, OverviewAgrees, only, number_fits, fits}, Article.Parts.{Id}, declared.session.profile.Profile.{Profile}}
 use Rattle.nntp_said.{proofs.Rows.{one_of_one, one_of_two}, specs.{Inner.{Asks.{state_at, RunsAt}, Facts.{FitsAll}}, Asks.{position_after}}}
-use Rattle.nntp_said.specs.{declared.position.Position.{Position}, Facts.{Fact, Holds, facts_of, facts_of_article, facts_of_code, facts_from, on}}
+use Rattle.nntp_said.specs.{declared.position.Position.{Position}, Facts.{Fact, Holds, facts_of, facts_of_article, facts_of_overview, facts_of_place, facts_of_code, facts_from, on}}
 
 both : (S : Spool) (xs ys : List Fact) → AllByRecursion (Holds S) xs → AllByRecursion (Holds S) ys → AllByRecursion (Holds S) (xs ++ ys)
 both S [] ys h g = g
@@ -108,31 +108,40 @@ row_from S v at command code f h = first_of (assumption, cc)
 
 -- ---- what an answer says
 
+-- where an article stands
+place_holds : (S : Spool) (v : Visible) (at : Position) (which : Target) (number : ℕ) (id : Id) → NumberAgrees S (state_at S v at) which number id
+    → AllByRecursion (Holds S) (facts_of_place v at which number id)
+place_holds S v at (by_id word) number id h = off_from S (number == 0) _ h
+place_holds S v at (by_number n) number id h = (h, tt)
+place_holds S v at current number id h = (h.0, (h.1, tt))
+
+place_agrees : (S : Spool) (v : Visible) (at : Position) (which : Target) (number : ℕ) (id : Id) → AllByRecursion (Holds S) (facts_of_place v at which number id)
+    → NumberAgrees S (state_at S v at) which number id
+place_agrees S v at (by_id word) number id h = off_to S (number == 0) _ h
+place_agrees S v at (by_number n) number id h = h.0
+place_agrees S v at current number id h = (h.0, h.1.0)
+
 -- an article
 article_holds : (S : Spool) (v : Visible) (at : Position) (what : What) (which : Target) (sent : Success) → ArticleAgrees S (state_at S v at) what which sent
     → AllByRecursion (Holds S) (facts_of_article v at what which sent)
-article_holds S v at what (by_id word) sent h = (h.0, off_from S (sent.number == 0) _ h.1)
-article_holds S v at what (by_number n) sent h = (h.0, (h.1, tt))
-article_holds S v at what current sent h = (h.0, (h.1.0, (h.1.1, tt)))
+article_holds S v at what which sent h = (h.0, place_holds S v at which sent.number sent.id h.1)
 
 article_agrees : (S : Spool) (v : Visible) (at : Position) (what : What) (which : Target) (sent : Success) → AllByRecursion (Holds S) (facts_of_article v at what which sent)
     → ArticleAgrees S (state_at S v at) what which sent
-article_agrees S v at what (by_id word) sent h = (h.0, off_to S (sent.number == 0) _ h.1)
-article_agrees S v at what (by_number n) sent h = (h.0, h.1.0)
-article_agrees S v at what current sent h = (h.0, (h.1.0, h.1.1.0))
+article_agrees S v at what which sent h = (h.0, place_agrees S v at which sent.number sent.id h.1)
 
--- the article of the only overview
-one_holds : (S : Spool) (v : Visible) (at : Position) (which : Target) (o : Option OverviewValue) → MatchOption o ⊥ (λ o. ArticleAgrees S (state_at S v at) Stat which (found o))
-    → AllByRecursion (Holds S) (option_map_or (λ o. facts_of_article v at Stat which (found o)) o [])
+-- the only overview
+one_holds : (S : Spool) (v : Visible) (at : Position) (which : Target) (o : Option OverviewValue) → MatchOption o ⊥ (OverviewAgrees S (state_at S v at) which)
+    → AllByRecursion (Holds S) (option_map_or (facts_of_overview v at which) o [])
 one_holds S v at which None h = absurd h
-one_holds S v at which (Some o) h = article_holds S v at Stat which (found o) h
+one_holds S v at which (Some o) h = ((h.0, tt), place_holds S v at which o.number o.id h.1)
 
 one_agrees : (profile : Profile) (S : Spool) (v : Visible) (at : Position) (which : Target) (o : Option OverviewValue)
     → IsTrue (option_map_or (λ o. number_fits profile v which o.number o.id) o false)
-    → AllByRecursion (Holds S) (option_map_or (λ o. facts_of_article v at Stat which (found o)) o [])
-    → MatchOption o ⊥ (λ o. ArticleAgrees S (state_at S v at) Stat which (found o))
+    → AllByRecursion (Holds S) (option_map_or (facts_of_overview v at which) o [])
+    → MatchOption o ⊥ (OverviewAgrees S (state_at S v at) which)
 one_agrees profile S v at which None f h = absurd (false≢true f)
-one_agrees profile S v at which (Some o) f h = article_agrees S v at Stat which (found o) h
+one_agrees profile S v at which (Some o) f h = (h.0.0, place_agrees S v at which o.number o.id h.1)
 
 -- from that it agrees
 facts_hold : (how : Marks) (S : Spool) (v : Visible) (at : Position) (p : Asked) (a : Response) → Agrees how S (state_at S v at) p a → AllByRecursion (Holds S) (facts_of how v at p a)

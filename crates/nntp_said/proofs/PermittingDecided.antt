@@ -6,16 +6,16 @@ use Rattle.std.proofs.lemmas.{Map.Lookups.{exact_unsigned, exact_bytes, CmpEqual
 use Rattle.std.specs.{Prelude.{nat_le, IfSome, Contains, option_map}, List.{list_any, list_all}, Ordering.{eq_by_cmp}, Cmp.{IsTotalOrder, nat_cmp_total}}
 use Rattle.std.specs.{Cmp.{eq_by_cmp_equiv, Lexicographic.{nat_list_cmp_total}}, FinMap.{FinMap, get, len, IsAntisymmetric, nat_cmp-IsAntisymmetric}}
 use Rattle.std.specs.{FinMap.{slice_cmp-IsAntisymmetric}, declared.cmp.Ordering.{Ordering}}
-use Rattle.nntp_article.specs.Session.Spool.{Spool, Numbers, IsNumber, numbers, IsNextAbove, IsNextBelow, NoneAbove, NoneBelow, Lists, IsInRange, text_of}
-use Rattle.nntp_article.specs.Session.Machine.{overview_numbers, Visible, State, AreEnds, Bound, ActivesAgree, Run, fits, visible_after}
-use Rattle.nntp_article.specs.declared.session.profile.Profile.{Profile}
+use Rattle.nntp_article.specs.Session.Spool.{Spool, Numbers, IsNumber, numbers, IsNextAbove, IsNextBelow, NoneAbove, NoneBelow, Lists, IsInRange, text_of, Text}
+use Rattle.nntp_article.specs.Session.Machine.{HasOverview, overview_numbers, Visible, State, AreEnds, Bound, ActivesAgree, Run, fits, visible_after}
+use Rattle.nntp_article.specs.{Article.Fields.{Fields, fields_of_head, fields_told}, declared.session.profile.Profile.{Profile}}
 use Rattle.nntp_said.specs.Asks.{Ask, Estimates, Bounds, ListsIn, Has, Lacks, StandsAt, StandsNowhere, StepsUp, StepsDown, IsTop, IsBottom, Meets, current_in}
 use Rattle.nntp_said.specs.{declared.position.Position.{Position, TheVariants.{Nowhere, Known}}, Inner.{Asks.{state_at}, Facts.{FitsAll}}, Facts.{Fact}}
-use Rattle.nntp_said.specs.Facts.{ThereIs, ThereIsNo, Asks, IdAt, TextIs, NoArticle, OverviewsAre, GroupsAre, Holds, facts_from}
+use Rattle.nntp_said.specs.Facts.{ThereIs, ThereIsNo, Asks, IdAt, TextIs, NoArticle, FieldsAre, OverviewsAre, GroupsAre, Holds, facts_from}
 use Rattle.nntp_said.proofs.{CurrentArticle.{read_off, run_from}, FactsHold.{permits_by_facts}, FiniteMapsDecided.{Dec, dec_true, dec_le, dec_both, dec_three}}
 use Rattle.nntp_said.proofs.FiniteMapsDecided.{dec_by, dec_none, dec_some_text, each_key, dec_some, dec_option, dec_lists, dec_to, passes, fails, dec_all}
 use Rattle.nntp_wire.specs.{Answer.{Asked, Response}, declared.{water_marks.WaterMarks.{WaterMarks}, marks.Marks.{Marks, TheVariants.{Lenient, Strict}}}}
-use Rattle.nntp_wire.specs.{declared.range.Range.{Range}, Listing.{ActiveValue}, Wildmat.{MatchesName}, Decided.{matches_name}}
+use Rattle.nntp_wire.specs.{declared.range.Range.{Range}, Listing.{ActiveValue, OverviewValue}, Wildmat.{MatchesName}, Decided.{matches_name}}
 use Rattle.nntp_wire.proofs.{DecidedLemmas.{matches_name-iff}, OptionLemmas.{none_of}}
 
 each_number : (N : Numbers) (p : ℕ → Bool) → Dec ((n : ℕ) → IsNumber N n → IsTrue (p n))
@@ -137,6 +137,20 @@ dec_meets N (StepsDown at n) = dec_match (current_in N at) _ (λ c. dec_next_bel
 dec_meets N (IsTop at) = dec_match (current_in N at) _ (dec_none_above N)
 dec_meets N (IsBottom at) = dec_match (current_in N at) _ (dec_none_below N)
 
+-- whether two heads tell the same
+dec_fields : (x y : Fields) → Dec (x ≡ y)
+dec_fields x y =
+    dec_by (λ (h : (x.subject ≡ y.subject) × ((x.from ≡ y.from) × (x.date ≡ y.date) × (x.references ≡ y.references))). λ i. record { subject = h.0 i; from = h.1.0 i; date = h.1.1 i; references = h.1.2 i }) (λ e. (ap (λ x. x.subject) e, (ap (λ x. x.from) e, ap (λ x. x.date) e, ap (λ x. x.references) e)))
+    (dec_both (dec_lists x.subject y.subject) (dec_three (dec_lists x.from y.from) (dec_lists x.date y.date) (dec_lists x.references y.references)))
+
+-- whether an overview is that of its article
+dec_overview : (S : Spool) (o : OverviewValue) → Dec (HasOverview S o)
+dec_overview S o = by (get S.articles o.id)
+  where
+    by : (t : Option Text) → Dec (MatchOption t ⊥ (λ t. fields_of_head t.head ≡ fields_told o))
+    by None = inr (λ h. h)
+    by (Some t) = dec_fields (fields_of_head t.head) (fields_told o)
+
 -- whether a fact holds of a spool
 dec_holds : (S : Spool) (fact : Fact) → Dec (Holds S fact)
 dec_holds S (ThereIs name) = dec_true (is_some (get S.groups name))
@@ -145,7 +159,9 @@ dec_holds S (Asks name ask) = dec_meets (numbers S name) ask
 dec_holds S (IdAt name n id) = dec_some_text (get (numbers S name) n) id
 dec_holds S (TextIs what id lines) = dec_some (dec_option dec_lists) (option_map (text_of what) (get S.articles id)) lines
 dec_holds S (NoArticle id) = dec_none (get S.articles id)
-dec_holds S (OverviewsAre name r os) = dec_both (dec_listing (numbers S name) r (overview_numbers os)) (dec_all _ (λ o. dec_some_text (get (numbers S name) o.number) o.id) os)
+dec_holds S (FieldsAre os) = dec_all _ (dec_overview S) os
+dec_holds S (OverviewsAre name r os) =
+    dec_both (dec_listing (numbers S name) r (overview_numbers os)) (dec_all _ (λ o. dec_both (dec_some_text (get (numbers S name) o.number) o.id) (dec_overview S o)) os)
 dec_holds S (GroupsAre p lines) = dec_actives S p lines
 
 dec_open : (closed : Bool) → Dec (closed ≡ false)

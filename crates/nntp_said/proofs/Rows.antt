@@ -4,14 +4,14 @@ use Rattle.std.proofs.{Common.{sym, subst, ◌∙◌, arith}, lemmas.Bool.{and_p
 use Rattle.std.specs.{Prelude.{⊤}, List.{list_all}, Option.{option_map_or, option_or}}
 use Rattle.nntp_article.specs.{Article.Parts.{Id}, Session.{Spool.{Name}, Machine.{Visible, fits, marks_fit, is_ascending, is_same, is_article_number}}}
 use Rattle.nntp_article.specs.Session.Machine.{is_in_range, number_fits, head_fits, active_fits, names_differ, is_one_of, none_in_range, may_list}
-use Rattle.nntp_article.specs.{Session.Machine.{overview_numbers, overview_ids, all_differ, only, found}, declared.session.profile.Profile.{Profile}}
+use Rattle.nntp_article.specs.{Session.Machine.{overview_numbers, overview_ids, all_differ, only}, declared.session.profile.Profile.{Profile}}
 use Rattle.nntp_said.specs.Asks.{Estimates, ListsIn, Lacks, StandsAt, StandsNowhere, StepsUp, StepsDown, IsTop, IsBottom}
-use Rattle.nntp_said.specs.{declared.position.Position.{Position}, Facts.{Fact, ThereIs, ThereIsNo, Asks, IdAt, TextIs, NoArticle, OverviewsAre, GroupsAre}}
-use Rattle.nntp_said.specs.Facts.{here, facts_of_code, facts_of_article, facts_of}
+use Rattle.nntp_said.specs.{declared.position.Position.{Position}, Facts.{Fact, ThereIs, ThereIsNo, Asks, IdAt, TextIs, NoArticle, FieldsAre, OverviewsAre, GroupsAre}}
+use Rattle.nntp_said.specs.Facts.{here, facts_of_code, facts_of_article, facts_of_overview, facts_of_place, facts_of}
 use Rattle.nntp_wire.specs.{Listing.{OverviewValue, listed_numbers, active_groups, overviews_of}, Answer.{Asked, Response, Success, success_code, to, group_is}}
 use Rattle.nntp_wire.specs.{Answer.{numbers_are, sends, active_are, overviews_are, plain}, Command.{Request, Target, by_id, by_number, current, group}}
 use Rattle.nntp_wire.specs.Command.{list_group, next, last, retrieve, over, the_id, in_range, the_current, list_active}
-use Rattle.nntp_wire.specs.declared.command.{OverviewKeyword.{OverviewKeyword, TheVariants.{Over, Xover}}, What.{What, TheVariants.{Stat}}}
+use Rattle.nntp_wire.specs.declared.command.{OverviewKeyword.{OverviewKeyword, TheVariants.{Over, Xover}}, What.{What}}
 use Rattle.nntp_wire.specs.declared.{range.Range.{Range}, water_marks.WaterMarks.{WaterMarks}}
 
 -- ---- codes of a list
@@ -37,11 +37,6 @@ AreListed profile range ns = IsTrue (is_ascending ns) × IsTrue (list_all (λ n.
 abbrev pub IsInSelected : Profile → Visible → ℕ → Type 0
 IsInSelected profile v n = IsTrue (is_some v.selected) × IsTrue (is_article_number profile.limit n)
 
--- the response gives the article: it sends it, or has its overview alone
-pub data Gives : Response → Success → Type 0 where
-  sends_it : (s : Success) → Gives (sends s) s
-  lists_it : (lines : List (List ℕ)) (o : OverviewValue) → only (overviews_of lines) ≡ Some o → Gives (overviews_are lines) (found o)
-
 -- a row: the response, the facts, and what is known of them if the answer fits
 pub data Row (profile : Profile) (v : Visible) (at : Position) (Fits : Type 0) : Response → List Fact → Type 0 where
   nothing : (a : Response) → Row profile v at Fits a []
@@ -61,11 +56,16 @@ pub data Row (profile : Profile) (v : Visible) (at : Position) (Fits : Type 0) :
       → Row profile v at Fits (numbers_are m name lines) (ThereIs name ∷ Asks name (Estimates profile.marks m) ∷ Asks name (ListsIn range (listed_numbers lines)) ∷ [])
   up : (s : Success) → (Fits → IsInSelected profile v s.number) → Row profile v at Fits (sends s) (Asks (here v) (StepsUp at s.number) ∷ IdAt (here v) s.number s.id ∷ [])
   down : (s : Success) → (Fits → IsInSelected profile v s.number) → Row profile v at Fits (sends s) (Asks (here v) (StepsDown at s.number) ∷ IdAt (here v) s.number s.id ∷ [])
-  text : (a : Response) (what : What) (s : Success) → Gives a s → (Fits → IsTrue (head_fits what s.id s.block)) → Row profile v at Fits a (TextIs what s.id s.block ∷ [])
-  text_at : (a : Response) (what : What) (s : Success) → Gives a s → (Fits → IsTrue (head_fits what s.id s.block) × IsInSelected profile v s.number)
-      → Row profile v at Fits a (TextIs what s.id s.block ∷ IdAt (here v) s.number s.id ∷ [])
-  text_here : (a : Response) (what : What) (s : Success) → Gives a s → (Fits → IsTrue (head_fits what s.id s.block) × IsInSelected profile v s.number)
-      → Row profile v at Fits a (TextIs what s.id s.block ∷ Asks (here v) (StandsAt at s.number) ∷ IdAt (here v) s.number s.id ∷ [])
+  text : (what : What) (s : Success) → (Fits → IsTrue (head_fits what s.id s.block)) → Row profile v at Fits (sends s) (TextIs what s.id s.block ∷ [])
+  text_at : (what : What) (s : Success) → (Fits → IsTrue (head_fits what s.id s.block) × IsInSelected profile v s.number)
+      → Row profile v at Fits (sends s) (TextIs what s.id s.block ∷ IdAt (here v) s.number s.id ∷ [])
+  text_here : (what : What) (s : Success) → (Fits → IsTrue (head_fits what s.id s.block) × IsInSelected profile v s.number)
+      → Row profile v at Fits (sends s) (TextIs what s.id s.block ∷ Asks (here v) (StandsAt at s.number) ∷ IdAt (here v) s.number s.id ∷ [])
+  overview : (lines : List (List ℕ)) (o : OverviewValue) → only (overviews_of lines) ≡ Some o → Row profile v at Fits (overviews_are lines) (FieldsAre (o ∷ []) ∷ [])
+  overview_at : (lines : List (List ℕ)) (o : OverviewValue) → only (overviews_of lines) ≡ Some o → (Fits → IsInSelected profile v o.number)
+      → Row profile v at Fits (overviews_are lines) (FieldsAre (o ∷ []) ∷ IdAt (here v) o.number o.id ∷ [])
+  overview_here : (lines : List (List ℕ)) (o : OverviewValue) → only (overviews_of lines) ≡ Some o → (Fits → IsInSelected profile v o.number)
+      → Row profile v at Fits (overviews_are lines) (FieldsAre (o ∷ []) ∷ Asks (here v) (StandsAt at o.number) ∷ IdAt (here v) o.number o.id ∷ [])
   active : (p : Option (List ℕ)) (lines : List (List ℕ)) → (Fits → IsTrue (list_all (active_fits profile p) (active_groups lines)) × IsTrue (names_differ (active_groups lines)))
       → Row profile v at Fits (active_are lines) (GroupsAre p (active_groups lines) ∷ [])
 
@@ -148,27 +148,30 @@ module _ (profile : Profile) (v : Visible) (at : Position) where
   abbrev ArticleFits : What → Target → Success → Type 0
   ArticleFits what which s = IsTrue (number_fits profile v which s.number s.id) × IsTrue (head_fits what s.id s.block)
 
-  article_placed : (what : What) (which : Target) (s : Success) → GivesNumber which s.number → ArticleFits what which s → IsTrue (head_fits what s.id s.block) × IsInSelected profile v s.number
-  article_placed what which s gives f = (f.1, number_placed which s.number s.id f.0 gives)
+  -- a row by what was asked for: an id without a number, or else a number
+  by_place : {a : Response} {Fits : Type 0} (said : Fact) (which : Target) (number : ℕ) (id : Id) → (Fits → IsTrue (number_fits profile v which number id))
+      → Row profile v at Fits a (said ∷ []) → ((Fits → IsInSelected profile v number) → Row profile v at Fits a (said ∷ IdAt (here v) number id ∷ []))
+      → ((Fits → IsInSelected profile v number) → Row profile v at Fits a (said ∷ Asks (here v) (StandsAt at number) ∷ IdAt (here v) number id ∷ []))
+      → Row profile v at Fits a (said ∷ facts_of_place v at which number id)
+  by_place {a} {Fits} said (by_id word) number id fit alone placed standing = by (number == 0) refl
+    where
+      by : (b : Bool) → (number == 0) ≡ b → Row profile v at Fits a (said ∷ cond b [] (IdAt (here v) number id ∷ []))
+      by true e = alone
+      by false e = placed (λ f. number_placed (by_id word) number id (fit f) e)
+  by_place said (by_number n) number id fit alone placed standing = placed (λ f. number_placed (by_number n) number id (fit f) tt)
+  by_place said current number id fit alone placed standing = standing (λ f. number_placed current number id (fit f) tt)
 
-  module _ {Fits : Type 0} (a : Response) (what : What) (s : Success) (gives : Gives a s) where
-    -- by an id, with a number or none
-    id_row : (word : List ℕ) → (Fits → ArticleFits what (by_id word) s) → (b : Bool) → (s.number == 0) ≡ b
-        → Row profile v at Fits a (TextIs what s.id s.block ∷ cond b [] (IdAt (here v) s.number s.id ∷ []))
-    id_row word fit true e = text a what s gives (λ f. (fit f).1)
-    id_row word fit false e = text_at a what s gives (λ f. article_placed what (by_id word) s e (fit f))
-
-    article_row : (which : Target) → (Fits → ArticleFits what which s) → Row profile v at Fits a (facts_of_article v at what which s)
-    article_row (by_id word) fit = id_row word fit (s.number == 0) refl
-    article_row (by_number n) fit = text_at a what s gives (λ f. article_placed what (by_number n) s tt (fit f))
-    article_row current fit = text_here a what s gives (λ f. article_placed what current s tt (fit f))
+  article_row : {Fits : Type 0} (what : What) (s : Success) (which : Target) → (Fits → ArticleFits what which s) → Row profile v at Fits (sends s) (facts_of_article v at what which s)
+  article_row what s which fit =
+      by_place (TextIs what s.id s.block) which s.number s.id (λ f. (fit f).0) (text what s (λ f. (fit f).1))
+      (λ p. text_at what s (λ f. ((fit f).1, p f))) (λ p. text_here what s (λ f. ((fit f).1, p f)))
 
   -- the only overview, if there is one
   one_row : (lines : List (List ℕ)) (which : Target) (o : Option OverviewValue) → only (overviews_of lines) ≡ o
       → Row profile v at (IsTrue (option_map_or (λ o. number_fits profile v which o.number o.id) o false)) (overviews_are lines)
-      (option_map_or (λ o. facts_of_article v at Stat which (found o)) o [])
+      (option_map_or (facts_of_overview v at which) o [])
   one_row lines which None e = nothing (overviews_are lines)
-  one_row lines which (Some o) e = article_row (overviews_are lines) Stat (found o) (lists_it lines o e) which (λ f. (f, refl))
+  one_row lines which (Some o) e = by_place (FieldsAre (o ∷ [])) which o.number o.id (λ f. f) (overview lines o e) (overview_at lines o e) (overview_here lines o e)
 
   step_placed : (code n : ℕ) → IsTrue (code == 223 && is_some v.selected && is_article_number profile.limit n) → IsInSelected profile v n
   step_placed code n f = let p = and_parts (code == 223 && is_some v.selected) _ f in ((and_parts (code == 223) _ p.0).1, p.1)
@@ -201,7 +204,7 @@ module _ (profile : Profile) (v : Visible) (at : Position) where
   row (to (list_group word range)) (numbers_are m name lines) = listing m name range lines (numbers_fit word range m name lines)
   row (to next) (sends s) = up s (step_placed s.code s.number)
   row (to last) (sends s) = down s (step_placed s.code s.number)
-  row (to (retrieve what which)) (sends s) = article_row (sends s) what s (sends_it s) which (success_fits what which s)
+  row (to (retrieve what which)) (sends s) = article_row what s which (success_fits what which s)
   row (to (list_active p)) (active_are lines) = active p lines (and_parts _ _)
   row (to (over keyword (in_range range))) (overviews_are lines) = within range lines (overviews_fit keyword range lines)
   row (to (over keyword (the_id word))) (overviews_are lines) = one_row lines (by_id word) (only (overviews_of lines)) refl

@@ -18,7 +18,7 @@ pub data Fact : Type 0 where
   TextIs : (what : What) → (id : Id) → (lines : Option (List Line)) → Fact  -- the id has an article, of which these lines are sent
   NoArticle : (id : Id) → Fact  -- the id has no article
   FieldsAre : (overviews : List OverviewValue) → Fact  -- the id of each has an article, whose head tells the same
-  OverviewsAre : (name : Name) → (range : Range) → (overviews : List OverviewValue) → Fact  -- the overviews of the numbers of the group in the range are these
+  OverviewsAre : (name : Name) → (range : Range) → (overviews : List OverviewValue) → Fact  -- the overviews of the numbers of the group in the range are these, and each is that of its article
   GroupsAre : (wildmat : Option (List ℕ)) → (lines : List ActiveValue) → Fact  -- the groups that match are these
 
 -- the fact holds of the spool

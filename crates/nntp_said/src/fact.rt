@@ -24,7 +24,12 @@ pub enum Fact<'s> {
     },
     /// This has no article. Its octets need be no message-id.
     NoArticle(&'s [u8]),
-    /// The overviews of the numbers of a group in a range are these.
+    /// The id of each overview has an article, whose head tells the same.
+    FieldsAre {
+        /// The lines that are the overviews.
+        block: &'s Block<'s>,
+    },
+    /// The overviews of the numbers of a group in a range are these, and each is that of its article.
     OverviewsAre {
         /// The name of the group.
         name: &'s [u8],

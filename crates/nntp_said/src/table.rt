@@ -4,12 +4,11 @@ ghost use Rattle.std.specs.Option.{option_map_or};
 ghost use Rattle.nntp_wire.specs.declared.marks.Marks.{Marks};
 ghost use Rattle.nntp_wire.specs.Inner.View.{asked, overview_value, overviewed, request, target};
 ghost use Rattle.nntp_wire.specs.Inner.AnswerView.{response};
-ghost use Rattle.nntp_wire.specs.declared.command.What.TheVariants.{Stat};
 ghost use Rattle.nntp_wire.specs.Command.{over, retrieve};
 ghost use Rattle.nntp_wire.specs.Listing.{listed_numbers, overviews_of};
-ghost use Rattle.nntp_article.specs.Session.Machine.{Visible, found, only};
+ghost use Rattle.nntp_article.specs.Session.Machine.{Visible, only};
 ghost use Rattle.nntp_said.specs.Asks.{Estimates, ListsIn};
-ghost use Rattle.nntp_said.specs.Facts.{Asks, IdAt, ThereIs, here, facts_of, facts_of_article, facts_of_code, facts_of_overviews};
+ghost use Rattle.nntp_said.specs.Facts.{Asks, IdAt, TextIs, ThereIs, here, facts_of, facts_of_code, facts_of_overview, facts_of_overviews, facts_of_place};
 ghost use Rattle.nntp_said.specs.Inner.FactView.{ask_of, fact_of, numbers_listed};
 
 use crate::fact::{Ask, Fact, NumberLines};
@@ -209,17 +208,31 @@ fn facts_of_article<'s>(
     id: &'s str,
     block: Option<&'s Block<'s>>,
 ) -> SaidFacts<'s>
-    ensures { (v : Visible) (code : ℕ) → selected.now ≡ here v → result
-        ≡ facts_of_article v at what (target which.now) (record { code = code; number = number; id = id.now; block = option_map (λ b. b.now) block.entry }) }
+    ensures { (v : Visible) → selected.now ≡ here v
+        → result ≡ TextIs what id.now (option_map (λ b. b.now) block.entry) ∷ facts_of_place v at (target which.now) number id.now }
 {
     let text = Fact::TextIs { what, id, block };
+    with_place(text, selected, at, which, number, id)
+}
+
+/// Returns what is said of an article, and where it stands, which was asked for so.
+fn with_place<'s>(
+    said: Fact<'s>,
+    selected: &'s [u8],
+    at: Position,
+    which: &Which<'_>,
+    number: u64,
+    id: &'s str,
+) -> SaidFacts<'s>
+    ensures { (v : Visible) → selected.now ≡ here v → result ≡ fact_of said.entry ∷ facts_of_place v at (target which.now) number id.now }
+{
     let id = Fact::IdAt(selected, number, id);
     match which {
-        Which::Id(_) if number == 0 => SaidFacts::one(text),
+        Which::Id(_) if number == 0 => SaidFacts::one(said),
         Which::Current => {
-            SaidFacts::three(text, Fact::Asks(selected, Ask::StandsAt(at, number)), id)
+            SaidFacts::three(said, Fact::Asks(selected, Ask::StandsAt(at, number)), id)
         }
-        _ => SaidFacts::two(text, id),
+        _ => SaidFacts::two(said, id),
     }
 }
 
@@ -243,7 +256,7 @@ fn facts_of_overviews<'s>(
     }
 }
 
-/// Returns what the only overview says that the lines are: what STAT would say of its article.
+/// Returns what the only overview says that the lines are.
 fn facts_of_overview<'s>(
     selected: &'s [u8],
     at: Position,
@@ -251,17 +264,16 @@ fn facts_of_overview<'s>(
     block: &'s Block<'s>,
 ) -> SaidFacts<'s>
     ensures { (v : Visible) → selected.now ≡ here v → result
-        ≡ option_map_or (λ o. facts_of_article v at Stat (target which.now) (found o)) (only (overviews_of block.now)) [] }
+        ≡ option_map_or (facts_of_overview v at (target which.now)) (only (overviews_of block.now)) [] }
 {
     match only(block) {
-        Some(overview) => facts_of_article(
+        Some(overview) => with_place(
+            Fact::FieldsAre { block },
             selected,
             at,
-            What::Stat,
             which,
             overview.number,
             overview.id.as_str(),
-            None,
         ),
         None => SaidFacts::none(),
     }

@@ -215,25 +215,21 @@ CodeAgrees S s (over keyword the_current) code = cond (code == 412) ⊤ (s.curre
 CodeAgrees S s opaque code = ⊤
 CodeAgrees S s command code = ⊥
 
--- the number of a success is one of the selected group, with the id
-abbrev pub NumberAgrees : Spool → State → Target → Success → Type 0
-NumberAgrees S s (by_id word) sent = IsFalse (sent.number == 0) → get (selected_numbers S s.visible) sent.number ≡ Some sent.id
-NumberAgrees S s (by_number n) sent = get (selected_numbers S s.visible) sent.number ≡ Some sent.id
-NumberAgrees S s current sent = (s.current ≡ Some sent.number) × (get (selected_numbers S s.visible) sent.number ≡ Some sent.id)
+-- the number that is answered is one of the selected group, with the id
+abbrev pub NumberAgrees : Spool → State → Target → ℕ → Id → Type 0
+NumberAgrees S s (by_id word) number id = IsFalse (number == 0) → get (selected_numbers S s.visible) number ≡ Some id
+NumberAgrees S s (by_number n) number id = get (selected_numbers S s.visible) number ≡ Some id
+NumberAgrees S s current number id = (s.current ≡ Some number) × (get (selected_numbers S s.visible) number ≡ Some id)
 
 -- of the article this is sent, and its number has the id
 abbrev pub ArticleAgrees : Spool → State → What → Target → Success → Type 0
-ArticleAgrees S s what which sent = HasText S what sent.id sent.block × NumberAgrees S s which sent
+ArticleAgrees S s what which sent = HasText S what sent.id sent.block × NumberAgrees S s which sent.number sent.id
 
 -- exactly the matching groups are listed, and the marks bound their numbers
 abbrev pub ActivesAgree : Spool → Option (List ℕ) → List ActiveValue → Type 0
 ActivesAgree S p lines =
     ((name : Name) → Contains (map (λ line. line.name) lines) name ↔ (IsGroup S name × IfSome p (λ w. MatchesName w name)))
     × All (λ line. (n : ℕ) → IsNumber (numbers S line.name) n → (line.low ≤ n) × (n ≤ line.high)) lines
-
--- what finds the article of an overview, as STAT does
-abbrev pub found : OverviewValue → Success
-found o = record { code = 223; number = o.number; id = o.id; block = None }
 
 -- the id of the overview has an article, whose head tells the same
 abbrev pub HasOverview : Spool → OverviewValue → Type 0
@@ -246,7 +242,7 @@ ListsOverviews S N range overviews =
 
 -- an overview agrees, and its number has the id
 abbrev pub OverviewAgrees : Spool → State → Target → OverviewValue → Type 0
-OverviewAgrees S s which o = HasOverview S o × NumberAgrees S s which (found o)
+OverviewAgrees S s which o = HasOverview S o × NumberAgrees S s which o.number o.id
 
 -- the overviews of a range are those that the selected group has in it; the only one of another command is that of its article
 abbrev pub OverviewsAgree : Spool → State → Overviewed → List OverviewValue → Type 0

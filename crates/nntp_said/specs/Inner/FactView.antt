@@ -4,7 +4,7 @@ use Rattle.nntp_wire.specs.Listing.{active_groups, listed_numbers, overviews_of}
 use Rattle.nntp_article.specs.Session.Machine.{overview_numbers}
 use Rattle.nntp_said.specs.declared.fact.Ask.{Ask, TheVariants.{Estimates, Bounds, Lists, Lacks, StandsAt, StandsNowhere, StepsUp, StepsDown, IsTop, IsBottom}}
 use Rattle.nntp_said.specs.declared.fact.{NumberLines.{NumberLines, TheVariants.{Nothing, Numbers, Overviews}}, Fact.{Fact, TheVariants.{ThereIs, ThereIsNo}}}
-use Rattle.nntp_said.specs.declared.fact.Fact.TheVariants.{Asks, IdAt, TextIs, NoArticle, OverviewsAre, GroupsAre}
+use Rattle.nntp_said.specs.declared.fact.Fact.TheVariants.{Asks, IdAt, TextIs, NoArticle, FieldsAre, OverviewsAre, GroupsAre}
 use Rattle.nntp_said.specs.Asks as asks
 use Rattle.nntp_said.specs.Facts as facts
 
@@ -35,6 +35,7 @@ fact_of (Asks name ask) = facts.Asks name.now (ask_of ask)
 fact_of (IdAt name number id) = facts.IdAt name.now number id.now
 fact_of (TextIs what id block) = facts.TextIs what id.now (option_map (λ b. b.now) block)
 fact_of (NoArticle id) = facts.NoArticle id.now
+fact_of (FieldsAre block) = facts.FieldsAre (overviews_of block.now)
 fact_of (OverviewsAre name range block) = facts.OverviewsAre name.now range (overviews_of block.now)
 fact_of (GroupsAre wildmat block) = facts.GroupsAre wildmat.now (active_groups block.now)
 
