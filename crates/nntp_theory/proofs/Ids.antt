@@ -1,6 +1,6 @@
 pub mod InventedIds
 pub mod NumbersOfInventedIds
 pub mod OnePlaceOfAnId
-pub mod PlainHead
+pub mod MadeHead
 pub mod SizeOfASession
 pub mod SmallGivenSpool

@@ -1,7 +1,7 @@
 -- Kinds of points in their order, one looked at after the other.
 use Rattle.std.{proofs.Common.{◌≡◌, ℕ, zero, suc, ◌⊎◌, List, [], ◌∷◌, inr, arith}, specs.{Prelude.{⊤}, List.{AllByRecursion}}}
-use Rattle.nntp_article.specs.{Article.Parts.{Id}, Session.Spool.{Name}}
-use Rattle.nntp_theory.{specs.Conflict.{Point, Step, Group, Number, Count, First, IdOf, PlaceOf, Article, HeadOf, BodyOf, rank}, proofs.Members.{In}}
+use Rattle.nntp_article.specs.{Article.Parts.{Id}, Session.Spool.{Name}, declared.article.field.Field.{Field}}
+use Rattle.nntp_theory.{specs.Conflict.{Point, Step, Group, Number, Count, First, IdOf, PlaceOf, Article, HeadOf, BodyOf, FieldOf, rank}, proofs.Members.{In}}
 
 -- one of the elements has the one, or each has the other
 pub each : {A : Type 0} (C : Type 0) (P : A → Type 0) (xs : List A) → ((x : A) → In x xs → C ⊎ P x) → C ⊎ AllByRecursion P xs
@@ -26,6 +26,7 @@ PointsOf P (suc (suc (suc (suc (suc (suc zero)))))) = (name : Name) (id : Id) �
 PointsOf P (suc (suc (suc (suc (suc (suc (suc zero))))))) = (id : Id) → P (Article id)
 PointsOf P (suc (suc (suc (suc (suc (suc (suc (suc zero)))))))) = (id : Id) → P (HeadOf id)
 PointsOf P (suc (suc (suc (suc (suc (suc (suc (suc (suc zero))))))))) = (id : Id) → P (BodyOf id)
+PointsOf P (suc (suc (suc (suc (suc (suc (suc (suc (suc (suc zero)))))))))) = (id : Id) (field : Field) → P (FieldOf id field)
 PointsOf P n = ⊤
 
 -- holds of each of them

@@ -1,18 +1,18 @@
 -- What doesn't stand together conflicts at some point, and so at a first one.
 use Rattle.std.proofs.Common.{◌≡◌, ℕ, ◌+◌, ◌<◌, ◌^◌, ◌⊎◌, true, false, IsTrue, List, [], ◌∷◌, ◌++◌, map, Option, None, Some, inl, inr, refl, sym, ap, subst}
 use Rattle.std.{proofs.{Common.{◌∙◌, arith}, lemmas.Bool.{true≢false, cases_Bool, cases_eq, eqb-true, false_from_ne_true, cases_lt}}, specs.Prelude.{IsFalse}}
-use Rattle.std.specs.{Prelude.{IfSome, ⊤, not}, List.{AllByRecursion, list_any, flat_map}, Cmp.Lexicographic.{same_text}}
+use Rattle.std.specs.{Prelude.{IfSome, option_map, ⊤, not}, List.{AllByRecursion, list_any, flat_map}, Cmp.Lexicographic.{same_text}}
 use Rattle.nntp_wire.specs.{declared.marks.Marks.{Marks, TheVariants.{Lenient}}, Listing.{OverviewValue}}
-use Rattle.nntp_article.specs.{Article.Parts.{Id, Line}, Session.{Spool.{Name, Numbers, numbers}, Machine.{is_same}}}
+use Rattle.nntp_article.specs.{Article.{Parts.{Id, Line}, Fields.{Word, Fields, words_in}}, declared.article.field.Field.{Field, TheVariants.{Subject, From, Date, References}}, Session.{Spool.{Name, Numbers, numbers}, Machine.{is_same}}}
 use Rattle.nntp_article.specs.declared.session.profile.Profile.{Profile}
-use Rattle.nntp_said.{proofs.FiniteMapsDecided.{Dec, dec_some, dec_texts, dec_lists}, specs.{Asks.{Ask}, Facts.{Fact, ThereIs, IdAt, TextIs, OverviewsAre}}}
+use Rattle.nntp_said.{proofs.FiniteMapsDecided.{Dec, dec_some, dec_texts, dec_lists}, specs.{Asks.{Ask}, Facts.{Fact, ThereIs, IdAt, TextIs, FieldsAre, OverviewsAre}}}
 use Rattle.nntp_said.specs.Facts.{GroupsAre}
-use Rattle.nntp_theory.specs.Given.{asks_of, is_shown_group, shows_group, first_given, id_in, head_in, body_in, is_known, is_denied, demand, IsGivenNumber}
+use Rattle.nntp_theory.specs.Given.{asks_of, is_shown_group, shows_group, first_given, id_in, has_overview_of, head_in, fields_in, body_in, is_known, is_denied, demand, IsGivenNumber}
 use Rattle.nntp_theory.specs.{Given.{HasGivenNumbers}, Inner.{Given.{size}, Together.{IsWellFormed, AgreesWithItself, Together}, Conflict.{FitsThere}}}
 use Rattle.nntp_theory.specs.{Together.{is_possible, MeetsDemand, IsFewFor, denies_group, number_in, shows_article, denies_article, GiveOne}, Conflict.{Placed}}
-use Rattle.nntp_theory.specs.Conflict.{told_with, SomeHas, Point, Step, Group, Number, Count, First, IdOf, PlaceOf, Article, HeadOf, BodyOf, ConflictAt, rank}
+use Rattle.nntp_theory.specs.Conflict.{told_with, SomeHas, Point, Step, Group, Number, Count, First, IdOf, PlaceOf, Article, HeadOf, BodyOf, FieldOf, words_told, ConflictAt, rank}
 use Rattle.nntp_theory.{specs.Conflict.{IsFirstPoint}, proofs.{PointsByRank.{each, or_next, PointsOf, of_rank}, Members.{In, all_at, all_from, in_map, any_in}}}
-use Rattle.nntp_theory.proofs.{Members.{found_in}, Together.{ListedOverviews.{overview_at, overview_of}, FactsOfASpoolStand.{same_itself}}}
+use Rattle.nntp_theory.proofs.{Members.{found_in, first_there, part_first, to_flat}, Given.GivenHolds.{one_given}, Together.{ListedOverviews.{overview_at, overview_of, told_by}, FactsOfASpoolStand.{same_itself}}}
 use Rattle.nntp_theory.proofs.Session.{NumbersOfShownGroups.{Placed as IsPlaced}, NumbersWithinLimit.{free_in_limit}, FittingFacts.{IsFitting}}
 use Rattle.nntp_theory.proofs.{Given.ConstructedSpool.{made, made_group, made_given}, GivenNumbers.AsksDecided.{denied_or_not, too_many_or_not, unmet_or_met}}
 use Rattle.nntp_theory.proofs.Conflicts.{with_told, told_together, told_fit}
@@ -39,8 +39,23 @@ place_keys fact = []
 abbrev article_keys : Fact → List Id
 article_keys (IdAt name n id) = id ∷ []
 article_keys (TextIs what id lines) = id ∷ []
+article_keys (FieldsAre os) = map (λ o. o.id) os
 article_keys (OverviewsAre name r os) = map (λ o. o.id) os
 article_keys fact = []
+
+-- the headers of an article
+abbrev each_field : Id → List (Id × Field)
+each_field id = (id, Subject) ∷ (id, From) ∷ (id, Date) ∷ (id, References) ∷ []
+
+in_fields : (id : Id) (field : Field) → In (id, field) (each_field id)
+in_fields id Subject = inl refl
+in_fields id From = inr (inl refl)
+in_fields id Date = inr (inr (inl refl))
+in_fields id References = inr (inr (inr (inl refl)))
+
+-- the headers of the articles that it shows
+abbrev field_keys : Fact → List (Id × Field)
+field_keys fact = flat_map each_field (article_keys fact)
 
 -- two names or ids are the same, or tested not to be
 same_or_not : (x y : List ℕ) → (is_same x y ≡ false) ⊎ (x ≡ y)
@@ -78,11 +93,29 @@ own_head id Q fact = grind (arith, same_or_not)
 own_body : (id : Id) (Q : List Line → Type 0) (fact : Fact) → IfSome (body_in id fact) Q ⊎ In id (article_keys fact)
 own_body id Q fact = grind (arith, same_or_not)
 
-own_article : (id : Id) (Q : Type 0) (fact : Fact) → (shows_article id fact ≡ true → Q) ⊎ In id (article_keys fact)
-own_article id Q (OverviewsAre name r os) = elim (cases_Bool (list_any (λ o. is_same o.id id) os)) [
+-- the id of an overview is one of them
+own_of : (id : Id) (Q : Type 0) (os : List OverviewValue) → (has_overview_of id os ≡ true → Q) ⊎ In id (map (λ o. o.id) os)
+own_of id Q os = elim (cases_Bool (has_overview_of id os)) [
   | inl t ↦ (let f = found_in (λ o. is_same o.id id) os t in inr (subst (λ key. In key (map (λ o. o.id) os)) (same_text f.0.id id (sym f.2)) (in_map (λ (o : OverviewValue). o.id) f.0 os f.1)))
   | inr f ↦ inl (λ t. absurd (true≢false (sym t ∙ f)))
 ]
+
+-- what is told of an id is told by one that has it
+told_keyed : (id : Id) (fact : Fact) (fields : Fields) → fields_in id fact ≡ Some fields → In id (article_keys fact)
+told_keyed id (FieldsAre os) fields e = let f = told_by os id fields e in subst (λ key. In key (map (λ o. o.id) os)) f.same_id (in_map (λ (o : OverviewValue). o.id) f.overview os f.there)
+told_keyed id (OverviewsAre name r os) fields e = let f = told_by os id fields e in subst (λ key. In key (map (λ o. o.id) os)) f.same_id (in_map (λ (o : OverviewValue). o.id) f.overview os f.there)
+told_keyed id fact fields e = grind (arith, same_or_not)
+
+own_words : (k : Id × Field) (Q : List Word → Type 0) (fact : Fact) → IfSome (words_told k.0 k.1 fact) Q ⊎ In k (field_keys fact)
+own_words k Q fact = by (fields_in k.0 fact) refl
+  where
+    by : (o : Option Fields) → fields_in k.0 fact ≡ o → IfSome (option_map (λ fields. words_in fields k.1) o) Q ⊎ In k (field_keys fact)
+    by None e = inl tt
+    by (Some fields) e = inr (to_flat each_field k.0 k (article_keys fact) (told_keyed k.0 fact fields e) (in_fields k.0 k.1))
+
+own_article : (id : Id) (Q : Type 0) (fact : Fact) → (shows_article id fact ≡ true → Q) ⊎ In id (article_keys fact)
+own_article id Q (FieldsAre os) = own_of id Q os
+own_article id Q (OverviewsAre name r os) = own_of id Q os
 own_article id Q fact = grind (arith, same_or_not)
 
 -- nothing is given by any
@@ -223,6 +256,23 @@ module _ (facts : List Fact) where
     bodies : AtRank 9 ⊎ ((id : Id) → GiveOne (body_in id) facts)
     bodies = each_given article_keys body_in dec_lists own_body (AtRank 9) (λ id c. (BodyOf id, refl, c))
 
+    fields : AtRank 10 ⊎ ((k : Id × Field) → GiveOne (words_told k.0 k.1) facts)
+    fields = each_given field_keys (λ k. words_told k.0 k.1) dec_lists own_words (AtRank 10) (λ k c. (FieldOf k.0 k.1, refl, c))
+
+    -- where the words of each header are told in one way, so are all
+    all_fields : ((k : Id × Field) → GiveOne (words_told k.0 k.1) facts) → (id : Id) → GiveOne (fields_in id) facts
+    all_fields one id = all_from (IsFirst (fields_in id)) facts (λ fact i. by fact i (fields_in id fact) refl)
+      where
+        by : (fact : Fact) → In fact facts → (o : Option Fields) → fields_in id fact ≡ o → IfSome o (λ x. first_given (fields_in id) facts ≡ Some x)
+        by fact i None e = tt
+        by fact i (Some x) e =
+            let z = first_there (fields_in id) facts fact x i e in
+            let same : (field : Field) → words_in z.0 field ≡ words_in x field = λ field.
+            (let first = one_given (words_told id field) facts (one (id, field)) fact i (words_in x field) (ap (option_map (λ x. words_in x field)) e) in
+            let whole : Some (words_in z.0 field) ≡ Some (words_in x field) = sym (part_first (λ x. words_in x field) (fields_in id) facts ∙ ap (option_map (λ x. words_in x field)) z.1) ∙ first in
+            cc) in
+            z.1 ∙ ap Some (λ i. record { subject = same Subject i; from = same From i; date = same Date i; references = same References i })
+
     -- ---- all of them
 
     -- facts conflict at a first point, or stand together
@@ -237,7 +287,8 @@ module _ (facts : List Fact) where
         next 6 below places (λ p name id h. h (p (name, id))) (λ p below.
         next 7 below articles (λ a id h. true≢false (sym h.1 ∙ a id h.0)) (λ a below.
         next 8 below heads (λ t id h. h (t id)) (λ t below.
-        next 9 below bodies (λ o id h. h (o id)) (λ o below. inr (record {
+        next 9 below bodies (λ o id h. h (o id)) (λ o below.
+        next 10 below fields (λ w id field h. h (w (id, field))) (λ w below. inr (record {
           well_formed = formed;
           lists = lists;
           groups = g;
@@ -251,8 +302,9 @@ module _ (facts : List Fact) where
           ids_once = λ name id. p (name, id);
           articles = a;
           heads = t;
+          fields = all_fields w;
           bodies = o;
-        })))))))))))
+        }))))))))))))
 
 -- ---- the law
 
@@ -263,6 +315,7 @@ stand_or_conflict profile how facts fitting placed formed = first_or_none facts 
     (all_from AgreesWithItself facts (λ fact i. agrees fact (all_at (IsFitting profile) fact facts fitting i)))
   where
     agrees : (fact : Fact) → IsFitting profile fact → AgreesWithItself fact
+    agrees (FieldsAre os) f = f
     agrees (OverviewsAre name r os) f = f.1
     agrees fact f = tt
 

@@ -9,7 +9,7 @@ use Rattle.nntp_article.specs.{Session.Spool.{Spool, Text, Numbers, IsNumber, Is
 use Rattle.nntp_said.specs.Facts.{Fact, TextIs}
 use Rattle.nntp_wire.proofs.OptionLemmas.{some_is}
 use Rattle.nntp_theory.specs.Given.{IsOneMore, HasGivenNumbers, asks_of, is_shown_group, first_given, id_shown, gives_article, is_sent, head_in, body_in}
-use Rattle.nntp_theory.specs.Given.{plain_head, is_mentioned, invented, unshown_in, unshown_ids, IsUsed, IsFirstFree, AreInvented, IsGiven}
+use Rattle.nntp_theory.specs.Given.{is_mentioned, invented, unshown_in, unshown_ids, IsUsed, IsFirstFree, AreInvented, IsGiven}
 use Rattle.nntp_theory.{specs.Inner.OneMore.{free}, proofs.Members.{In, in_front, in_back, in_cases, in_map, from_map, to_flat, from_flat, any_in, found_in}}
 use Rattle.nntp_theory.proofs.{Members.{any_back}, Ids.{SmallGivenSpool.{names_of, shown_name, name_shown}, InventedIds.{invented_number}}}
 use Rattle.nntp_theory.proofs.{Ids.NumbersOfInventedIds.{mentioned, counted}, Together.FactsOfASpoolStand.{same_itself}, Given.GivenHolds.{group_of_number}}
@@ -89,7 +89,7 @@ module _ (limit : ℕ) (B : ℕ) (facts : List Fact) where
 
   -- the article of an id
   abbrev text_for : Id → Text
-  text_for id = record { head = unwrap_or (first_given (head_in id) facts) (plain_head id); body = unwrap_or (first_given (body_in id) facts) [] }
+  text_for id = record { head = unwrap_or (first_given (head_in id) facts) (made_head id (first_given (fields_in id) facts)); body = unwrap_or (first_given (body_in id) facts) [] }
 
   -- the spool that is made
   pub made : Spool

@@ -6,7 +6,7 @@ use Rattle.nntp_said.specs.{Asks.{Meets}, Facts.{Fact, Holds}}
 use Rattle.nntp_theory.specs.{Given.{IsGiven, unshown_ids, asks_of, HasAtLeast}, Inner.{Given.{size}, Together.{Together}}}
 use Rattle.nntp_theory.proofs.Session.{FittingFacts.{IsFitting}, NumbersOfShownGroups.{Placed}, NumbersWithinLimit.{free_in_limit}}
 use Rattle.nntp_theory.proofs.Ids.{SmallGivenSpool.{few_enough, unshown_ids_few}, InventedIds.{number-invented, invented_is_id}}
-use Rattle.nntp_theory.proofs.{Together.FactsOfASpoolStand.{group_in_S, id_in_S, head_in_S, body_in_S}, Given.ConstructedSpool.{made, made_group, made_given}}
+use Rattle.nntp_theory.proofs.{Together.FactsOfASpoolStand.{group_in_S, id_in_S, head_in_S, fields_in_S, body_in_S}, Given.ConstructedSpool.{made, made_group, made_given}}
 use Rattle.nntp_theory.proofs.Given.{ConstructedSpool.{made_is_given}, GivenHolds.{Setting, all_hold}, GivenIsSpool.{given_is_spool}}
 use Rattle.nntp_theory.proofs.GivenNumbers.{MetNumbersStand.{shown_are_numbers, as_few}, AskedOfAGroup.{met_by_facts}}
 
@@ -40,6 +40,7 @@ least_of_facts profile S G facts spool holds given =
       numbers_shown = λ name n t. shown_are_numbers (numbers S name) (asks_of name facts) n (met name) t;
       ids_shown = id_in_S profile.limit S facts spool holds;
       heads_sent = head_in_S profile.limit S facts spool holds;
+      fields_told = fields_in_S profile.limit S facts spool holds;
       bodies_sent = body_in_S profile.limit S facts spool holds;
       counts = λ name i. as_few (asks_of name facts) (numbers S name) (met name) (λ n j. (spool.numbers_in_limit name n j).0) (numbers G name) (given.numbers_given name i);
     }

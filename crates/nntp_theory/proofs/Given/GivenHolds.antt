@@ -1,14 +1,14 @@
 -- What stands together holds of the spool that is given for it.
 use Rattle.std.proofs.Common.{◌≡◌, ℕ, ◌+◌, ◌<◌, ◌⊎◌, true, false, IsTrue, List, [], ◌∷◌, ◌++◌, map, length, Option, None, Some, is_some, inl, inr, refl, sym}
 use Rattle.std.proofs.{Common.{ap, subst, ◌∙◌, arith}, lemmas.Bool.{true≢false, and_parts, false_from_ne_true, eqb-true, eq-eqb}}
-use Rattle.std.{proofs.lemmas.List.Elements.{All-from_recursion}, specs.{Prelude.{IsFalse, IfSome, unwrap_or}, List.{AllByRecursion, list_any}}}
+use Rattle.std.{proofs.lemmas.List.Elements.{All-from_recursion}, specs.{Prelude.{IsFalse, IfSome, IsSome, MatchOption, option_map, unwrap_or}, List.{AllByRecursion, list_any}}}
 use Rattle.std.specs.{Ordering.{nat_cmp}, FinMap.{get, empty, entries, get-entries, get-empty, nat_cmp-IsAntisymmetric, slice_cmp-IsAntisymmetric}}
-use Rattle.nntp_article.specs.{Article.Parts.{head_part, body_part, is_empty, Id, Line}, Session.Spool.{Spool, Text, Numbers, IsNumber, IsGroup, numbers}}
-use Rattle.nntp_article.specs.Session.{Spool.{text_of, Lists, Name}, Machine.{is_same, overview_numbers, head_fits, active_fits, ActivesAgree}}
-use Rattle.nntp_article.specs.declared.session.profile.Profile.{Profile}
-use Rattle.nntp_said.specs.{Asks.{Meets, Bounds}, Facts.{Fact, Holds, ThereIs, ThereIsNo, Asks, IdAt, TextIs, NoArticle, OverviewsAre, GroupsAre}}
-use Rattle.nntp_theory.specs.Given.{asks_in, asks_of, shows_group, id_in, id_shown, first_given, mentions, is_mentioned, gives_article, head_in, body_in}
-use Rattle.nntp_theory.specs.{Given.{plain_head, invented, unshown_in, unshown_ids, IsGiven}, Inner.Together.{IsWellFormed, AgreesWithItself, Together}}
+use Rattle.nntp_article.specs.{Article.{Parts.{head_part, body_part, is_empty, Id, Line}, Fields.{Fields, fields_of_head, fields_told, made_head}}, Session.Spool.{Spool, Text, Numbers, IsNumber, IsGroup, numbers}}
+use Rattle.nntp_article.specs.Session.{Spool.{text_of, Lists, Name}, Machine.{is_same, overview_numbers, head_fits, active_fits, ActivesAgree, HasOverview}}
+use Rattle.nntp_article.{specs.{Inner.Fields.{AreWords}, declared.session.profile.Profile.{Profile}}, proofs.ArticleLemmas.FieldLemmas.{made_tells}}
+use Rattle.nntp_said.specs.{Asks.{Meets, Bounds}, Facts.{Fact, Holds, ThereIs, ThereIsNo, Asks, IdAt, TextIs, NoArticle, FieldsAre, OverviewsAre, GroupsAre}}
+use Rattle.nntp_theory.specs.Given.{asks_in, asks_of, shows_group, id_in, id_shown, first_given, mentions, is_mentioned, gives_article, head_in, fields_of_overview, fields_in, body_in}
+use Rattle.nntp_theory.specs.{Given.{invented, unshown_in, unshown_ids, IsGiven}, Inner.Together.{IsProperOverview, IsWellFormed, TellsOwn, AgreesWithItself, Together}}
 use Rattle.nntp_theory.{specs.Together.{denies_group, number_in, shows_article, denies_article, GiveOne}, proofs.Members.{In, all_at, all_part, all_from}}
 use Rattle.nntp_theory.proofs.{Members.{any_in, found_in, in_map, from_map, contains_in, in_contains, first_found}, GivenNumbers.LeastNumber.{not_number}}
 use Rattle.nntp_theory.proofs.{GivenNumbers.GivenNumbersMeet.{given_meet}, Together.{ListedOverviews.{overview_at}, FactsOfASpoolStand.{same_itself}}}
@@ -38,6 +38,12 @@ parts_joined lines t = cc
 -- what one of the facts gives is what the first gives
 pub one_given : {A : Type 0} (f : Fact → Option A) (facts : List Fact) → GiveOne f facts → (fact : Fact) → In fact facts → (x : A) → f fact ≡ Some x → first_given f facts ≡ Some x
 one_given f facts one fact i x e = subst (λ o. IfSome o (λ x. first_given f facts ≡ Some x)) e (all_at _ fact facts one i)
+
+-- what sends a head tells what the head tells
+head_tells : (id : Id) (fact : Fact) (lines : List Line) → head_in id fact ≡ Some lines → fields_in id fact ≡ Some (fields_of_head lines)
+head_tells id (FieldsAre os) lines e = cc
+head_tells id (OverviewsAre name r os) lines e = cc
+head_tells id fact lines e = ap (option_map fields_of_head) e
 
 -- the fact that shows the id for the number
 pub record ShownAt (facts : List Fact) (name : Name) (n : ℕ) (id : Id) : Type 0 where
@@ -108,7 +114,7 @@ module _ (profile : Profile) (B : ℕ) (G : Spool) (facts : List Fact) (s : Sett
           let o = overview_at g name r os n id e in
           let own = all_at _ o.overview os (all_at AgreesWithItself (OverviewsAre g r os) facts s.together.lists i) o.there in
           let has = any_in (λ o. is_same o.id id) o.overview os o.there in
-          let formed : AllByRecursion (λ o. IsMessageId o.id) os → IsMessageId o.overview.id = λ h. all_at (λ o. IsMessageId o.id) o.overview os h o.there in
+          let formed : AllByRecursion IsProperOverview os → IsMessageId o.overview.id = λ h. (all_at IsProperOverview o.overview os h o.there).0 in
           record {
             fact = OverviewsAre g r os;
             there = i;
@@ -119,6 +125,17 @@ module _ (profile : Profile) (B : ℕ) (G : Spool) (facts : List Fact) (s : Sett
           }
       by fact i e = grind (arith, same_itself, eqb-true)
 
+  -- what is told of an id, the head of its article in G tells
+  fields_are : (id : Id) (u : Text) (fields : Fields) → get G.articles id ≡ Some u → first_given (fields_in id) facts ≡ Some fields → AreWords fields → fields_of_head u.head ≡ fields
+  fields_are id u fields at told words = ap fields_of_head (s.given.heads id u at) ∙ by (first_given (head_in id) facts) refl
+    where
+      by : (o : Option (List Line)) → first_given (head_in id) facts ≡ o → fields_of_head (unwrap_or o (made_head id (first_given (fields_in id) facts))) ≡ fields
+      by None e = ap (λ o. fields_of_head (made_head id o)) told ∙ made_tells fields words id
+      by (Some lines) e =
+          let f = first_found (head_in id) facts lines e in
+          let same : Some (fields_of_head lines) ≡ Some fields = sym (one_given (fields_in id) facts (s.together.fields id) f.0 f.1 (fields_of_head lines) (head_tells id f.0 lines f.2)) ∙ told in
+          cc
+
   -- an id that a fact shows to have an article isn't denied
   not_denied : (id : Id) (fact : Fact) → In fact facts → shows_article id fact ≡ true → In (NoArticle id) facts → ⊥
   not_denied id fact i t j =
@@ -126,7 +143,7 @@ module _ (profile : Profile) (B : ℕ) (G : Spool) (facts : List Fact) (s : Sett
 
   -- an article of G whose head is sent has that head
   head_is : (id : Id) (u : Text) (lines : List Line) (fact : Fact) → In fact facts → get G.articles id ≡ Some u → head_in id fact ≡ Some lines → u.head ≡ lines
-  head_is id u lines fact i there e = s.given.heads id u there ∙ ap (λ o. unwrap_or o (plain_head id)) (one_given (head_in id) facts (s.together.heads id) fact i lines e)
+  head_is id u lines fact i there e = s.given.heads id u there ∙ ap (λ o. unwrap_or o (made_head id (first_given (fields_in id) facts))) (one_given (head_in id) facts (s.together.heads id) fact i lines e)
 
   -- and that body
   body_is : (id : Id) (u : Text) (lines : List Line) (fact : Fact) → In fact facts → get G.articles id ≡ Some u → body_in id fact ≡ Some lines → u.body ≡ lines
@@ -170,6 +187,18 @@ module _ (profile : Profile) (B : ℕ) (G : Spool) (facts : List Fact) (s : Sett
             grind (arith, met, same_itself line.name))),
       )
 
+  -- an article of G is as an overview tells
+  overview_tells : (os : List OverviewValue) (fact : Fact) → In fact facts → ((id : Id) → fields_in id fact ≡ first_given (fields_of_overview id) os) → AllByRecursion (TellsOwn os) os
+      → AllByRecursion IsProperOverview os → (o : OverviewValue) → In o os → IsSome (get G.articles o.id) → HasOverview G o
+  overview_tells os fact i is own proper o j there = by (get G.articles o.id) refl there
+    where
+      told : first_given (fields_in o.id) facts ≡ Some (fields_told o)
+      told = one_given (fields_in o.id) facts (s.together.fields o.id) fact i (fields_told o) (is o.id ∙ all_at (TellsOwn os) o os own j)
+
+      by : (t : Option Text) → get G.articles o.id ≡ t → IsSome t → MatchOption t ⊥ (λ t. fields_of_head t.head ≡ fields_told o)
+      by None e there = cc
+      by (Some t) e there = fields_are o.id t (fields_told o) e told (all_at IsProperOverview o os proper j).1
+
   -- an overview that was sent is G's, where its number is one
   overview_holds : (name : Name) (r : Range) (os : List OverviewValue) → In (OverviewsAre name r os) facts → Lists (numbers G name) r (overview_numbers os)
       → (o : OverviewValue) → In o os → get (numbers G name) o.number ≡ Some o.id
@@ -193,6 +222,9 @@ module _ (profile : Profile) (B : ℕ) (G : Spool) (facts : List Fact) (s : Sett
     same_itself name,
     eq-eqb,
   )
+  fact_holds (FieldsAre os) i f p = all_from (HasOverview G) os (λ o j.
+      overview_tells os (FieldsAre os) i (λ id. refl) (all_at AgreesWithItself (FieldsAre os) facts s.together.lists i) (all_at IsWellFormed (FieldsAre os) facts s.together.well_formed i) o j
+      ((s.given.articles o.id).1 (inr (any_in (gives_article o.id) (FieldsAre os) facts i (any_in (λ p. is_same p.id o.id) o os j (same_itself o.id))))))
   fact_holds (TextIs what id lines) i f p = grind (arith, some_is, any_in, same_itself, text_is)
   fact_holds (NoArticle id) i f p = none_of (get G.articles id) (λ g.
       elim ((s.given.articles id).0 g) [
@@ -208,7 +240,10 @@ module _ (profile : Profile) (B : ℕ) (G : Spool) (facts : List Fact) (s : Sett
       ])
   fact_holds (OverviewsAre name r os) i f p =
       let met : Lists (numbers G name) r (overview_numbers os) = grind (arith, asked name (OverviewsAre name r os) i (group_there name p), same_itself name) in
-      (met, all_from _ os (λ o j. overview_holds name r os i met o j))
+      (met, all_from _ os (λ o j. (overview_holds name r os i met o j, overview_tells os (OverviewsAre name r os) i (λ id. refl)
+      (all_from (TellsOwn os) os (λ o j. (all_at _ o os (all_at AgreesWithItself (OverviewsAre name r os) facts s.together.lists i) j).2))
+      (all_at IsWellFormed (OverviewsAre name r os) facts s.together.well_formed i) o j
+      ((s.given.articles o.id).1 (inl (name, o.number, overview_holds name r os i met o j))))))
   fact_holds (GroupsAre p lines) i f g = lines_hold p lines i f
 
   -- all that is said holds of G

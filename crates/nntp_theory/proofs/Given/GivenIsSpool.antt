@@ -1,16 +1,16 @@
 -- The spool that is given is a spool.
-use Rattle.std.{specs.{List.{AllByRecursion, list_any}, Option.{option_map_or}, FinMap.{get, len}, Cmp.Lexicographic.{same_text}}, proofs.Common.{◌≡◌, ℕ, ◌≤◌}}
-use Rattle.std.proofs.{Common.{true, IsTrue, List, ◌∷◌, ◌++◌, Some, is_some, IsSome, inl, inr, sym, ap, subst, arith}, lemmas.Bool.{true≢false, and_parts}}
+use Rattle.std.{specs.{Prelude.{IfSome, option_map, unwrap_or}, List.{AllByRecursion, list_any}, Option.{option_map_or}, FinMap.{get, len}, Cmp.Lexicographic.{same_text}}, proofs.Common.{◌≡◌, ℕ, ◌≤◌}}
+use Rattle.std.proofs.{Common.{true, IsTrue, List, ◌∷◌, ◌++◌, ◌∙◌, Option, None, Some, is_some, IsSome, inl, inr, refl, sym, ap, subst, arith}, lemmas.Bool.{true≢false, and_parts}}
 use Rattle.std.proofs.lemmas.{Bool.{or_cases}, List.Elements.{All-from_recursion}}
 use Rattle.nntp_theory.proofs.{GivenNumbers.MetNumbersStand.{some_counted}, Together.FewEnough.{within_one}, Given.ShownNames.{shown_named}}
 use Rattle.nntp_theory.proofs.{Given.GivenHolds.{Setting, one_given, group_of_number, id_cases, shown_at, unshown_once}, Members.{In, all_at, all_both, any_in}}
-use Rattle.nntp_theory.proofs.{Members.{found_in, first_found}, Ids.PlainHead.{plain_says, plain_is_head, plain_is_clean}, Session.FittingFacts.{IsFitting}}
+use Rattle.nntp_theory.proofs.{Members.{found_in, first_found, none_there}, Together.ListedOverviews.{told_by}, Ids.MadeHead.{made_says_id, made_head_is_head, made_is_clean}, Session.FittingFacts.{IsFitting}}
 use Rattle.nntp_theory.{proofs.Session.NumbersWithinLimit.{free_in_limit, shown_in_limit, end_in_limit}, specs.Given.{mentions, is_mentioned, gives_article}}
-use Rattle.nntp_theory.specs.{Given.{id_shown, head_in, asks_of, is_shown, is_given_end, says_some}, Inner.Together.{IsWellFormed}, Together.{number_in}}
+use Rattle.nntp_theory.specs.{Given.{id_shown, first_given, head_in, fields_in, asks_of, is_shown, is_given_end, says_some}, Inner.Together.{IsProperOverview, IsWellFormed}, Together.{number_in}}
 use Rattle.nntp_theory.specs.Together.{IsFewFor}
-use Rattle.nntp_article.specs.{Article.Parts.{is_head, said_id, head_part, body_part, Id, Line}, Session.Spool.{Spool, Text, IsNumber, IsGroup, numbers}}
+use Rattle.nntp_article.specs.{Article.{Parts.{is_head, said_id, head_part, body_part, Id, Line}, Fields.{Fields, fields_of_head, made_head}}, Inner.Fields.{AreWords}, Session.Spool.{Spool, Text, IsNumber, IsGroup, numbers}}
 use Rattle.nntp_article.specs.{Session.{Spool.{IsSpool, Name, is_line}, Machine.{is_same, says_own_id}}, declared.session.profile.Profile.{Profile}}
-use Rattle.nntp_said.specs.Facts.{Fact, TextIs}
+use Rattle.nntp_said.specs.Facts.{Fact, TextIs, FieldsAre, OverviewsAre}
 use Rattle.nntp_wire.specs.Name.{IsMessageId}
 
 -- a head for an id, without lines that hold NUL, CR or LF, and it says no other id
@@ -83,16 +83,43 @@ module _ (profile : Profile) (B : ℕ) (G : Spool) (facts : List Fact) (s : Sett
     where
       by : (fact : Fact) → IsWellFormed fact → gives_article id fact ≡ true → IsMessageId id
       by (TextIs what other lines) h t = subst IsMessageId (same_text other id (sym t)) h.0
+      by (FieldsAre os) h t = let f = found_in (λ o. is_same o.id id) os t in subst IsMessageId (same_text f.0.id id (sym f.2)) (all_at IsProperOverview f.0 os h f.1).0
       by fact h t = cc
 
   -- a head that was sent is one
   sent_head : (id : Id) (lines : List Line) (fact : Fact) → IsFitting profile fact → IsWellFormed fact → head_in id fact ≡ Some lines → IsHeadOf id lines
   sent_head id lines fact f h e = grind (arith, head_lines, own_id, same_text)
 
+  -- what is told of an id, if no head is sent, are words
+  told_words : (id : Id) (fact : Fact) (fields : Fields) → IsWellFormed fact → head_in id fact ≡ None → fields_in id fact ≡ Some fields → AreWords fields
+  told_words id (FieldsAre os) fields h none e = let f = told_by os id fields e in subst AreWords f.told (all_at IsProperOverview f.overview os h f.there).1
+  told_words id (OverviewsAre name r os) fields h none e = let f = told_by os id fields e in subst AreWords f.told (all_at IsProperOverview f.overview os h f.there).1
+  told_words id fact fields h none e = let nothing : None ≡ Some fields = sym (ap (option_map fields_of_head) none) ∙ e in cc
+
+  -- a head that is made is one
+  made_is : (id : Id) → IsMessageId id → first_given (head_in id) facts ≡ None → IsHeadOf id (made_head id (first_given (fields_in id) facts))
+  made_is id is none =
+      let told = first_given (fields_in id) facts in
+      let words = by told refl in
+      record {
+        is_a_head = made_head_is_head id told words;
+        is_clean = made_is_clean id told is words;
+        own = λ said e. (let same : Some said ≡ Some id = sym e ∙ made_says_id id told is words in cc);
+      }
+    where
+      by : (o : Option Fields) → first_given (fields_in id) facts ≡ o → IfSome o AreWords
+      by None e = tt
+      by (Some fields) e =
+          let f = first_found (fields_in id) facts fields e in
+          told_words id f.0 fields (formed f.0 f.1) (none_there (head_in id) facts f.0 f.1 none) f.2
+
   -- the head of an id is one
   head_is : (id : Id) (t : Text) → get G.articles id ≡ Some t → IsHeadOf id t.head
-  head_is id t e = subst (IsHeadOf id) (sym (s.given.heads id t e))
-      (grind (arith, is_id, plain_is_head, plain_is_clean, plain_says, first_found, sent_head, all_at (IsFitting profile), formed))
+  head_is id t e = subst (IsHeadOf id) (sym (s.given.heads id t e)) (by (first_given (head_in id) facts) refl)
+    where
+      by : (o : Option (List Line)) → first_given (head_in id) facts ≡ o → IsHeadOf id (unwrap_or o (made_head id (first_given (fields_in id) facts)))
+      by None none = made_is id (is_id id (ap is_some e)) none
+      by (Some lines) is = let f = first_found (head_in id) facts lines is in sent_head id lines f.0 (all_at (IsFitting profile) f.0 facts s.fitting f.1) (formed f.0 f.1) f.2
 
   -- a body that was sent, or none
   body_is : (id : Id) (t : Text) → get G.articles id ≡ Some t → AllByRecursion (λ line. IsTrue (is_line line)) t.body

@@ -4,8 +4,8 @@ use Rattle.std.proofs.{Common.{length-append}, lemmas.{Bool.{cases_lt, or_cases,
 use Rattle.std.{proofs.lemmas.List.Folds.{list_any-append}, specs.{Prelude.{IsFalse, ⊤}, List.{list_any, flat_map}, Cmp.Lexicographic.{same_text}}}
 use Rattle.nntp_article.specs.{Session.{Machine.{is_same}, Spool.{Name}}, Article.Parts.{Id}}
 use Rattle.nntp_wire.specs.Listing.{OverviewValue}
-use Rattle.nntp_said.specs.Facts.{Fact, IdAt, TextIs, NoArticle, OverviewsAre}
-use Rattle.nntp_theory.{specs.Given.{mentions, is_mentioned, invented, AreInvented, id_shown, unshown_in}, proofs.Ids.InventedIds.{invented_number}}
+use Rattle.nntp_said.specs.Facts.{Fact, IdAt, TextIs, NoArticle, FieldsAre, OverviewsAre}
+use Rattle.nntp_theory.{specs.Given.{has_overview_of, mentions, is_mentioned, invented, AreInvented, id_shown, unshown_in}, proofs.Ids.InventedIds.{invented_number}}
 use Rattle.nntp_theory.proofs.Members.{In, in_back, in_map, any_in, any_back, found_in}
 
 -- the numbers of the ids that a fact mentions, as if they were invented ones
@@ -13,6 +13,7 @@ abbrev pub mentioned_number : Fact → List ℕ
 mentioned_number (IdAt name n id) = invented_number id ∷ []
 mentioned_number (TextIs what id lines) = invented_number id ∷ []
 mentioned_number (NoArticle id) = invented_number id ∷ []
+mentioned_number (FieldsAre os) = map (λ o. invented_number o.id) os
 mentioned_number (OverviewsAre name r os) = map (λ o. invented_number o.id) os
 mentioned_number fact = []
 
@@ -30,11 +31,16 @@ module _ (B : ℕ) (small : (i : ℕ) → i < B → invented_number (invented i)
   same_number : (i : ℕ) (id : Id) → i < B → is_same id (invented i) ≡ true → eqb i (invented_number id) ≡ true
   same_number i id l e = eq-eqb i (invented_number id) (sym (small i l) ∙ ap invented_number (sym (same_text id (invented i) (sym e))))
 
-  -- and so one that a fact mentions
-  counted_one : (i : ℕ) (fact : Fact) → i < B → mentions (invented i) fact ≡ true → list_any (eqb i) (mentioned_number fact) ≡ true
-  counted_one i (OverviewsAre name r os) l t =
+  -- so has one that overviews have
+  counted_of : (i : ℕ) (os : List OverviewValue) → i < B → has_overview_of (invented i) os ≡ true → list_any (eqb i) (map (λ o. invented_number o.id) os) ≡ true
+  counted_of i os l t =
       let f = found_in (λ o. is_same o.id (invented i)) os t in
       any_in (eqb i) (invented_number f.0.id) (map (λ o. invented_number o.id) os) (in_map (λ (o : OverviewValue). invented_number o.id) f.0 os f.1) (same_number i f.0.id l f.2)
+
+  -- and so one that a fact mentions
+  counted_one : (i : ℕ) (fact : Fact) → i < B → mentions (invented i) fact ≡ true → list_any (eqb i) (mentioned_number fact) ≡ true
+  counted_one i (FieldsAre os) l t = counted_of i os l t
+  counted_one i (OverviewsAre name r os) l t = counted_of i os l t
   counted_one i fact l t = grind (arith, or_left, same_number)
 
   -- and one of the facts

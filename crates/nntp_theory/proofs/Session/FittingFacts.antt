@@ -5,11 +5,11 @@ use Rattle.nntp_article.specs.{Session.Machine.{overview_numbers}, declared.sess
 use Rattle.nntp_wire.specs.{Answer.{Asked, Response}, Listing.{listed_numbers, active_groups, overviews_of}, declared.range.Range.{Range}}
 use Rattle.nntp_wire.specs.declared.water_marks.WaterMarks.{WaterMarks}
 use Rattle.nntp_said.specs.{Asks.{position_after, Estimates, ListsIn, Has, StandsAt, StepsUp, StepsDown}, declared.position.Position.{Position}}
-use Rattle.nntp_said.specs.{declared.position.Position.TheVariants.{Nowhere}, Facts.{Fact, Asks, IdAt, TextIs, OverviewsAre, GroupsAre, here, facts_of}}
+use Rattle.nntp_said.specs.{declared.position.Position.TheVariants.{Nowhere}, Facts.{Fact, Asks, IdAt, TextIs, FieldsAre, OverviewsAre, GroupsAre, here, facts_of}}
 use Rattle.nntp_said.{specs.{Facts.{facts_from}, Inner.Facts.{FitsAll}}, proofs.Rows.{Row, AreListed, row, within, marks, listing, up, down, text, text_at}}
-use Rattle.nntp_said.proofs.Rows.{text_here, active}
+use Rattle.nntp_said.proofs.Rows.{text_here, overview, overview_at, overview_here, active}
 use Rattle.nntp_theory.{specs.{Given.{facts_of_session}, Inner.Together.{AgreesWithItself}}, proofs.Members.{all_both, all_from, each_of}}
-use Rattle.nntp_theory.proofs.Together.ListedOverviews.{apart_agree}
+use Rattle.nntp_theory.proofs.Together.ListedOverviews.{apart_agree, alone_agrees}
 
 -- marks and numbers are within the limit, a low mark of 0 estimates no number, a text has the parts that were asked for, and listed groups match
 abbrev pub IsFitting : Profile → Fact → Type 0
@@ -21,6 +21,7 @@ IsFitting profile (Asks name (StepsUp at n)) = IsTrue (is_article_number profile
 IsFitting profile (Asks name (StepsDown at n)) = IsTrue (is_article_number profile.limit n)
 IsFitting profile (IdAt name n id) = IsTrue (is_article_number profile.limit n)
 IsFitting profile (TextIs what id lines) = IsTrue (head_fits what id lines)
+IsFitting profile (FieldsAre os) = AgreesWithItself (FieldsAre os)
 IsFitting profile (OverviewsAre name r os) = AllByRecursion (λ n. IsTrue (is_article_number profile.limit n)) (overview_numbers os) × AgreesWithItself (OverviewsAre name r os)
 IsFitting profile (GroupsAre p lines) = AllByRecursion (λ line. IsTrue (active_fits profile p line)) lines
 IsFitting profile fact = ⊤
@@ -41,9 +42,12 @@ row_fitting {profile} {v} (marks m name known) f = (tt, (marks_fitting profile v
 row_fitting {profile} {v} (listing m name range lines known) f = (tt, (marks_fitting profile v name m (known f).0, (listed_fitting profile range (listed_numbers lines) (known f).1, tt)))
 row_fitting (up s known) f = ((known f).1, ((known f).1, tt))
 row_fitting (down s known) f = ((known f).1, ((known f).1, tt))
-row_fitting (text a what s gives known) f = (known f, tt)
-row_fitting (text_at a what s gives known) f = ((known f).0, ((known f).1.1, tt))
-row_fitting (text_here a what s gives known) f = ((known f).0, ((known f).1.1, ((known f).1.1, tt)))
+row_fitting (text what s known) f = (known f, tt)
+row_fitting (text_at what s known) f = ((known f).0, ((known f).1.1, tt))
+row_fitting (text_here what s known) f = ((known f).0, ((known f).1.1, ((known f).1.1, tt)))
+row_fitting (overview lines o e) f = (alone_agrees o, tt)
+row_fitting (overview_at lines o e known) f = (alone_agrees o, ((known f).1, tt))
+row_fitting (overview_here lines o e known) f = (alone_agrees o, ((known f).1, ((known f).1, tt)))
 row_fitting {profile} (active p lines known) f = (all_from _ _ (λ line i. each_of (active_fits profile p) (active_groups lines) line (known f).0 i), tt)
 row_fitting r f = assumption
 

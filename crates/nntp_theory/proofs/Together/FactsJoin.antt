@@ -3,7 +3,7 @@ use Rattle.nntp_wire.specs.{declared.marks.Marks.{Marks}, Answer.{Asked, Respons
 use Rattle.std.proofs.{Common.{◌≡◌, ◌↔◌, List, [], ◌++◌, sym, subst, arith}, lemmas.Grind.{flat_map-append}}
 use Rattle.nntp_article.specs.{Session.{Spool.{Name}, Machine.{Visible}}, declared.session.profile.Profile.{Profile}}
 use Rattle.nntp_said.{specs.{declared.position.Position.{Position}, Facts.{Fact, facts_of}}, proofs.Rows.{Row, row}}
-use Rattle.nntp_theory.specs.{Given.{asks_in, asks_of, shows_group, id_in, head_in, body_in}, Inner.Together.{IsWellFormed, AgreesWithItself, AsksStand}}
+use Rattle.nntp_theory.specs.{Given.{asks_in, asks_of, shows_group, id_in, head_in, fields_in, body_in}, Inner.Together.{IsWellFormed, AgreesWithItself, AsksStand}}
 use Rattle.nntp_theory.specs.{Inner.Together.{Together, AgreeWithin, Join}, Together.{denies_group, number_in, shows_article, denies_article}}
 use Rattle.nntp_theory.proofs.{Members.{all_both, all_back}, Together.TwoListsOfFacts.{apart_both, apart_shown, apart_denied, give_one_both, give_same_of_both}}
 
@@ -22,7 +22,7 @@ together_more facts more t w = (
     names = search (apart_shown, apart_denied, h.groups);
     numbers = λ name. subst AsksStand (asks_append name facts more) (h.numbers name);
     ids = search (give_same_of_both, h.ids, h.ids_once);
-    articles = search (apart_shown, apart_denied, give_same_of_both, h.articles, h.heads, h.bodies);
+    articles = search (apart_shown, apart_denied, give_same_of_both, h.articles, h.heads, h.fields, h.bodies);
   },
   λ j. record {
     well_formed = all_both IsWellFormed facts more t.well_formed j.well_formed;
@@ -33,6 +33,7 @@ together_more facts more t w = (
     ids_once = λ name id. give_one_both (number_in name id) facts more (t.ids_once name id) (w.ids_once name id) (j.ids.ids_once name id);
     articles = λ id. apart_both (shows_article id) (denies_article id) facts more (t.articles id) (w.articles id) (j.articles id).shown (j.articles id).denied;
     heads = λ id. give_one_both (head_in id) facts more (t.heads id) (w.heads id) (j.articles id).head;
+    fields = λ id. give_one_both (fields_in id) facts more (t.fields id) (w.fields id) (j.articles id).fields;
     bodies = λ id. give_one_both (body_in id) facts more (t.bodies id) (w.bodies id) (j.articles id).body;
   },
 )

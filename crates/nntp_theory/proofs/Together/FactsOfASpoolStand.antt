@@ -1,15 +1,15 @@
 -- What holds of a spool stands together.
-use Rattle.std.proofs.Common.{◌≡◌, ℕ, ◌↔◌, Bool, true, cond, IsTrue, List, [], ◌∷◌, ◌++◌, map, Option, None, Some, IsSome, refl, sym, ap, ◌∙◌, arith}
+use Rattle.std.proofs.Common.{◌≡◌, ℕ, ◌↔◌, Bool, true, cond, IsTrue, List, [], ◌∷◌, ◌++◌, map, Option, None, Some, is_some, IsSome, MatchOption, refl, sym, ap, subst, ◌∙◌, arith}
 use Rattle.std.proofs.lemmas.{Bool.{true≢false, and_parts, eqb-true, eq-eqb, false_from_ne_true, not-true}, List.Elements.{recursion_from_All}}
-use Rattle.std.specs.{Prelude.{IfSome}, List.{AllByRecursion, list_any}, Option.{option_map_or}, Cmp.Lexicographic.{same_text, nat_list_eq_equiv}, FinMap.{get}}
-use Rattle.nntp_article.specs.{Article.Parts.{Line, Id, head_part, body_part}, Session.Spool.{Spool, Text, IsGroup, numbers, IsSpool, HasText, text_of}}
-use Rattle.nntp_article.{specs.Session.{Spool.{is_line, Name}, Machine.{is_same}}, proofs.ArticleLemmas.HeadHasNoEmptyLine.{parts}}
-use Rattle.nntp_said.specs.Facts.{Fact, Holds, ThereIs, ThereIsNo, IdAt, TextIs, NoArticle, OverviewsAre, GroupsAre}
-use Rattle.nntp_theory.specs.Given.{asks_of, shows_group, is_shown_group, first_given, id_of_overview, id_in, id_shown, head_in, body_in}
-use Rattle.nntp_theory.specs.{Inner.Together.{IsWellFormed, AgreesWithItself, Together}, Together.{denies_group, number_of_overview, number_in, shows_article}}
+use Rattle.std.specs.{Prelude.{IfSome, option_map}, List.{AllByRecursion, list_any}, Option.{option_map_or}, Cmp.Lexicographic.{same_text, nat_list_eq_equiv}, FinMap.{get}}
+use Rattle.nntp_article.specs.{Article.{Parts.{Line, Id, head_part, body_part}, Fields.{Fields, fields_of_head, fields_told}}, Session.Spool.{Spool, Text, IsGroup, numbers, IsSpool, HasText, text_of}}
+use Rattle.nntp_article.{specs.{Session.{Spool.{is_line, Name}, Machine.{is_same, HasOverview}}, Inner.Fields.{AreWords}}, proofs.ArticleLemmas.{HeadHasNoEmptyLine.{parts}, WordsOfLines.{head_has_words}}}
+use Rattle.nntp_said.specs.Facts.{Fact, Holds, ThereIs, ThereIsNo, IdAt, TextIs, NoArticle, FieldsAre, OverviewsAre, GroupsAre}
+use Rattle.nntp_theory.specs.Given.{asks_of, shows_group, is_shown_group, first_given, id_of_overview, id_in, id_shown, has_overview_of, head_in, fields_of_overview, fields_in, body_in}
+use Rattle.nntp_theory.specs.{Inner.Together.{IsProperOverview, IsWellFormed, TellsOwn, AgreesWithItself, Together}, Together.{denies_group, number_of_overview, number_in, shows_article}}
 use Rattle.nntp_theory.{specs.Together.{denies_article, GiveOne}, proofs.Members.{In, all_at, all_front, all_back, all_both, all_from, any_in, found_in}}
 use Rattle.nntp_theory.proofs.{Members.{in_map, from_map, contains_in, in_contains, first_found, first_there}, Together.ListedOverviews.{overview_at}}
-use Rattle.nntp_theory.proofs.{Together.ListedOverviews.{overview_of}, GivenNumbers.{MetNumbersStand.{asks_stand}, AskedOfAGroup.{met_by_facts}}}
+use Rattle.nntp_theory.proofs.{Together.ListedOverviews.{overview_of, told_by}, GivenNumbers.{MetNumbersStand.{asks_stand}, AskedOfAGroup.{met_by_facts}}}
 use Rattle.nntp_wire.specs.{Listing.{ActiveValue, OverviewValue}, Wildmat.{MatchesName}, Decided.{matches_name}, Name.{IsGroupName, IsMessageId}}
 use Rattle.nntp_wire.{specs.declared.command.What.{What, TheVariants.{Article}}, proofs.DecidedLemmas.{matches_name-iff}}
 
@@ -83,13 +83,26 @@ module _ (limit : ℕ) (S : Spool) (facts : List Fact) (spool : IsSpool limit S)
   article_of : (what : What) (id : Id) (lines : Option (List Line)) → HasText S what id lines → (t : Text) × (get S.articles id ≡ Some t) × (text_of what t ≡ lines)
   article_of what id lines h = grind arith
 
+  -- the article of an overview
+  overview_text : (o : OverviewValue) → HasOverview S o → (t : Text) × (get S.articles o.id ≡ Some t) × (fields_of_head t.head ≡ fields_told o)
+  overview_text o h = by (get S.articles o.id) refl h
+    where
+      by : (t : Option Text) → get S.articles o.id ≡ t → MatchOption t ⊥ (λ t. fields_of_head t.head ≡ fields_told o) → (t : Text) × (get S.articles o.id ≡ Some t) × (fields_of_head t.head ≡ fields_told o)
+      by None e h = absurd h
+      by (Some t) e h = (t, e, h)
+
+  -- the id of one of the overviews has an article
+  overview_has : (id : Id) (os : List OverviewValue) → AllByRecursion (HasOverview S) os → has_overview_of id os ≡ true → IsSome (get S.articles id)
+  overview_has id os h t =
+      let f = found_in (λ o. is_same o.id id) os t in
+      grind (arith, same_text f.0.id id, overview_text f.0 (all_at (HasOverview S) f.0 os h f.1))
+
   -- an id that is shown to have an article has one in S
   article_by_one : (id : Id) (fact : Fact) → Holds S fact → shows_article id fact ≡ true → IsSome (get S.articles id)
   article_by_one id (IdAt name n other) h t = grind (arith, same_text other id, spool.ids_have_articles name n other h)
   article_by_one id (TextIs what other lines) h t = grind (arith, same_text other id, article_of what other lines h)
-  article_by_one id (OverviewsAre name r os) h t =
-      let f = found_in (λ o. is_same o.id id) os t in
-      grind (arith, same_text f.0.id id, spool.ids_have_articles name f.0.number f.0.id (all_at _ f.0 os h.1 f.1))
+  article_by_one id (FieldsAre os) h t = overview_has id os h t
+  article_by_one id (OverviewsAre name r os) h t = overview_has id os (all_from (HasOverview S) os (λ o i. (all_at _ o os h.1 i).1)) t
   article_by_one id fact h t = cc
 
   -- and isn't denied
@@ -123,6 +136,37 @@ module _ (limit : ℕ) (S : Spool) (facts : List Fact) (spool : IsSpool limit S)
       has_part (λ t. t.body) id other a.0 (body_part ls) lines a.1 (parts_of other a.0 ls a.1 a.2).1 (is_same other id) refl e
   body_by_one id lines fact h e = grind (arith, article_of, has_part)
 
+  -- S has an article of the id, whose head tells this
+  HasFields : Id → Fields → Type 0
+  HasFields id fields = (t : Text) × (get S.articles id ≡ Some t) × (fields_of_head t.head ≡ fields)
+
+  -- what overviews tell of an id does
+  fields_by_overviews : (id : Id) (fields : Fields) (os : List OverviewValue) → AllByRecursion (HasOverview S) os → first_given (fields_of_overview id) os ≡ Some fields → HasFields id fields
+  unfolding HasFields
+  fields_by_overviews id fields os h e =
+      let f = told_by os id fields e in
+      let t = overview_text f.overview (all_at (HasOverview S) f.overview os h f.there) in
+      (t.0, subst (λ id. get S.articles id ≡ Some t.0) f.same_id t.1, t.2 ∙ f.told)
+
+  -- so does what one fact tells
+  fields_by_one : (id : Id) (fields : Fields) (fact : Fact) → Holds S fact → fields_in id fact ≡ Some fields → HasFields id fields
+  unfolding HasPart, HasFields
+  fields_by_one id fields (FieldsAre os) h e = fields_by_overviews id fields os h e
+  fields_by_one id fields (OverviewsAre name r os) h e = fields_by_overviews id fields os (all_from (HasOverview S) os (λ o i. (all_at _ o os h.1 i).1)) e
+  fields_by_one id fields fact h e = by_head (head_in id fact) refl e
+    where
+      by_head : (o : Option (List Line)) → head_in id fact ≡ o → option_map fields_of_head o ≡ Some fields → HasFields id fields
+      by_head None is e = cc
+      by_head (Some lines) is e = let p = head_by_one id lines fact h is in (p.0, p.1, ap fields_of_head p.2 ∙ some_same e)
+
+      some_same : {x y : Fields} → Some x ≡ Some y → x ≡ y
+      some_same e = cc
+
+  -- an article has one head
+  fields_once : (id : Id) (x y : Fields) → HasFields id x → HasFields id y → x ≡ y
+  unfolding HasFields
+  fields_once id x y h g = grind arith
+
   -- an article has one such part
   part_once : (part : Text → List Line) (id : Id) (x y : List Line) → HasPart part id x → HasPart part id y → x ≡ y
   unfolding HasPart
@@ -132,6 +176,11 @@ module _ (limit : ℕ) (S : Spool) (facts : List Fact) (spool : IsSpool limit S)
   pub head_in_S : (id : Id) (lines : List Line) → first_given (head_in id) facts ≡ Some lines → (t : Text) × (get S.articles id ≡ Some t) × (t.head ≡ lines)
   unfolding HasPart
   head_in_S id lines e = let f = first_found (head_in id) facts lines e in head_by_one id lines f.0 (of_fact f.0 f.1) f.2
+
+  -- what is told of an id, its head in S tells
+  pub fields_in_S : (id : Id) (fields : Fields) → first_given (fields_in id) facts ≡ Some fields → (t : Text) × (get S.articles id ≡ Some t) × (fields_of_head t.head ≡ fields)
+  unfolding HasFields
+  fields_in_S id fields e = let f = first_found (fields_in id) facts fields e in fields_by_one id fields f.0 (of_fact f.0 f.1) f.2
 
   -- a body that is sent is S's
   pub body_in_S : (id : Id) (lines : List Line) → first_given (body_in id) facts ≡ Some lines → (t : Text) × (get S.articles id ≡ Some t) × (t.body ≡ lines)
@@ -145,22 +194,42 @@ module _ (limit : ℕ) (S : Spool) (facts : List Fact) (spool : IsSpool limit S)
       let whole = recursion_from_All (λ line. IsTrue (is_line line)) (t.head ++ t.body) (spool.heads id t e).1 in
       grind (arith, whole, all_front, all_back, all_both)
 
+  -- the id and the words of an overview are S's
+  proper : (o : OverviewValue) → HasOverview S o → IsProperOverview o
+  proper o h =
+      let t = overview_text o h in
+      let whole = recursion_from_All (λ line. IsTrue (is_line line)) (t.0.head ++ t.0.body) (spool.heads o.id t.0 t.1).1 in
+      (spool.ids o.id (ap is_some t.1), subst AreWords t.2 (head_has_words t.0.head (all_front (λ line. IsTrue (is_line line)) t.0.head t.0.body whole)))
+
   -- names, ids and lines are S's
   well_formed : (fact : Fact) → Holds S fact → IsWellFormed fact
   well_formed (GroupsAre p lines) h =
       all_from (λ line. IsGroupName line.name) lines
       (λ line i. spool.names line.name ((h.0 line.name).0
       (contains_in line.name (map (λ line. line.name) lines) (in_map (λ line. line.name) line lines i))).0)
-  well_formed (OverviewsAre name r os) h =
-      all_from (λ o. IsMessageId o.id) os (λ o i. spool.ids o.id (spool.ids_have_articles name o.number o.id (all_at _ o os h.1 i)))
+  well_formed (FieldsAre os) h = all_from IsProperOverview os (λ o i. proper o (all_at (HasOverview S) o os h i))
+  well_formed (OverviewsAre name r os) h = all_from IsProperOverview os (λ o i. proper o (all_at _ o os h.1 i).1)
   well_formed fact h = grind (arith, article_of, sent_lines)
+
+  -- overviews tell of an id what its article tells
+  fields_given : (os : List OverviewValue) → AllByRecursion (HasOverview S) os → (o : OverviewValue) → In o os → TellsOwn os o
+  unfolding HasFields
+  fields_given os h o i =
+      let z = first_there (fields_of_overview o.id) os o (fields_told o) i (grind (arith, same_itself)) in
+      let t = overview_text o (all_at (HasOverview S) o os h i) in
+      z.1 ∙ ap Some (fields_once o.id z.0 (fields_told o) (fields_by_overviews o.id z.0 os h z.1) (has_fields o t))
+    where
+      has_fields : (o : OverviewValue) → (t : Text) × (get S.articles o.id ≡ Some t) × (fields_of_head t.head ≡ fields_told o) → HasFields o.id (fields_told o)
+      has_fields o t = t
 
   -- overviews agree with one another, as S has one id at a number, and one number for an id
   agrees_with_itself : (fact : Fact) → Holds S fact → AgreesWithItself fact
-  agrees_with_itself (OverviewsAre name r os) h = all_from _ os (λ o i. (id_given o i, number_given o i))
+  agrees_with_itself (FieldsAre os) h = all_from (TellsOwn os) os (λ o i. fields_given os h o i)
+  agrees_with_itself (OverviewsAre name r os) h =
+      all_from _ os (λ o i. (id_given o i, number_given o i, fields_given os (all_from (HasOverview S) os (λ o i. (all_at _ o os h.1 i).1)) o i))
     where
       in_S : (o : OverviewValue) → In o os → get (numbers S name) o.number ≡ Some o.id
-      in_S o i = all_at _ o os h.1 i
+      in_S o i = (all_at _ o os h.1 i).0
 
       id_given : (o : OverviewValue) → In o os → first_given (id_of_overview o.number) os ≡ Some o.id
       id_given o i =
@@ -189,5 +258,6 @@ module _ (limit : ℕ) (S : Spool) (facts : List Fact) (spool : IsSpool limit S)
             (number_in name id) facts (λ fact i n e. number_by_one name id n fact (of_fact fact i) e);
         articles = grind (arith, false_from_ne_true, found_in, article_denied, of_fact, article_by_one);
         heads = λ id. give_one (HasPart (λ t. t.head) id) (part_once (λ t. t.head) id) (head_in id) facts (λ fact i lines e. head_by_one id lines fact (of_fact fact i) e);
+        fields = λ id. give_one (HasFields id) (fields_once id) (fields_in id) facts (λ fact i fields e. fields_by_one id fields fact (of_fact fact i) e);
         bodies = λ id. give_one (HasPart (λ t. t.body) id) (part_once (λ t. t.body) id) (body_in id) facts (λ fact i lines e. body_by_one id lines fact (of_fact fact i) e);
       }

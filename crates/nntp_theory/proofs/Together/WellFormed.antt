@@ -6,8 +6,9 @@ use Rattle.nntp_wire.{specs.Answer.{SaysCapabilities, SaysCode, block_octets, Is
 use Rattle.nntp_wire.proofs.{OctetLemmas.{octets-parts, unstuffed-octets}, ListingLemmas.{active_groups-named, overviews_of-named}}
 use Rattle.std.{proofs.Common.{◌≡◌, ℕ, true, IsTrue, List, [], ◌∷◌, ◌++◌, ◌⊎◌, Option, Some, arith}, specs.{Prelude.{IfSome, ⊤}, List.{AllByRecursion}}}
 use Rattle.nntp_article.specs.{Session.{Spool.{is_line}, Machine.{Visible, only}}, declared.session.profile.Profile.{Profile}}
-use Rattle.nntp_said.{specs.{declared.position.Position.{Position}, Facts.{Fact, facts_of}}, proofs.Rows.{Row, Gives, sends_it, lists_it, row}}
-use Rattle.nntp_theory.specs.Inner.Together.{IsWellFormed}
+use Rattle.nntp_said.{specs.{declared.position.Position.{Position}, Facts.{Fact, facts_of}}, proofs.Rows.{Row, row}}
+use Rattle.nntp_article.proofs.ArticleLemmas.WordsOfLines.{overview_has_words}
+use Rattle.nntp_theory.{specs.Inner.Together.{IsProperOverview, IsWellFormed}, proofs.Members.{all_at, all_from}}
 
 -- the lines of octets that send them are lines
 sent_lines : (lines : List (List ℕ)) → AreClean lines → are_octets (sent lines) ≡ true → AllByRecursion (λ line. IsTrue (is_line line)) lines
@@ -24,8 +25,13 @@ IsProper (group_is m name) = IsGroupName name
 IsProper (numbers_are m name lines) = IsGroupName name
 IsProper (sends s) = IsMessageId s.id × IfSome s.block (λ lines. AllByRecursion (λ line. IsTrue (is_line line)) lines)
 IsProper (active_are lines) = AllByRecursion (λ line. IsGroupName line.name) (active_groups lines)
-IsProper (overviews_are lines) = AllByRecursion (λ o. IsMessageId o.id) (overviews_of lines)
+IsProper (overviews_are lines) = AllByRecursion IsProperOverview (overviews_of lines)
 IsProper (plain code) = ⊤
+
+-- overviews of lines have proper ids and words
+proper_overviews : (lines : List (List ℕ)) → AllByRecursion (λ line. IsTrue (is_line line)) lines → AllByRecursion IsProperOverview (overviews_of lines)
+proper_overviews lines h = all_from IsProperOverview (overviews_of lines) (λ o i.
+    (all_at (λ o. IsMessageId o.id) o (overviews_of lines) (overviews_of-named lines) i, all_at _ o (overviews_of lines) (overview_has_words lines h) i))
 
 -- so are those of one that octets and a block say, in whatever way
 said_proper : (code : ℕ) (bytes : List ℕ) (block : Option (List (List ℕ))) (response : Response) → IfSome block (λ lines. AllByRecursion (λ line. IsTrue (is_line line)) lines)
@@ -35,24 +41,19 @@ said_proper : (code : ℕ) (bytes : List ℕ) (block : Option (List (List ℕ)))
     ⊎ (SaysByLines SaysOverviews block response
     ⊎ (SaysByLines (SaysCapabilities code) block response ⊎ SaysCode code response)))))
     → IsProper response
-said_proper code bytes block response lines h = grind (arith, active_groups-named, overviews_of-named)
+said_proper code bytes block response lines h = grind (arith, active_groups-named, proper_overviews)
 
 -- and of one that they spell
 spelled_proper : (asked : Asked) (response : Response) (bytes : List ℕ) → Spells asked response bytes → are_octets bytes ≡ true → IsProper response
 spelled_proper asked response bytes s h = grind (arith, said_proper, block_lines, octets-parts, says-ways)
 
 -- the only one is among them
-only_named : (os : List OverviewValue) (o : OverviewValue) → only os ≡ Some o → AllByRecursion (λ o. IsMessageId o.id) os → IsMessageId o.id
-only_named os o e named = grind arith
-
--- the article that such a response gives has a proper id and proper lines
-gives_proper : {a : Response} {s : Success} → Gives a s → IsProper a → IsMessageId s.id × IfSome s.block (λ lines. AllByRecursion (λ line. IsTrue (is_line line)) lines)
-gives_proper (sends_it s) proper = proper
-gives_proper (lists_it lines o e) proper = (only_named (overviews_of lines) o e proper, tt)
+only_proper : (os : List OverviewValue) (o : OverviewValue) → only os ≡ Some o → AllByRecursion IsProperOverview os → IsProperOverview o
+only_proper os o e proper = grind arith
 
 -- a row of such a response is well formed
 row_formed : {profile : Profile} {v : Visible} {at : Position} {Fits : Type 0} {a : Response} {facts : List Fact} → Row profile v at Fits a facts → IsProper a → AllByRecursion IsWellFormed facts
-row_formed r h = grind (arith, gives_proper)
+row_formed r h = grind (arith, only_proper)
 
 -- what octets spell says well-formed facts
 pub spelled_formed : (how : Marks) (v : Visible) (at : Position) (asked : Asked) (response : Response) (bytes : List ℕ)

@@ -33,16 +33,15 @@ IsWellFormed (OverviewsAre name range overviews) = AllByRecursion IsProperOvervi
 IsWellFormed (GroupsAre p lines) = AllByRecursion (λ line. IsGroupName line.name) lines
 IsWellFormed fact = ⊤
 
--- for the id of each overview they tell what it tells
-abbrev pub TellOwn : List OverviewValue → Type 0
-TellOwn overviews = AllByRecursion (λ o. first_given (fields_of_overview o.id) overviews ≡ Some (fields_told o)) overviews
+-- for the id of the overview they tell what it tells
+abbrev pub TellsOwn : List OverviewValue → OverviewValue → Type 0
+TellsOwn overviews o = first_given (fields_of_overview o.id) overviews ≡ Some (fields_told o)
 
--- overviews agree with one another: for the id of each they tell its own fields; and of a range at its number its own id is shown, and for its id its own number
+-- overviews agree with one another: for the id of each they tell its own fields; and in a range they show at its number its own id, and for its id its own number
 abbrev pub AgreesWithItself : Fact → Type 0
-AgreesWithItself (FieldsAre overviews) = TellOwn overviews
+AgreesWithItself (FieldsAre overviews) = AllByRecursion (TellsOwn overviews) overviews
 AgreesWithItself (OverviewsAre name range overviews) =
-    AllByRecursion (λ o. (first_given (id_of_overview o.number) overviews ≡ Some o.id) × (first_given (number_of_overview o.id) overviews ≡ Some o.number)) overviews
-    × TellOwn overviews
+    AllByRecursion (λ o. (first_given (id_of_overview o.number) overviews ≡ Some o.id) × (first_given (number_of_overview o.id) overviews ≡ Some o.number) × TellsOwn overviews o) overviews
 AgreesWithItself fact = ⊤
 
 -- what is said stands together: nothing is both shown and denied, and what is shown twice is shown alike
