@@ -1,22 +1,22 @@
 -- With which earlier answers a bad answer conflicts.
-use Rattle.std.proofs.Common.{append-nil, map, length-append, ◌≡◌, ℕ, zero, suc, ◌+◌, ◌<◌, ◌≤◌, ◌^◌, ◌⊎◌, ◌↔◌, IsTrue, List, [], ◌∷◌, ◌++◌, length, Option}
+use Rattle.std.proofs.Common.{append-nil, map, length-append, ◌≡◌, ℕ, zero, suc, ◌+◌, ◌<◌, ◌≤◌, ◌^◌, ◌⊎◌, ◌↔◌, IsTrue, List, [], ◌∷◌, ◌++◌, length, Option, None, option_map}
 use Rattle.std.proofs.{Common.{Some, inl, inr, refl, sym, ap, subst, ◌∙◌, arith}, lemmas.{Grind.{flat_map-append}, Bool.{cases_lt, cases_eq, true≢false}}}
-use Rattle.std.{proofs.lemmas.{Bool.{not-true}, List.{length-map}}, specs.{Prelude.{not, Contains}, List.{AllByRecursion, flat_map}, Cmp.{nat_cmp_total}}}
+use Rattle.std.{proofs.lemmas.{Bool.{not-true}, List.{length-map}}, specs.{Prelude.{not, IfSome, Contains}, List.{AllByRecursion, flat_map}, Cmp.{nat_cmp_total}}}
 use Rattle.std.specs.FinMap.{len-entries}
 use Rattle.nntp_said.specs.{declared.position.Position.{Position, TheVariants.{Nowhere}}, Asks.{position_after}, Facts.{Fact, Holds, ThereIs, Asks, IdAt}}
 use Rattle.nntp_said.specs.{Facts.{OverviewsAre, facts_of, facts_from, group_of}, Inner.Facts.{FitsAll}}
 use Rattle.nntp_theory.specs.{Classes.{visible_from, position_from, asked_next}, Inner.{Permits.{SomePermits}, Given.{size}, Together.{Together}}}
-use Rattle.nntp_theory.specs.{Inner.Conflict.{FitsThere, AreFound, IsPartOfCore}, Given.{asks_of}, Together.{is_possible}, Conflict.{Placed, placed_from}}
+use Rattle.nntp_theory.specs.{Inner.Conflict.{FitsThere, AreFound, IsPartOfCore}, Given.{asks_of, first_given, fields_in}, Together.{is_possible}, Conflict.{Placed, placed_from, words_told}}
 use Rattle.nntp_theory.specs.Conflict.{said as said_there, a_group, the_group, with_group, told, SomeHas, told_at, told_with, below, IsCore, Point, Step, Group}
-use Rattle.nntp_theory.specs.Conflict.{Number, Count, First, IdOf, PlaceOf, Article, HeadOf, BodyOf, ConflictAt, AreAmong, IsEndOfCore}
+use Rattle.nntp_theory.specs.Conflict.{Number, Count, First, IdOf, PlaceOf, Article, HeadOf, BodyOf, FieldOf, ConflictAt, AreAmong, IsEndOfCore}
 use Rattle.nntp_theory.proofs.{PointsByRank.{each}, Maps.{keys_among}, Given.{GivenPermits.{said, permits}, ConstructedSpool.{made}}}
 use Rattle.nntp_theory.proofs.{Given.GivenHasFacts.{given_of_facts, given_has}, Session.{OneMoreAnswer.{facts_grow}, NumbersOfShownGroups.{Placed as IsPlaced}}}
 use Rattle.nntp_theory.proofs.Session.{NumbersOfShownGroups.{Among, session_placed}, GroupOfAnAnswer.{same_selected}, FittingFacts.{IsFitting, answer_fitting}}
 use Rattle.nntp_theory.proofs.Members.{In, all_at, all_from, all_both, all_front, all_back, in_front, in_back, in_cases, in_map, found_in, to_flat, from_flat}
-use Rattle.nntp_theory.proofs.{Members.{contains_in, in_contains, all_part, all_parts}, Together.FactsOfASpoolStand.{stand}}
+use Rattle.nntp_theory.proofs.{Members.{contains_in, in_contains, all_part, all_parts, part_first}, Given.GivenHolds.{one_given}, Together.FactsOfASpoolStand.{stand}}
 use Rattle.nntp_wire.specs.{Answer.{Asked, Response}, declared.marks.Marks.{Marks, TheVariants.{Lenient}}}
 use Rattle.nntp_article.specs.Session.{Spool.{Spool, IsSpool, IsGroup, IsNumber, numbers, Name}, Machine.{Visible, visible_after, start, fits}}
-use Rattle.nntp_article.specs.declared.session.profile.Profile.{Profile}
+use Rattle.nntp_article.specs.{Article.Fields.{Fields, words_in}, declared.session.profile.Profile.{Profile}}
 
 -- ---- what answers say, where each fits
 
@@ -338,6 +338,14 @@ at_point facts (PlaceOf name id) h t = h (t.ids_once name id)
 at_point facts (Article id) h t = true≢false (sym h.1 ∙ t.articles id h.0)
 at_point facts (HeadOf id) h t = h (t.heads id)
 at_point facts (BodyOf id) h t = h (t.bodies id)
+at_point facts (FieldOf id field) h t = h (all_from _ facts (λ fact i. part_given fact i (fields_in id fact) refl))
+  where
+    part_given : (fact : Fact) → In fact facts → (o : Option Fields) → fields_in id fact ≡ o
+        → IfSome (option_map (λ fields. words_in fields field) o) (λ words. first_given (words_told id field) facts ≡ Some words)
+    part_given fact i None e = tt
+    part_given fact i (Some fields) e =
+        part_first (λ fields. words_in fields field) (fields_in id) facts
+        ∙ ap (option_map (λ fields. words_in fields field)) (one_given (fields_in id) facts (t.fields id) fact i fields e)
 
 -- each conflict among those below the bound and those at the places has one below the bound
 pub one_below : (profile : Profile) (bad : Placed) (answers : List Placed) (bound : ℕ) (places some : List ℕ) → IsEndOfCore profile bad answers bound places

@@ -6,9 +6,10 @@ use Rattle.std.specs.{Cmp.{nat_cmp_total, IsTotalOrder, Lexicographic.{slice_cmp
 use Rattle.std.specs.FinMap.{from_sorted, entries-from_sorted, nat_cmp-IsAntisymmetric, slice_cmp-IsAntisymmetric, IsAntisymmetric}
 use Rattle.std.specs.declared.cmp.Ordering.{Ordering}
 use Rattle.nntp_article.specs.{Session.Spool.{Spool, Text, Numbers, IsNumber, IsGroup, numbers, Name}, Article.Parts.{Id}}
-use Rattle.nntp_said.specs.Facts.{Fact, TextIs}
-use Rattle.nntp_wire.proofs.OptionLemmas.{some_is}
-use Rattle.nntp_theory.specs.Given.{IsOneMore, HasGivenNumbers, asks_of, is_shown_group, first_given, id_shown, gives_article, is_sent, head_in, body_in}
+use Rattle.nntp_said.specs.Facts.{Fact, TextIs, FieldsAre}
+use Rattle.nntp_wire.{specs.Listing.{OverviewValue}, proofs.OptionLemmas.{some_is}}
+use Rattle.nntp_article.specs.{Article.Fields.{made_head}, Session.Machine.{is_same}}
+use Rattle.nntp_theory.specs.Given.{IsOneMore, HasGivenNumbers, asks_of, is_shown_group, first_given, id_shown, gives_article, is_sent, head_in, fields_in, body_in}
 use Rattle.nntp_theory.specs.Given.{is_mentioned, invented, unshown_in, unshown_ids, IsUsed, IsFirstFree, AreInvented, IsGiven}
 use Rattle.nntp_theory.{specs.Inner.OneMore.{free}, proofs.Members.{In, in_front, in_back, in_cases, in_map, from_map, to_flat, from_flat, any_in, found_in}}
 use Rattle.nntp_theory.proofs.{Members.{any_back}, Ids.{SmallGivenSpool.{names_of, shown_name, name_shown}, InventedIds.{invented_number}}}
@@ -36,6 +37,7 @@ ids_of g = map (λ (e : ℕ × Id). e.1) (entries g.1)
 -- the id that a success names
 abbrev sent_in : Fact → List Id
 sent_in (TextIs what id lines) = id ∷ []
+sent_in (FieldsAre os) = map (λ o. o.id) os
 sent_in fact = []
 
 module _ (limit : ℕ) (B : ℕ) (facts : List Fact) where
@@ -184,6 +186,10 @@ module _ (limit : ℕ) (B : ℕ) (facts : List Fact) where
 
   -- one of the ids that are sent
   sent_if : (id : Id) (fact : Fact) → In id (sent_in fact) ↔ (gives_article id fact ≡ true)
+  sent_if id (FieldsAre os) = (
+    λ h. (let f = from_map (λ (o : OverviewValue). o.id) id os h in any_in (λ o. is_same o.id id) f.0 os f.1 (subst (λ other. is_same f.0.id other ≡ true) f.2 (same_itself f.0.id))),
+    λ t. (let f = found_in (λ o. is_same o.id id) os t in subst (λ other. In other (map (λ (o : OverviewValue). o.id) os)) (same_text f.0.id id (sym f.2)) (in_map (λ (o : OverviewValue). o.id) f.0 os f.1)),
+  )
   sent_if id fact = (λ h. grind (arith, same_itself), λ t. grind (arith, same_text))
 
   -- the ids are those that are used or sent

@@ -1,5 +1,5 @@
 -- What the visible condition says of the facts of an answer.
-use Rattle.std.{proofs.{Common.{◌≡◌, ℕ, IsTrue, List, [], ◌∷◌, arith, ◌≤◌}, lemmas.Bool.{and_parts}}, specs.{Prelude.{⊤}, List.{AllByRecursion}}}
+use Rattle.std.{proofs.{Common.{◌≡◌, ℕ, IsTrue, List, ◌∷◌, arith, ◌≤◌}, lemmas.Bool.{and_parts}}, specs.{Prelude.{⊤}, List.{AllByRecursion}}}
 use Rattle.nntp_article.specs.Session.{Spool.{Name}, Machine.{Visible, visible_after, start, fits, marks_fit, is_article_number, head_fits, active_fits}}
 use Rattle.nntp_article.specs.{Session.Machine.{overview_numbers}, declared.session.profile.Profile.{Profile}}
 use Rattle.nntp_wire.specs.{Answer.{Asked, Response}, Listing.{listed_numbers, active_groups, overviews_of}, declared.range.Range.{Range}}

@@ -4,7 +4,7 @@ use Rattle.std.{proofs.Common.{◌≡◌, IsTrue, List, [], ◌∷◌, Some, is_
 use Rattle.nntp_article.specs.{Session.{Spool.{Name}, Machine.{Visible, visible_after, start, fits}}, declared.session.profile.Profile.{Profile}}
 use Rattle.nntp_said.specs.{Asks.{position_after, Estimates}, declared.position.Position.{Position, TheVariants.{Nowhere}}, Facts.{Fact, ThereIs, Asks, IdAt}}
 use Rattle.nntp_said.{specs.{Facts.{OverviewsAre, here, facts_of, facts_from}, Inner.Facts.{FitsAll}}, proofs.Rows.{Row, row, nowhere, top, bottom}}
-use Rattle.nntp_said.proofs.Rows.{none_within, within, lacks, marks, listing, up, down, text_at, text_here}
+use Rattle.nntp_said.proofs.Rows.{none_within, within, lacks, marks, listing, up, down, text_at, text_here, overview_at, overview_here}
 use Rattle.nntp_theory.{specs.Given.{facts_of_session}, proofs.Members.{In, all_both, all_front, all_back, all_from}}
 
 -- a 211 said that there is such a group, with its marks, which are read so
@@ -50,8 +50,10 @@ row_placed {profile} all (marks m name known) f stands h = let g = selectable pr
 row_placed {profile} all (listing m name range lines known) f stands h = let g = selectable profile.marks all name m (h.0, (h.1.0, tt)) in (g, (g, (g, tt)))
 row_placed {profile} {v} all (up s known) f stands h = let g = here_stands profile.marks all v stands (known f).0 in (g, (g, tt))
 row_placed {profile} {v} all (down s known) f stands h = let g = here_stands profile.marks all v stands (known f).0 in (g, (g, tt))
-row_placed {profile} {v} all (text_at a what s gives known) f stands h = (tt, (here_stands profile.marks all v stands (known f).1.0, tt))
-row_placed {profile} {v} all (text_here a what s gives known) f stands h = let g = here_stands profile.marks all v stands (known f).1.0 in (tt, (g, (g, tt)))
+row_placed {profile} {v} all (text_at what s known) f stands h = (tt, (here_stands profile.marks all v stands (known f).1.0, tt))
+row_placed {profile} {v} all (overview_at lines o e known) f stands h = (tt, (here_stands profile.marks all v stands (known f).0, tt))
+row_placed {profile} {v} all (overview_here lines o e known) f stands h = let g = here_stands profile.marks all v stands (known f).0 in (tt, (g, (g, tt)))
+row_placed {profile} {v} all (text_here what s known) f stands h = let g = here_stands profile.marks all v stands (known f).1.0 in (tt, (g, (g, tt)))
 row_placed all r f stands h = assumption
 
 -- the group that is selected afterwards is there

@@ -10,7 +10,7 @@ use Rattle.nntp_theory.specs.{Inner.Together.{IsProperOverview, IsWellFormed, Te
 use Rattle.nntp_theory.{specs.Together.{denies_article, GiveOne}, proofs.Members.{In, all_at, all_front, all_back, all_both, all_from, any_in, found_in}}
 use Rattle.nntp_theory.proofs.{Members.{in_map, from_map, contains_in, in_contains, first_found, first_there}, Together.ListedOverviews.{overview_at}}
 use Rattle.nntp_theory.proofs.{Together.ListedOverviews.{overview_of, told_by}, GivenNumbers.{MetNumbersStand.{asks_stand}, AskedOfAGroup.{met_by_facts}}}
-use Rattle.nntp_wire.specs.{Listing.{ActiveValue, OverviewValue}, Wildmat.{MatchesName}, Decided.{matches_name}, Name.{IsGroupName, IsMessageId}}
+use Rattle.nntp_wire.specs.{Listing.{ActiveValue, OverviewValue}, Wildmat.{MatchesName}, Decided.{matches_name}, Name.{IsGroupName}}
 use Rattle.nntp_wire.{specs.declared.command.What.{What, TheVariants.{Article}}, proofs.DecidedLemmas.{matches_name-iff}}
 
 -- a text is the same as itself
@@ -150,17 +150,17 @@ module _ (limit : ℕ) (S : Spool) (facts : List Fact) (spool : IsSpool limit S)
 
   -- so does what one fact tells
   fields_by_one : (id : Id) (fields : Fields) (fact : Fact) → Holds S fact → fields_in id fact ≡ Some fields → HasFields id fields
-  unfolding HasPart, HasFields
+  unfolding HasPart HasFields
   fields_by_one id fields (FieldsAre os) h e = fields_by_overviews id fields os h e
   fields_by_one id fields (OverviewsAre name r os) h e = fields_by_overviews id fields os (all_from (HasOverview S) os (λ o i. (all_at _ o os h.1 i).1)) e
   fields_by_one id fields fact h e = by_head (head_in id fact) refl e
     where
+      some_same : {x y : Fields} → Some x ≡ Some y → x ≡ y
+      some_same e = cc
+
       by_head : (o : Option (List Line)) → head_in id fact ≡ o → option_map fields_of_head o ≡ Some fields → HasFields id fields
       by_head None is e = cc
       by_head (Some lines) is e = let p = head_by_one id lines fact h is in (p.0, p.1, ap fields_of_head p.2 ∙ some_same e)
-
-      some_same : {x y : Fields} → Some x ≡ Some y → x ≡ y
-      some_same e = cc
 
   -- an article has one head
   fields_once : (id : Id) (x y : Fields) → HasFields id x → HasFields id y → x ≡ y

@@ -1,6 +1,6 @@
 -- What octets spell is well formed.
 use Rattle.nntp_wire.specs.{declared.marks.Marks.{Marks}, Octets.{crlf}, Inner.Octets.{are_octets}, Name.{IsGroupName, IsMessageId}, Block.{stuffed, sent}}
-use Rattle.nntp_wire.specs.{Block.{AreClean}, Listing.{OverviewValue, active_groups, overviews_of}, Answer.{Asked, Response, Success, group_is, numbers_are}}
+use Rattle.nntp_wire.specs.{Block.{AreClean}, Listing.{OverviewValue, active_groups, overviews_of}, Answer.{Asked, Response, group_is, numbers_are}}
 use Rattle.nntp_wire.specs.Answer.{sends, active_are, plain, Spells, SaysByLines, SaysGroup, SaysNumbers, SaysArticle, SaysActive, SaysOverviews}
 use Rattle.nntp_wire.{specs.Answer.{SaysCapabilities, SaysCode, block_octets, IsCleanBlock, overviews_are}, proofs.AnswerLemmas.{says-ways}}
 use Rattle.nntp_wire.proofs.{OctetLemmas.{octets-parts, unstuffed-octets}, ListingLemmas.{active_groups-named, overviews_of-named}}
