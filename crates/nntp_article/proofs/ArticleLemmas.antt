@@ -9,3 +9,4 @@ pub mod MissingLemmas
 pub mod HeadHasNoEmptyLine
 pub mod OneReading
 pub mod FieldLemmas
+pub mod FieldWordLemmas
