@@ -10,3 +10,4 @@ pub mod HeadHasNoEmptyLine
 pub mod OneReading
 pub mod FieldLemmas
 pub mod FieldWordLemmas
+pub mod MadeHeadLemmas
