@@ -1,8 +1,8 @@
 -- The line of a header as it is written, word by word.
-use Rattle.std.proofs.Common.{◌≡◌, ℕ, Bool, true, List, [], ◌∷◌, ◌++◌, refl, sym, ◌∙◌, ap, arith, append_assoc, append-nil}
-use Rattle.std.{proofs.lemmas.{Bool.{and_parts, and_from}, List.Folds.{list_all-append}}, specs.{Prelude.{not}, List.{list_all, flat_map}}}
-use Rattle.nntp_wire.specs.Octets.{is_clean, is_line_breaking, space}
-use Rattle.nntp_article.specs.{Article.Fields.{Word, name_of_field, field_line}, Inner.Fields.{is_word}, Session.Spool.{is_line}}
+use Rattle.std.proofs.Common.{◌≡◌, ℕ, Bool, true, List, [], ◌∷◌, ◌++◌, Option, Some, length, refl, sym, ◌∙◌, ap, arith, append_assoc, append-nil}
+use Rattle.std.{proofs.lemmas.{Bool.{and_parts, and_from}, List.Folds.{list_all-append}}, specs.{Prelude.{not, ◌&&◌, nat_le, codes, IfSome}, List.{list_all, flat_map}}}
+use Rattle.nntp_wire.{specs.{Decided.{is_id_octet, begins_id}, Name.{IsMessageId}, Octets.{is_clean, is_line_breaking, space}}, proofs.DecidedLemmas.{message_id-iff}}
+use Rattle.nntp_article.specs.{Article.Fields.{Word, Fields, name_of_field}, Inner.Fields.{is_word, AreWords}, Session.Spool.{is_line}}
 use Rattle.nntp_article.specs.declared.article.field.Field.{Field, TheVariants.{Subject, From, Date, References}}
 
 -- each word behind a space
@@ -41,6 +41,23 @@ line_clean field words line h e =
     ap is_clean (sym (append-nil line) ∙ e) ∙ list_all-append (λ b. not (is_line_breaking b)) (start field) (spaced words)
     ∙ and_from _ _ (start_clean field) (spaced_clean words h)
 
--- it is the line of the header
-pub line_is : (field : Field) (words others : List Word) (first : Word) (line : List ℕ) → words ≡ first ∷ others → line ++ [] ≡ start field ++ spaced words → line ∷ [] ≡ field_line (start field) words
-line_is field words others first line is e = ap (λ l. l ∷ []) (sym (append-nil line) ∙ e ∙ ap (λ ws. start field ++ spaced ws) is) ∙ sym (ap (field_line (start field)) is)
+-- ---- the line of an id
+
+-- octets of an id make a line
+id_octets_clean : (octets : List ℕ) → list_all is_id_octet octets ≡ true → is_clean octets ≡ true
+id_octets_clean [] h = refl
+id_octets_clean (c ∷ cs) h = grind (arith, id_octets_clean cs (and_parts (is_id_octet c) _ h).1)
+
+-- a message id has octets of ids alone
+id_octets_of : (id : List ℕ) → IsMessageId id → list_all is_id_octet id ≡ true
+id_octets_of id h = (and_parts (nat_le 3 (length id) && nat_le (length id) 250) _ (and_parts _ (begins_id id) ((message_id-iff id).1 h)).0).1
+
+-- the line of an id holds no NUL, CR or LF
+pub id_line_clean : (id : List ℕ) → IsMessageId id → is_clean (codes "Message-ID: " ++ id) ≡ true
+id_line_clean id h = id_octets_clean id (id_octets_of id h)
+
+-- ---- what is told
+
+-- fields that may be told have words
+pub told_words : (told : Option Fields) (fields inside : Fields) → IfSome told AreWords → told ≡ Some fields → inside ≡ fields → AreWords inside
+told_words told fields inside are is same = rw same (rw is at are)

@@ -1,5 +1,5 @@
 use Rattle.std.proofs.Common.{rules}
-use Rattle.nntp_article.proofs.ArticleLemmas.MadeHeadLemmas.{first_written, word_written, line_clean, line_is}
+use Rattle.nntp_article.proofs.ArticleLemmas.MadeHeadLemmas.{first_written, word_written, line_clean}
 use Rattle.nntp_article.proofs.article.made_heads.push_field.Goals as goal
 
 pub loop-word-init : goal.loop-word-init
