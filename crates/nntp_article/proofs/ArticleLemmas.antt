@@ -10,3 +10,5 @@ pub mod HeadHasNoEmptyLine
 pub mod OneReading
 pub mod FieldLemmas
 pub mod WordsOfLines
+pub mod FieldWordLemmas
+pub mod MadeHeadLemmas

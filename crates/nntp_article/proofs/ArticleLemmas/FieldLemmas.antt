@@ -4,9 +4,9 @@ use Rattle.std.proofs.lemmas.{Bool.{and_parts, and_from, ltb-true}, List.Folds.{
 use Rattle.std.specs.{Prelude.{codes, nat_lt, not, slice_get, Some}, Option.{option_map_or}, List.{list_all, flat_map, filter, AllByRecursion}}
 use Rattle.nntp_wire.{specs.{Octets.{is_blank, is_clean, space}, Words.{words_of, is_some_octets}}, proofs.WordLemmas.{words_of-blank}}
 use Rattle.nntp_article.specs.Article.{Parts.{Line, Header, is_continuation, continues_first, begins_header, is_header, headers, is_head, is_named, is_empty}, Fields.{Word, Fields, words_of_header, words_named}}
-use Rattle.nntp_article.specs.{Article.Fields.{fields_of_head, fields_among, field_line, field_lines}, Inner.Fields.{is_word, AreWords}, Session.Spool.{is_line}}
+use Rattle.nntp_article.specs.{Article.Fields.{fields_of_head, fields_among, field_line, field_lines}, Inner.{Fields.{is_word, AreWords}, Parts.{more}}, Session.Spool.{is_line}}
 use Rattle.nntp_article.specs.declared.article.field.Field.TheVariants.{Subject, From, Date, References}
-use Rattle.nntp_article.proofs.ArticleLemmas.{HeadLemmas.{more, after, more-no, after-no, headers-cons}, IdLemmas.{is_solid, words-solid, words-solid_then}}
+use Rattle.nntp_article.proofs.ArticleLemmas.{HeadLemmas.{after, more-no, after-no, headers-cons}, IdLemmas.{is_solid, words-solid, words-solid_then}}
 
 -- ---- words behind spaces
 

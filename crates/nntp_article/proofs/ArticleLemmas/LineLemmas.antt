@@ -31,7 +31,7 @@ behind_name octets = find (λ octet. not (is_name_octet octet)) octets
 abbrev pub is_some_colon : Option ℕ → Bool
 is_some_colon octet = option_eq (λ a b. a == b) octet (Some 58)
 
-name-plain : (c : ℕ) (cs : List ℕ) → is_colon c ≡ false → before_first is_colon (c ∷ cs) ≡ c ∷ before_first is_colon cs
+pub name-plain : (c : ℕ) (cs : List ℕ) → is_colon c ≡ false → before_first is_colon (c ∷ cs) ≡ c ∷ before_first is_colon cs
 name-plain c cs h = rw (h, one-more (prefix_len (λ c. not (is_colon c)) cs)) refl
 
 not_name : (c : ℕ) → is_colon c ≡ true → is_name_octet c ≡ false

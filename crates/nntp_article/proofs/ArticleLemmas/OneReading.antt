@@ -3,7 +3,7 @@ use Rattle.std.proofs.{Common.{◌≡◌, ◌↔◌, Bool, true, false, List, []
 use Rattle.std.{proofs.lemmas.Bool.{and_from, not-true}, specs.List.{list_any, list_all, flat_map}}
 use Rattle.nntp_wire.specs.Octets.{is_blank}
 use Rattle.nntp_article.specs.Article.Parts.{Line, Header, is_empty, is_colon, is_continuation, begins_header, is_header, with_line, headers, is_head}
-use Rattle.nntp_article.{specs.{Article.Parts.{head_part, body_part}, Inner.Parts.{AreHeaders, AreParts}}, proofs.ArticleLemmas.HeadLemmas.{more, after}}
+use Rattle.nntp_article.{specs.{Article.Parts.{head_part, body_part}, Inner.Parts.{AreHeaders, AreParts, more}}, proofs.ArticleLemmas.HeadLemmas.{after}}
 use Rattle.nntp_article.proofs.ArticleLemmas.{HeadLemmas.{more-yes, more-no, after-yes, after-no, headers-cons}, PartLemmas.{parts-split}}
 
 abbrev flat : List Header → List Line

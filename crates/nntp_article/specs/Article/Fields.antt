@@ -21,6 +21,13 @@ words_in fields From = fields.from
 words_in fields Date = fields.date
 words_in fields References = fields.references
 
+-- the name of one
+abbrev pub name_of_field : Field → List ℕ
+name_of_field Subject = codes "Subject"
+name_of_field From = codes "From"
+name_of_field Date = codes "Date"
+name_of_field References = codes "References"
+
 -- what an overview tells
 abbrev pub fields_told : OverviewValue → Fields
 fields_told o = record { subject = o.subject; from = o.from; date = o.date; references = o.references }

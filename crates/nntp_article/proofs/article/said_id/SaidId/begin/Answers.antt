@@ -1,6 +1,6 @@
 use Rattle.std.{proofs.{Common.{◌∙◌, ap, rules}, lemmas.Bool.{false_from_ne_true}}, specs.List.{flat_map}}
 use Rattle.nntp_wire.specs.Words.{words_of}
-use Rattle.nntp_article.{specs.Inner.SaidId.{id_with, ids_behind}, proofs.ArticleLemmas.{HeadLemmas.{more}, SaidLemmas.{begun-other, begun-first, begun-again}}}
+use Rattle.nntp_article.{specs.Inner.{SaidId.{id_with, ids_behind}, Parts.{more}}, proofs.ArticleLemmas.SaidLemmas.{begun-other, begun-first, begun-again}}
 use Rattle.nntp_article.proofs.article.said_id.SaidId.begin.Goals.{in-NoHeader, in_default-found}
 use Rattle.nntp_article.proofs.article.said_id.SaidId.begin.Goals as goal
 
