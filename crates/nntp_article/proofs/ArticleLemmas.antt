@@ -11,3 +11,4 @@ pub mod OneReading
 pub mod FieldLemmas
 pub mod FieldWordLemmas
 pub mod MadeHeadLemmas
+pub mod WordsOfLines
