@@ -12,3 +12,4 @@ pub mod FieldLemmas
 pub mod WordsOfLines
 pub mod FieldWordLemmas
 pub mod MadeHeadLemmas
+pub mod WordsOfLines
