@@ -112,6 +112,7 @@ ABOUT = (
         "The conflict is about the number at which {ID} is in {NAME}: in a group each id has one number.",
     ),
     ("about article ID", "The conflict is about whether {ID} has an article."),
+    ("about field ID HEADER", "The conflict is about the {HEADER} of the article {ID}."),
     ("about PART ID", "The conflict is about the {PART} of the article {ID}."),
 )
 SAYS = (
@@ -166,6 +167,8 @@ SAYS = (
     ("says no article ID", "It says that {ID} has no article."),
     ("says PART ID N lines, line M is missing", "The {PART} of {ID} that it sends has {N:line}, and no line {M}."),
     ("says PART ID N lines, line M is TEXT", "The {PART} of {ID} that it sends has {N:line}, and line {M} is {TEXT}."),
+    ("says field ID HEADER is missing", "It says that the article {ID} has no {HEADER}, or one without a word."),
+    ("says field ID HEADER is TEXT", "It says that the {HEADER} of {ID} has the words {TEXT}."),
 )
 BECAUSE = (
     (
@@ -213,6 +216,7 @@ KINDS = (
     (Octets, r"\S+", ("NAME", "ID")),
     (Octets, r".*", ("TEXT",)),
     (str, r"head|body", ("PART",)),
+    (str, r"Subject|From|Date|References", ("HEADER",)),
     (Number, r"[0-9]+", ("N", "M", "L", "H", "C")),
     (str, CALLED, ANSWERS),
     (Codes, r"[0-9]+(?: [0-9]+)*", ("CODES",)),

@@ -12,4 +12,3 @@ pub mod FieldLemmas
 pub mod WordsOfLines
 pub mod FieldWordLemmas
 pub mod MadeHeadLemmas
-pub mod WordsOfLines

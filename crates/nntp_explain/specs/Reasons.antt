@@ -5,11 +5,12 @@ use Rattle.nntp_wire.specs.{Answer.{Response, group_is, numbers_are}, declared.m
 use Rattle.nntp_wire.specs.declared.misspelling.{Misspelling.TheVariants.{WrongArgument, WrongLine, WrongBlock}, Due.{Due, TheVariants.{Number, GroupName}}}
 use Rattle.nntp_wire.specs.declared.misspelling.{Due.TheVariants.{MessageId}, LineFault.{LineFault, TheVariants.{BadOctet, SingleDot, NoNumber, NoGroup}}}
 use Rattle.nntp_wire.specs.{declared.misspelling.LineFault.TheVariants.{NoArticleNumber, NoMessageId, NoVersions}, Session.{closes}}
+use Rattle.nntp_article.specs.{Article.{Parts.{Id}, Fields.{name_of_field}}, declared.article.field.Field.{Field}}
 use Rattle.nntp_article.specs.Session.Misfit.{Misfit, wrong_code, wrong_name, wrong_number, wrong_id, below_low, wrong_marks, beyond_limit, not_above}
 use Rattle.nntp_article.specs.Session.{Misfit.{beyond_range, unmatched, listed_twice, wrong_lines, no_head, other_id}, Machine.{is_same}, Spool.{Name}}
 use Rattle.nntp_said.specs.declared.position.Position.{Position, TheVariants.{Nowhere, First, Known}}
 use Rattle.nntp_printing.specs.{BadAnswer.{shown, command_line}, Printing.{escaped}}
-use Rattle.nntp_theory.specs.Conflict.{Point, Step, Group, Number as NumberOf, Count, First as FirstNumber, IdOf, PlaceOf, Article, HeadOf, BodyOf}
+use Rattle.nntp_theory.specs.Conflict.{Point, Step, Group, Number as NumberOf, Count, First as FirstNumber, IdOf, PlaceOf, Article, HeadOf, BodyOf, FieldOf}
 use Rattle.nntp_pair.specs.Pairing.{asked_at}
 use Rattle.nntp_facts.specs.declared.{standing.Standing.{Standing}, placed.Placed.{Placed as Cited}}
 
@@ -163,6 +164,10 @@ unfitting_lines here answers response why = misfit_line why
 
 -- ---- what it conflicts about
 
+-- which header of which article it is
+abbrev pub field_text : Id → Field → List ℕ
+field_text id field = escaped id ++ codes " " ++ name_of_field field
+
 -- the line of what a bad answer and those of a core conflict about
 abbrev pub about_line : Point → List ℕ
 about_line (Step name) = octets_line (codes "about step ") name
@@ -175,3 +180,4 @@ about_line (PlaceOf name id) = codes "about place " ++ escaped name ++ octets_li
 about_line (Article id) = octets_line (codes "about article ") id
 about_line (HeadOf id) = octets_line (codes "about head ") id
 about_line (BodyOf id) = octets_line (codes "about body ") id
+about_line (FieldOf id field) = codes "about field " ++ field_text id field ++ codes "\n"

@@ -1,19 +1,19 @@
 -- What `explain` prints of what an answer says about the point of a conflict.
 use Rattle.std.specs.Prelude.{ℕ, ◌+◌, ◌==◌, ◌||◌, ◌&&◌, Bool, true, if◌then◌else◌, List, [], ◌∷◌, ◌++◌, length, Option, None, Some, slice_get, codes, decimal}
 use Rattle.std.specs.{List.{flat_map, list_any}, Option.{option_and_then, option_map, option_map_or, option_or}}
-use Rattle.nntp_wire.specs.{Answer.{Asked, Response, to, sends}, Command.{retrieve}, Listing.{ActiveValue}, declared.marks.Marks.{Marks, TheVariants.{Lenient}}}
+use Rattle.nntp_wire.specs.{Octets.{space}, Answer.{Asked, Response, to, sends}, Command.{retrieve}, Listing.{ActiveValue}, declared.marks.Marks.{Marks, TheVariants.{Lenient}}}
 use Rattle.nntp_wire.specs.declared.{marks.Marks.TheVariants.{Strict}, range.Range.{Range}}
-use Rattle.nntp_article.specs.{Article.Parts.{Id, Line}, Session.{Machine.{is_same}, Spool.{Name}}}
+use Rattle.nntp_article.specs.{Article.{Parts.{Id, Line}, Fields.{Word}}, declared.article.field.Field.{Field}, Session.{Machine.{is_same}, Spool.{Name}}}
 use Rattle.nntp_said.specs.{Asks.{Ask, Estimates, Bounds, ListsIn, Has, Lacks, StandsAt, StandsNowhere, StepsUp, StepsDown, IsTop, IsBottom}, Facts.{Fact}}
-use Rattle.nntp_said.specs.{Facts.{ThereIs, ThereIsNo, IdAt, TextIs, NoArticle, OverviewsAre, GroupsAre}, declared.position.Position.{Position}}
+use Rattle.nntp_said.specs.{Facts.{ThereIs, ThereIsNo, IdAt, TextIs, NoArticle, FieldsAre, OverviewsAre, GroupsAre}, declared.position.Position.{Position}}
 use Rattle.nntp_said.specs.declared.position.Position.TheVariants.{Known}
-use Rattle.nntp_theory.specs.Conflict.{Placed, Core, Point, Step, Group, Number, Count, First as FirstNumber, IdOf, PlaceOf, Article, HeadOf, BodyOf, said}
-use Rattle.nntp_theory.specs.{Given.{shows, denies, is_end, asks_in, shows_group, first_given, id_in, head_in, body_in}, Together.{denies_group}}
+use Rattle.nntp_theory.specs.Conflict.{Placed, Core, Point, Step, Group, Number, Count, First as FirstNumber, IdOf, PlaceOf, Article, HeadOf, BodyOf, FieldOf, said, words_told}
+use Rattle.nntp_theory.specs.{Given.{shows, denies, is_end, asks_in, shows_group, first_given, has_overview_of, id_in, head_in, body_in}, Together.{denies_group}}
 use Rattle.nntp_theory.specs.Together.{number_of_overview, number_in}
 use Rattle.nntp_pair.specs.Pairing.{asked_at}
 use Rattle.nntp_facts.specs.{declared.placed.Placed.{Placed as Cited}, Standing.{stands_of}}
 use Rattle.nntp_printing.specs.{BadAnswer.{shown}, Printing.{escaped}}
-use Rattle.nntp_explain.specs.Reasons.{octets_line, because_at, about_line, rest_line}
+use Rattle.nntp_explain.specs.Reasons.{octets_line, because_at, about_line, field_text, rest_line}
 
 -- what the line of a group or an id begins with
 abbrev pub subject : List ℕ → List ℕ → List ℕ
@@ -116,6 +116,7 @@ abbrev pub article_line : Id → Fact → List ℕ
 article_line id (IdAt name n other) = if is_same other id then id_line name n other else []
 article_line id (OverviewsAre name range overviews) = option_map_or (λ n. id_line name n id) (first_given (number_of_overview id) overviews) []
 article_line id (TextIs what other lines) = if is_same other id then octets_line (codes "says article ") other else []
+article_line id (FieldsAre overviews) = if has_overview_of id overviews then octets_line (codes "says article ") id else []
 article_line id (NoArticle other) = if is_same other id then octets_line (codes "says no article ") other else []
 article_line id fact = []
 
@@ -138,6 +139,22 @@ first_difference [] [] = None
 first_difference (x ∷ xs) (y ∷ ys) = if is_same x y then option_map (λ n. n + 1) (first_difference xs ys) else Some 0
 first_difference xs ys = Some 0
 
+-- ---- what is said of headers
+
+-- words with a space between
+abbrev pub spaced : List Word → List ℕ
+spaced [] = []
+spaced (word ∷ words) = word ++ flat_map (λ w. space ∷ w) words
+
+-- what the words of a header are, if there are some: their first 512 octets
+abbrev pub words_text : List Word → List ℕ
+words_text [] = codes " is missing\n"
+words_text (word ∷ words) = octets_line (codes " is ") (shown (spaced (word ∷ words)))
+
+-- the line of a header
+abbrev pub field_line : Id → Field → List Word → List ℕ
+field_line id field words = codes "says field " ++ field_text id field ++ words_text words
+
 -- ---- what an answer says
 
 -- what a fact says about a point; of a head or a body it tells the line at a place
@@ -152,6 +169,7 @@ says place (PlaceOf name id) fact = option_map_or (λ n. id_line name n id) (num
 says place (Article id) fact = article_line id fact
 says place (HeadOf id) fact = option_map_or (part_line (codes "head") id place) (head_in id fact) []
 says place (BodyOf id) fact = option_map_or (part_line (codes "body") id place) (body_in id fact) []
+says place (FieldOf id field) fact = option_map_or (field_line id field) (words_told id field fact) []
 
 -- what an answer says about a point, where marks are read so
 abbrev pub said_lines : Marks → Option ℕ → Point → Placed → List ℕ

@@ -11,6 +11,7 @@ mod ending;
 mod explainer;
 pub mod laws;
 mod reasons;
+mod said_fields;
 mod said_numbers;
 mod said_overviews;
 mod said_parts;

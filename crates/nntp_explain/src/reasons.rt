@@ -5,12 +5,13 @@ ghost use Rattle.nntp_wire.specs.Lines.{lines_of_stream};
 ghost use Rattle.nntp_article.specs.Session.Misfit as misfits;
 ghost use Rattle.nntp_article.specs.Inner.MisfitView.{why};
 ghost use Rattle.nntp_facts.specs.Inner.PointView.{point_of};
+ghost use Rattle.nntp_theory.specs.Conflict as points;
 ghost use Rattle.nntp_printing.specs.Printing.{escaped};
 ghost use Rattle.nntp_explain.specs.Reasons.{about_line, octets_line, current_text, standing_line, allowed_text, misfit_line, misspelling_line, cut_line};
-ghost use Rattle.nntp_explain.specs.Reasons.{closing_lines, surplus_lines};
+ghost use Rattle.nntp_explain.specs.Reasons.{closing_lines, field_text, surplus_lines};
 ghost use Rattle.nntp_explain.specs.Reasons.{due_word, fault_word, number_line, rest_line, answer_at, answer_text, because_at, because_lines};
 
-use nntp_article::Misfit;
+use nntp_article::{Field, Misfit};
 use nntp_facts::{Placed, Point, Position, Standing};
 use nntp_printing::{put_command, put_escaped, put_escaped_line, put_number, shown, shown_line};
 use nntp_wire::{Due, LineFault, Misspelling, split_first_line};
@@ -272,7 +273,35 @@ pub(crate) fn put_about<A: Allocator + Copy>(
         Point::Article(id) => put_escaped_line(text, b"about article ", *id),
         Point::HeadOf(id) => put_escaped_line(text, b"about head ", *id),
         Point::BodyOf(id) => put_escaped_line(text, b"about body ", *id),
+        Point::FieldOf { id, field } => put_field_line(text, *id, *field),
     }
+}
+
+/// Adds the line of a header that answers conflict about.
+fn put_field_line<A: Allocator + Copy>(
+    text: &mut Vec<u8, A>,
+    id: &[u8],
+    field: Field,
+) -> Result<(), AllocError>
+    ensures { OnOk result (text.new.items ≡ text.old.items ++ about_line (points.FieldOf id.now field)) }
+{
+    put_field_name(text, b"about field ", id, field)?;
+    text.push(b'\n')?;
+    Ok(())
+}
+
+/// Adds a label, and which header of which article it is.
+pub(crate) fn put_field_name<A: Allocator + Copy>(
+    text: &mut Vec<u8, A>,
+    label: &[u8],
+    id: &[u8],
+    field: Field,
+) -> Result<(), AllocError>
+    ensures { OnOk result (text.new.items ≡ text.old.items ++ (label.now ++ field_text id.now field)) }
+{
+    put_named(text, label, id)?;
+    text.push(b' ')?;
+    text.extend_from_slice(field.name().as_bytes())
 }
 
 /// Adds a line of a label, a name and a number.

@@ -2,7 +2,7 @@
 ghost use Rattle.std.specs.Prelude.{◌≡◌, ◌++◌, [], OnOk};
 ghost use Rattle.std.specs.Option.{option_map_or};
 ghost use Rattle.nntp_wire.specs.Listing.{overviews_of};
-ghost use Rattle.nntp_theory.specs.Given.{first_given, id_of_overview};
+ghost use Rattle.nntp_theory.specs.Given.{first_given, has_overview_of, id_of_overview};
 ghost use Rattle.nntp_theory.specs.Together.{number_of_overview};
 ghost use Rattle.nntp_explain.specs.Says.{id_line};
 
@@ -64,4 +64,16 @@ fn number_of(block: &Block<'_>, id: &[u8]) -> Option<u64>
         }
     }
     None
+}
+
+/// Tells whether one of the overviews has the id.
+pub(crate) fn has_overview_of(block: &Block<'_>, id: &[u8]) -> bool
+    ensures { result ≡ has_overview_of id.now (overviews_of block.now) }
+{
+    for overview in block.overviews() {
+        if is_same(overview.id.as_str().as_bytes(), id) {
+            return true;
+        }
+    }
+    false
 }

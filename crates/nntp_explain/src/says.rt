@@ -3,7 +3,7 @@ ghost use Rattle.std.specs.Prelude.{◌≡◌, ◌++◌, ◌<◌, ◌-◌, ◌^�
 ghost use Rattle.std.specs.List.{list_any};
 ghost use Rattle.nntp_wire.specs.Listing.{active_groups, overviews_of};
 ghost use Rattle.nntp_article.specs.Session.Machine.{is_same};
-ghost use Rattle.nntp_said.specs.Facts.{ThereIs, ThereIsNo, Asks, IdAt, TextIs, NoArticle, OverviewsAre, GroupsAre};
+ghost use Rattle.nntp_said.specs.Facts.{ThereIs, ThereIsNo, Asks, IdAt, TextIs, NoArticle, FieldsAre, OverviewsAre, GroupsAre};
 ghost use Rattle.nntp_said.specs.Inner.FactView.{ask_of, fact_of};
 ghost use Rattle.nntp_facts.specs.Inner.PointView.{point_of};
 ghost use Rattle.nntp_facts.specs.Standing.{stands_of};
@@ -11,8 +11,9 @@ ghost use Rattle.nntp_theory.specs.Conflict as points;
 ghost use Rattle.nntp_explain.specs.Says.{groups_line, said_lines, says};
 
 use crate::ask::with_or_without;
+use crate::said_fields::{put_head_field, put_overview_field};
 use crate::said_numbers::{is_same, put_asked, put_bounds, put_id_line, put_numbered};
-use crate::said_overviews::{put_overview_at, put_overview_of};
+use crate::said_overviews::{has_overview_of, put_overview_at, put_overview_of};
 use crate::said_parts::{body_of, head_of, put_part};
 use nntp_facts::{Ask, Fact, NumberLines, Placed, Point};
 use nntp_printing::{put_escaped_line, put_number};
@@ -62,6 +63,7 @@ fn put_fact<A: Allocator + Copy>(
             put_text_is(text, about, *what, id.as_bytes(), *block)
         }
         Fact::NoArticle(id) => put_no_article(text, about, *id),
+        Fact::FieldsAre { block } => put_fields(text, about, *block),
         Fact::OverviewsAre { name, range, block } => {
             put_overviews(text, about, *name, *range, *block)
         }
@@ -175,6 +177,7 @@ fn put_overviews<A: Allocator + Copy>(
             put_overview_of(text, *group, *id, block)
         }
         Point::Article(id) => put_overview_of(text, name, *id, block),
+        Point::FieldOf { id, field } => put_overview_field(text, *id, *field, block),
         _ => {
             let lines = NumberLines::Overviews(block);
             put_ask(text, about, name, &Ask::Lists { range, lines })
@@ -182,7 +185,7 @@ fn put_overviews<A: Allocator + Copy>(
     }
 }
 
-/// Adds what is sent of the article of an id; of a head or a body the line at the place is told.
+/// Adds what is sent of the article of an id: of a head or a body the line at the place, or what the head tells of a header.
 fn put_text_is<A: Allocator + Copy>(
     text: &mut Vec<u8, A>,
     about: &About<'_>,
@@ -204,6 +207,9 @@ fn put_text_is<A: Allocator + Copy>(
         Point::BodyOf(other) if is_same(id, *other) => {
             put_part(text, b"body", *other, about.line, &body_of(what, block))
         }
+        Point::FieldOf { id: other, field } if is_same(id, *other) => {
+            put_head_field(text, *other, *field, &head_of(what, block))
+        }
         _ => Ok(()),
     }
 }
@@ -220,6 +226,24 @@ fn put_no_article<A: Allocator + Copy>(
         Point::Article(other) if is_same(id, *other) => {
             put_escaped_line(text, b"says no article ", id)
         }
+        _ => Ok(()),
+    }
+}
+
+/// Adds what overviews tell of their articles.
+fn put_fields<A: Allocator + Copy>(
+    text: &mut Vec<u8, A>,
+    about: &About<'_>,
+    block: &Block<'_>,
+) -> Result<(), AllocError>
+    ensures { OnOk result (text.new.items ≡ text.old.items
+        ++ says about.now.line (point_of about.now.point) (FieldsAre (overviews_of block.now))) }
+{
+    match &about.point {
+        Point::Article(id) if has_overview_of(block, *id) => {
+            put_escaped_line(text, b"says article ", *id)
+        }
+        Point::FieldOf { id, field } => put_overview_field(text, *id, *field, block),
         _ => Ok(()),
     }
 }

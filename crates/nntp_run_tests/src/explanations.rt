@@ -1,6 +1,7 @@
 //! What `explain` prints of sessions.
 mod conflicts;
 mod endings;
+mod headers;
 mod kinds;
 mod misfits;
 mod misspellings;

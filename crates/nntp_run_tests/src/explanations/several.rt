@@ -3,6 +3,7 @@ use nntp_check::{Limit, Marks, Overviews};
 use nntp_explain::explain_sessions;
 use nntp_several::{Named, Recorded};
 use std::alloc::{AllocError, Global};
+use std::process::Abort;
 use std::test::Fail;
 
 /// A session: its name, what the client sent, and what the server sent.
@@ -10,9 +11,9 @@ type Spoken = (&'static [u8], &'static [u8], &'static [u8]);
 
 /// Sessions in their order, and the report on them.
 #[derive(Clone, Copy)]
-struct Told {
-    sessions: &'static [Spoken],
-    report: &'static str,
+pub(super) struct Told {
+    pub(super) sessions: &'static [Spoken],
+    pub(super) report: &'static str,
 }
 
 const TOLD: &[Told] = &[
@@ -64,15 +65,16 @@ const TOLD: &[Told] = &[
     },
 ];
 
-/// The sessions with their names.
+/// The sessions with their names, in which OVER and XOVER are taken so.
 fn named<'a>(
     alloc: Global,
+    overviews: Overviews,
     sessions: &[(&'a [u8], &'a [u8], &'a [u8])],
 ) -> Result<Vec<Named<'a>>, AllocError> {
     let mut all = Vec::new(alloc);
     for (name, client, server) in sessions {
         let session = Recorded {
-            overviews: Overviews::Opaque,
+            overviews,
             client,
             server,
         };
@@ -81,13 +83,35 @@ fn named<'a>(
     Ok(all)
 }
 
-#[test]
-fn several_sessions(rt: HostRuntime) -> Result<(), Fail> {
-    for told in TOLD {
-        let sessions = named(rt.alloc(), told.sessions)?;
-        let report = explain_sessions(rt.alloc(), Limit::Narrow, Marks::Lenient, &sessions)?;
-        let text = report.text.as_slice();
-        assert_eq!(rt; text, told.report.as_bytes(), "{}", told.report);
+/// Explains sessions in which OVER and XOVER are taken so, and compares what is printed.
+pub(super) fn expect_report(
+    rt: &impl Abort,
+    alloc: Global,
+    overviews: Overviews,
+    sessions: &[(&[u8], &[u8], &[u8])],
+    report: &str,
+) -> Result<(), AllocError> {
+    let sessions = named(alloc, overviews, sessions)?;
+    let told = explain_sessions(alloc, Limit::Narrow, Marks::Lenient, &sessions)?;
+    let text = told.text.as_slice();
+    assert_eq!(rt; text, report.as_bytes(), "{report}");
+    Ok(())
+}
+
+/// The same of each of these.
+pub(super) fn expect_reports(
+    rt: &impl Abort,
+    alloc: Global,
+    overviews: Overviews,
+    all: &[Told],
+) -> Result<(), AllocError> {
+    for told in all {
+        expect_report(rt, alloc, overviews, told.sessions, told.report)?;
     }
     Ok(())
+}
+
+#[test]
+fn several_sessions(rt: HostRuntime) -> Result<(), Fail> {
+    Ok(expect_reports(&rt, rt.alloc(), Overviews::Opaque, TOLD)?)
 }
