@@ -279,6 +279,13 @@ pub(crate) const OVERVIEWS: &[Captured] = &[
         answer: false,
     },
     Captured {
+        name: "an overview without a message-id",
+        task: EXPLAIN_OVERVIEW,
+        capture: NO_ID,
+        report: b"bad answer 2 Malformed\ncommand XOVER 1\nanswer 224 x\nin g since 1 at first\nwhy block line 1 id\nend answers=3 bad=1 unanswered=0\n",
+        answer: false,
+    },
+    Captured {
         name: "a mark without an overview",
         task: CHECK_STRICTLY,
         capture: NO_LOW_MARK,
