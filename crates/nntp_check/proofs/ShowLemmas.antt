@@ -7,8 +7,9 @@ use Rattle.nntp_pair.{specs.{declared.side.Side.TheVariants.{Server}, Classes.{c
 use Rattle.nntp_printing.specs.{BadAnswer.{bad_line}, Title.{title_line}}
 use Rattle.nntp_wire.specs.declared.overviews.Overviews.TheVariants.{Opaque}
 use Rattle.nntp_several.specs.{Sessions.{Named, Recorded}, Told.{with_more}}
-use Rattle.nntp_check.specs.{Capture.{Captured, session_as, sessions_as, sessions_of}, Inner.{Capture.{IsAlone}, Showing.{AreReported, IsShown, IsShownWhole}}, Run.{ShowReports}}
-use Rattle.nntp_check.specs.Show.{ShownSession, AreShown, IsShownAs, are_answered, exchange_text, ending_line, is_end, session_text, shown_report}
+use Rattle.nntp_check.specs.{Capture.{Captured, session_as, sessions_as, sessions_of}, Inner.{Capture.{IsAlone}, Showing.{AreReported, IsShown, IsShownWhole}}}
+use Rattle.nntp_check.specs.{Run.{ShowReports}, Show.{ShownSession, AreShown, IsShownAs, are_answered, exchange_text, ending_line, is_end, session_text}}
+use Rattle.nntp_check.specs.Show.{shown_report}
 use Rattle.nntp_pair.specs.declared.pair_error.PairError.TheVariants as errors
 
 -- ---- a session

@@ -3,8 +3,8 @@ use Rattle.std.specs.{Prelude.{◌≡◌, ℕ, Bool, true, false, List, length},
 use Rattle.nntp_pair.specs.{Pairing.{Paired, HasNext}, Inner.Feeding.{Fed, IsFed, left_of}}
 use Rattle.nntp_several.specs.Sessions.{Recorded, Named}
 use Rattle.nntp_wire.specs.declared.overviews.Overviews.TheVariants.{Opaque}
-use Rattle.nntp_check.specs.{Capture.{Held, session_as, sessions_as}, Show.{ShownSession, AreShown, IsShownAs, are_answered, exchange_text, is_end, session_text, shown_report}}
-use Rattle.nntp_check.specs.declared.session_printer.SessionPrinter.{SessionPrinter}
+use Rattle.nntp_check.specs.{Capture.{Held, session_as, sessions_as}, Show.{ShownSession, AreShown, IsShownAs, are_answered, exchange_text, is_end}}
+use Rattle.nntp_check.specs.{Show.{session_text, shown_report}, declared.session_printer.SessionPrinter.{SessionPrinter}}
 
 -- octets of both streams of a session came, and the text shows the exchanges of them that have passed
 pub record IsShown (fed : Fed) (text : List ℕ) (session : Recorded) : Type 0 where

@@ -1,8 +1,7 @@
 use Rattle.nntp_pair.specs.declared.side.Side.TheVariants.{Client, Server}
 use Rattle.nntp_verdict.proofs.CheckerLemmas.{on-ok, if-err}
-use Rattle.nntp_check.proofs.ShowLemmas.{shown-more, untaken-memory}
+use Rattle.nntp_check.{proofs.ShowLemmas.{shown-more, untaken-memory}, specs.Capture.{session_as}}
 use Rattle.nntp_wire.specs.declared.overviews.Overviews.TheVariants.{Opaque}
-use Rattle.nntp_check.specs.Capture.{session_as}
 use Rattle.nntp_check.proofs.session_printer.SessionPrinter.feed.Goals as goal
 
 pub returns-in-Client-clause-ok : goal.returns-in-Client-clause-ok

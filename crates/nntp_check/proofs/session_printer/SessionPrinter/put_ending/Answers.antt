@@ -1,8 +1,7 @@
 use Rattle.std.proofs.Common.{◌∙◌, ◌++◌, ap}
 use Rattle.nntp_pair.specs.Pairing.{end}
-use Rattle.nntp_check.{specs.Show.{end_line}, proofs.ShowLemmas.{at-ending, at-octets}}
+use Rattle.nntp_check.{specs.{Show.{end_line}, Capture.{session_as}}, proofs.ShowLemmas.{at-ending, at-octets}}
 use Rattle.nntp_wire.specs.declared.overviews.Overviews.TheVariants.{Opaque}
-use Rattle.nntp_check.specs.Capture.{session_as}
 use Rattle.nntp_check.proofs.session_printer.SessionPrinter.put_ending.Goals as goal
 
 pub returns-in_ok-put_end-in-End-clause-shown : goal.returns-in_ok-put_end-in-End-clause-shown

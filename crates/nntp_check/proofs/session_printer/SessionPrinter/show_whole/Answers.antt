@@ -1,7 +1,6 @@
-use Rattle.nntp_check.proofs.ShowLemmas.{one-more}
+use Rattle.nntp_check.{proofs.ShowLemmas.{one-more}, specs.Capture.{session_as}}
 use Rattle.nntp_verdict.proofs.CheckerLemmas.{no-next}
 use Rattle.nntp_wire.specs.declared.overviews.Overviews.TheVariants.{Opaque}
-use Rattle.nntp_check.specs.Capture.{session_as}
 use Rattle.nntp_check.proofs.session_printer.SessionPrinter.show_whole.Goals as goal
 
 pub loop-exchange-preserved : goal.loop-exchange-preserved
