@@ -1,10 +1,10 @@
 -- The report on a capture of one session.
 use Rattle.std.proofs.Common.{◌≡◌, ◌∙◌, ◌↔◌, refl, sym, ap, subst, ℕ, Bool, false, List, [], ◌∷◌, ◌++◌}
 use Rattle.nntp_wire.specs.{declared.{limit.Limit.{Limit}, marks.Marks.{Marks}, overviews.Overviews.{Overviews}}, Session.{taken}}
-use Rattle.nntp_several.specs.Sessions.{unnamed}
+use Rattle.nntp_several.specs.Sessions.{Named, unnamed}
 use Rattle.nntp_verdict.specs.{Judging.{IsVerdict, IsVerdictOfAll}, Verdict.{Judgement, consistent, bad, is_consistent_of_all}, Inner.Verdict.{is_consistent}}
 use Rattle.nntp_verdict.{specs.Inner.Verdict.{verdict_of_one}, proofs.VerdictLaws.{one_verdict_of_all, one_session_verdict}}
-use Rattle.nntp_check.specs.{Capture.{Captured, HeldSession, session_as, sessions_as, sessions_of}, Report.{names_of, report_of}, Run.{CheckReports}}
+use Rattle.nntp_check.specs.{Capture.{Captured, session_as, sessions_as, sessions_of}, Report.{names_of, report_of}, Run.{CheckReports}}
 
 -- the answer on one session is the same
 one-answer : (verdict : Judgement) → is_consistent_of_all (verdict_of_one verdict) ≡ is_consistent verdict
@@ -12,11 +12,11 @@ one-answer (consistent L answers) = refl
 one-answer (bad answer class command reply) = refl
 
 module _ (limit : Limit) (marks : Marks) (overviews : Overviews) (c : Captured) (verdict : Judgement) (text : List ℕ) (answer : Bool) (one : c.is_several ≡ false) (alone : c.held.ended ≡ [])
-    (exact : IsVerdict limit marks (taken overviews c.held.last.client) c.held.last.server verdict) where
+    (exact : IsVerdict limit marks (taken overviews c.held.last.session.client.octets) c.held.last.session.server verdict) where
   -- their verdict
   verdict-of-all : IsVerdictOfAll limit marks (unnamed (sessions_of overviews c.held)) (verdict_of_one verdict)
   verdict-of-all =
-      let all = ap (λ (ended : List HeldSession). unnamed (sessions_as overviews ended ++ session_as overviews c.held.last ∷ [])) alone in
+      let all = ap (λ (ended : List Named). unnamed (sessions_as overviews ended ++ session_as overviews c.held.last ∷ [])) alone in
       subst (λ sessions. IsVerdictOfAll limit marks sessions (verdict_of_one verdict)) (sym all) ((one_session_verdict limit marks (session_as overviews c.held.last).session verdict).1 exact)
 
   -- the report on them: of one session no name is told

@@ -30,7 +30,7 @@ piece-begins c p source is none = grind (arith, no-octets)
 
 -- the octets of both streams of the session that goes on
 abbrev pub last_octets : Captured → ℕ
-last_octets c = length c.held.last.client + length c.held.last.server
+last_octets c = length c.held.last.session.client.octets + length c.held.last.session.server
 
 -- a piece adds no more than it has
 piece-few : (c : Captured) (p : Part) → last_octets (with_piece c p) ≤ last_octets c + length (spelled p)

@@ -13,7 +13,7 @@ begun-few : (place : Place) (octets : List ℕ) (begun : List Part) → IsAt pla
 begun-few place octets begun at = grind (arith, append-nil)
 
 -- both streams of the session that goes on have no more octets than came
-streams-few : (reader : CaptureReader) (came : List ℕ) (held : Held) → HasRead reader came held → length held.last.client + length held.last.server ≤ length came
+streams-few : (reader : CaptureReader) (came : List ℕ) (held : Held) → HasRead reader came held → length held.last.session.client.octets + length held.last.session.server ≤ length came
 streams-few reader came held r =
     let h = r.come in
     grind (arith, last_octets, length-append, flat_map-append, begun-few reader.place h.octets h.begun h.at, captured-few (h.parts ++ h.begun))

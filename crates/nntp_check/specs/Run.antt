@@ -114,7 +114,7 @@ pub record ShowReports (c : Captured) (text : List ℕ) (answer : Bool) : Type 0
 -- the report of `explain` on what pieces hold: on several sessions, or on the only one
 abbrev pub ExplainsHeld : Limit → Marks → Overviews → Bool → Held → List ℕ → Bool → Type 0
 ExplainsHeld limit marks overviews true held text answer = IsExplanationOfAll limit marks (sessions_of overviews held) text answer
-ExplainsHeld limit marks overviews false held text answer = IsExplanation limit marks (taken overviews held.last.client) held.last.server text answer
+ExplainsHeld limit marks overviews false held text answer = IsExplanation limit marks (taken overviews held.last.session.client.octets) held.last.session.server text answer
 
 -- the report of `explain` on them, by the limit and the marks and by how OVER and XOVER are taken, and its answer: the spool's text makes no difference
 abbrev pub ExplainReports : Limit → Marks → Overviews → Captured → List ℕ → Bool → Type 0

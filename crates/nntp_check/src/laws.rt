@@ -58,6 +58,6 @@ pub fn one_session_is_reported_alone()
     ensures alone { (octets : List ℕ) (c : Captured) → AreCapture octets c → c.is_several ≡ false → c.held.ended ≡ [] }
     ensures report { (limit : Limit) (marks : Marks) (overviews : Overviews) (c : Captured) (verdict : Judgement) (text : List ℕ) (answer : Bool)
         → c.is_several ≡ false → c.held.ended ≡ []
-        → IsVerdict limit marks (taken overviews c.held.last.client) c.held.last.server verdict
+        → IsVerdict limit marks (taken overviews c.held.last.session.client.octets) c.held.last.session.server verdict
         → CheckReports limit marks overviews c text answer ↔ ((text ≡ report_of false [] (verdict_of_one verdict)) × (answer ≡ is_consistent verdict)) }
 {}

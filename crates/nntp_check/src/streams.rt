@@ -24,11 +24,13 @@ struct Collected<A: Allocator> {
 }
 
 impl<A: Allocator> Model for Collected<A> {
-    ghost use Rattle.nntp_check.specs.Capture.{HeldSession};
+    ghost use Rattle.nntp_several.specs.Sessions.{Named as NamedValue};
+    ghost use Rattle.nntp_wire.specs.Session.{taken};
+    ghost use Rattle.nntp_wire.specs.declared.overviews.Overviews.TheVariants.{Opaque};
 
-    ghost Value = { HeldSession };
+    ghost Value = { NamedValue };
 
-    ghost view = { λ c. record { name = c.name.items; client = c.client.items; server = c.server.items } };
+    ghost view = { λ c. record { name = c.name.items; session = record { client = taken Opaque c.client.items; server = c.server.items } } };
 }
 
 impl<A: Allocator + Copy> Collected<A> {

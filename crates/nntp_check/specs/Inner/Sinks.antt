@@ -6,7 +6,7 @@ use Rattle.nntp_check.specs.declared.run_fault.RunFault.TheVariants as faults
 
 -- with these octets fewer than 2^64 have come of both streams of the session that goes on
 abbrev pub HasRoom : (Held → Type 0) → List ℕ → Type 0
-HasRoom Stands octets = (held : Held) × Stands held × (length held.last.client + length held.last.server + length octets < 2 ^ 64)
+HasRoom Stands octets = (held : Held) × Stands held × (length held.last.session.client.octets + length held.last.session.server + length octets < 2 ^ 64)
 
 -- what stood for what pieces held stands for it with octets that are passed on
 abbrev pub Takes : (Held → Type 0) → (Held → Type 0) → Passage → List ℕ → Type 0
