@@ -6,7 +6,7 @@ use nntp_sessions::{
     each_session,
 };
 use nntp_slow_judge::{Reading, read};
-use nntp_wire::{number, words};
+use nntp_wire::{Overviews, number, words};
 use std::alloc::{AllocError, Global};
 use std::process::Abort;
 use std::test::Fail;
@@ -103,7 +103,7 @@ fn capture(alloc: Global, (client, server): (&[u8], &[u8])) -> Result<Vec<u8>, A
 /// What is compared of the report of `explain` on two streams.
 fn explain(alloc: Global, choice: Choice, streams: (&[u8], &[u8])) -> Result<Explained, Fail> {
     let capture = capture(alloc, streams)?;
-    let (_, report) = written(alloc, explain_task(choice), &capture)?;
+    let (_, report) = written(alloc, explain_task(choice, Overviews::Opaque), &capture)?;
     Ok(Explained::of(alloc, &report)?)
 }
 

@@ -9,6 +9,7 @@ use nntp_sessions::{
 };
 use nntp_slow_judge::{Put, SlowVerdict, put_spool};
 use nntp_spool::Verified;
+use nntp_wire::Overviews;
 use std::alloc::{AllocError, Global};
 use std::test::Fail;
 
@@ -92,7 +93,7 @@ impl Recording {
         expect_run(
             alloc,
             name,
-            check_task(choice),
+            check_task(choice, Overviews::Opaque),
             capture.as_str(),
             (answer, report),
         )
@@ -132,7 +133,8 @@ impl Recording {
         let capture = with_spool(alloc, streams.as_str(), text)?;
         let report = verified_report(alloc, self.permitted())?;
         let wanted = (true, report.as_bytes());
-        expect_run(alloc, name, verify_task(choice), capture.as_str(), wanted)
+        let task = verify_task(choice, Overviews::Opaque);
+        expect_run(alloc, name, task, capture.as_str(), wanted)
     }
 
     /// Reads the text of the given spool back, which has to be permitted.

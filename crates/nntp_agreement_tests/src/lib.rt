@@ -1,5 +1,5 @@
-//! Tests in which runs have to agree with calls and with the slow judge: every small session, lines at their limits, and
-//! sessions that `explain` reads to their end.
+//! Tests in which runs have to agree with calls and with the slow judge: every small session, lines at their limits,
+//! sessions that `explain` reads to their end, and short ones with overviews.
 #![tactic(auto)]
 
 #[cfg(test)]
@@ -8,5 +8,7 @@ mod explained;
 mod family;
 #[cfg(test)]
 mod limits;
+#[cfg(test)]
+mod overviews;
 #[cfg(test)]
 mod runs;

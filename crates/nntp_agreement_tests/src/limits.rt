@@ -3,6 +3,7 @@ use crate::runs::expect_run;
 use nntp_fixtures::{check_by, checked_split, expect_octets, shown};
 use nntp_run_fixtures::check_task;
 use nntp_sessions::{NARROW_LENIENT, capture};
+use nntp_wire::Overviews;
 use std::alloc::{AllocError, Global};
 use std::test::Fail;
 
@@ -35,7 +36,7 @@ fn expect_report(
     expect_run(
         alloc,
         report,
-        check_task(NARROW_LENIENT),
+        check_task(NARROW_LENIENT, Overviews::Opaque),
         capture.as_str(),
         wanted,
     )

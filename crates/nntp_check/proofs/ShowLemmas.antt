@@ -5,9 +5,11 @@ use Rattle.nntp_pair.specs.{Pairing.{Paired, Unpaired, IsNext, Ends, Ending, bad
 use Rattle.nntp_pair.specs.declared.{class.{PairClass.{PairClass}, Class.{Class}}, pair_error.PairError.{PairError}, side.Side.{Side, TheVariants.{Client}}}
 use Rattle.nntp_pair.{specs.{declared.side.Side.TheVariants.{Server}, Classes.{class_of}}, proofs.FedLaws.{fed-paired}}
 use Rattle.nntp_printing.specs.{BadAnswer.{bad_line}, Title.{title_line}}
+use Rattle.nntp_wire.specs.declared.overviews.Overviews.TheVariants.{Opaque}
 use Rattle.nntp_several.specs.{Sessions.{Named, Recorded}, Told.{with_more}}
-use Rattle.nntp_check.specs.{Capture.{Captured, sessions_of}, Inner.{Capture.{IsAlone}, Showing.{AreReported, IsShown, IsShownWhole}}, Run.{ShowReports}}
-use Rattle.nntp_check.specs.Show.{ShownSession, AreShown, IsShownAs, are_answered, exchange_text, ending_line, is_end, session_text, shown_report}
+use Rattle.nntp_check.specs.{Capture.{Captured, session_as, sessions_as, sessions_of}, Inner.{Capture.{IsAlone}, Showing.{AreReported, IsShown, IsShownWhole}}}
+use Rattle.nntp_check.specs.{Run.{ShowReports}, Show.{ShownSession, AreShown, IsShownAs, are_answered, exchange_text, ending_line, is_end, session_text}}
+use Rattle.nntp_check.specs.Show.{shown_report}
 use Rattle.nntp_pair.specs.declared.pair_error.PairError.TheVariants as errors
 
 -- ---- a session
@@ -95,16 +97,16 @@ session-ended many before were sessions named text answered h last = grind (arit
 -- ---- the report on all of them
 
 -- of several
-pub several-reported : (c : Captured) (many : ℕ) (text : List ℕ) (answered : Bool) → AreReported many text answered (sessions_of c.held) → c.is_several ≡ true → ShowReports c text answered
+pub several-reported : (c : Captured) (many : ℕ) (text : List ℕ) (answered : Bool) → AreReported many text answered (sessions_of Opaque c.held) → c.is_several ≡ true → ShowReports c text answered
 several-reported c many text answered h several = grind arith
 
 -- of the only one
-pub one-reported : (c : Captured) (text : List ℕ) (answered : Bool) → IsAlone c → c.is_several ≡ false → IsShownWhole c.held.last text answered → ShowReports c text answered
+pub one-reported : (c : Captured) (text : List ℕ) (answered : Bool) → IsAlone c → c.is_several ≡ false → IsShownWhole (session_as Opaque c.held.last) text answered → ShowReports c text answered
 one-reported c text answered alone one last =
     let s = last.shown in
     record {
       shown = s ∷ [];
-      are_shown = subst (λ ended. AreShown (ended ++ c.held.last ∷ []) (s ∷ [])) (sym (alone one)) (last.is_shown, tt);
+      are_shown = subst (λ ended. AreShown (sessions_as Opaque ended ++ session_as Opaque c.held.last ∷ []) (s ∷ [])) (sym (alone one)) (last.is_shown, tt);
       text_is = last.text_is ∙ sym (append-nil (session_text s)) ∙ ap (λ b. shown_report b 1 (s ∷ [])) (sym one);
       answer_is = grind (arith, last.answered_is);
     }

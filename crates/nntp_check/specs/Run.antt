@@ -1,7 +1,7 @@
 -- What a run reads and writes, at any reader and writer: known octets are those of the traits.
 use Rattle.std.specs.Prelude.{◌≡◌, ◌⊎◌, ℕ, ◌+◌, ◌≤◌, ◌<◌, ◌^◌, Bool, true, false, List, [], ◌++◌, length, take, Option, Result, Ok, Err}
 use Rattle.std.specs.Io.KnownBytes.{Appends, Consumes, IsAtEnd}
-use Rattle.nntp_wire.specs.declared.{limit.Limit.{Limit}, marks.Marks.{Marks}}
+use Rattle.nntp_wire.specs.{declared.{limit.Limit.{Limit}, marks.Marks.{Marks}, overviews.Overviews.{Overviews, TheVariants.{Opaque}}}, Session.{taken}}
 use Rattle.nntp_spool.specs.{Faults.{IsFirstFault}, Limited.{LimitedSpool, IsWithinLimit}, Text.{spool_text}, Watched.{inner_of}, Writing.{Wrote}}
 use Rattle.nntp_spool.specs.declared.{text.read_fault.ReadFault.{ReadFault}, watched.Watched.{Watched}}
 use Rattle.nntp_article.specs.Session.Limit.{profile_of}
@@ -87,38 +87,38 @@ IsInputFault input (faults.Spool fault) = ⊥
 IsInputFault input faults.Memory = ReadsFrontBut input
 IsInputFault input faults.Write = ⊥
 
--- the report of `check` on the sessions of a capture, by the limit and the marks, and its answer
-pub record CheckReports (limit : Limit) (marks : Marks) (c : Captured) (text : List ℕ) (answer : Bool) : Type 0 where
+-- the report of `check` on the sessions of a capture, by the limit and the marks and by how OVER and XOVER are taken, and its answer
+pub record CheckReports (limit : Limit) (marks : Marks) (overviews : Overviews) (c : Captured) (text : List ℕ) (answer : Bool) : Type 0 where
   pub judgement : JudgementOfAll
-  pub verdict : IsVerdictOfAll limit marks (unnamed (sessions_of c.held)) judgement
-  pub text_is : text ≡ report_of c.is_several (names_of (sessions_of c.held)) judgement
+  pub verdict : IsVerdictOfAll limit marks (unnamed (sessions_of overviews c.held)) judgement
+  pub text_is : text ≡ report_of c.is_several (names_of (sessions_of overviews c.held)) judgement
   pub answer_is : answer ≡ is_consistent_of_all judgement
 
--- the report of `verify` on them and on the spool's text, by the spool's limit and by the marks, and its answer
-pub record VerifyReports (marks : Marks) (c : Captured) (text : List ℕ) (answer : Bool) : Type 0 where
+-- the report of `verify` on them and on the spool's text, by the spool's limit, by the marks and by how OVER and XOVER are taken, and its answer
+pub record VerifyReports (marks : Marks) (overviews : Overviews) (c : Captured) (text : List ℕ) (answer : Bool) : Type 0 where
   pub value : LimitedSpool
   pub is_spool : IsWithinLimit value
   pub spool_is : c.held.spool ≡ spool_text value
   pub verified : VerifiedOfAll
-  pub exact : IsVerifiedOfAll (profile_of value.limit marks) value.spool (unnamed (sessions_of c.held)) verified
-  pub text_is : text ≡ verified_report c.is_several (names_of (sessions_of c.held)) verified
+  pub exact : IsVerifiedOfAll (profile_of value.limit marks) value.spool (unnamed (sessions_of overviews c.held)) verified
+  pub text_is : text ≡ verified_report c.is_several (names_of (sessions_of overviews c.held)) verified
   pub answer_is : answer ≡ is_permitted verified
 
--- the report of `show` on them, and its answer: the spool's text makes no difference
+-- the report of `show` on them, where OVER and XOVER are opaque, and its answer: the spool's text makes no difference
 pub record ShowReports (c : Captured) (text : List ℕ) (answer : Bool) : Type 0 where
   pub shown : List ShownSession
-  pub are_shown : AreShown (sessions_of c.held) shown
+  pub are_shown : AreShown (sessions_of Opaque c.held) shown
   pub text_is : text ≡ shown_report c.is_several 1 shown
   pub answer_is : answer ≡ are_answered shown
 
 -- the report of `explain` on what pieces hold: on several sessions, or on the only one
-abbrev pub ExplainsHeld : Limit → Marks → Bool → Held → List ℕ → Bool → Type 0
-ExplainsHeld limit marks true held text answer = IsExplanationOfAll limit marks (sessions_of held) text answer
-ExplainsHeld limit marks false held text answer = IsExplanation limit marks held.last.session.client held.last.session.server text answer
+abbrev pub ExplainsHeld : Limit → Marks → Overviews → Bool → Held → List ℕ → Bool → Type 0
+ExplainsHeld limit marks overviews true held text answer = IsExplanationOfAll limit marks (sessions_of overviews held) text answer
+ExplainsHeld limit marks overviews false held text answer = IsExplanation limit marks (taken overviews held.last.session.client.octets) held.last.session.server text answer
 
--- the report of `explain` on them, by the limit and the marks, and its answer: the spool's text makes no difference
-abbrev pub ExplainReports : Limit → Marks → Captured → List ℕ → Bool → Type 0
-ExplainReports limit marks c text answer = ExplainsHeld limit marks c.is_several c.held text answer
+-- the report of `explain` on them, by the limit and the marks and by how OVER and XOVER are taken, and its answer: the spool's text makes no difference
+abbrev pub ExplainReports : Limit → Marks → Overviews → Captured → List ℕ → Bool → Type 0
+ExplainReports limit marks overviews c text answer = ExplainsHeld limit marks overviews c.is_several c.held text answer
 
 -- what was read is a capture, and what was written is the report on it
 pub record IsReported (Reports : Captured → List ℕ → Bool → Type 0) (input : Input) (output : Output) (answer : Bool) : Type 0 where
@@ -150,35 +150,35 @@ IsFaultOf Reports input output faults.Write = IsCutShort Reports input output
 IsFaultOf Reports input output fault = IsInputFault input fault
 
 -- why `check` gives no answer
-abbrev pub IsCheckFault : Limit → Marks → Input → Output → RunFault → Type 0
-IsCheckFault limit marks = IsFaultOf (CheckReports limit marks)
+abbrev pub IsCheckFault : Limit → Marks → Overviews → Input → Output → RunFault → Type 0
+IsCheckFault limit marks overviews = IsFaultOf (CheckReports limit marks overviews)
 
 -- why `show` gives no answer
 abbrev pub IsShowFault : Input → Output → RunFault → Type 0
 IsShowFault = IsFaultOf ShowReports
 
 -- why `verify` gives no answer: the same, or the text of no spool
-abbrev pub IsVerifyFault : Marks → Input → Output → RunFault → Type 0
-IsVerifyFault marks input output (faults.Spool fault) = ReadsNoSpool input fault
-IsVerifyFault marks input output fault = IsFaultOf (VerifyReports marks) input output fault
+abbrev pub IsVerifyFault : Marks → Overviews → Input → Output → RunFault → Type 0
+IsVerifyFault marks overviews input output (faults.Spool fault) = ReadsNoSpool input fault
+IsVerifyFault marks overviews input output fault = IsFaultOf (VerifyReports marks overviews) input output fault
 
 -- why `explain` gives no answer
-abbrev pub IsExplainFault : Limit → Marks → Input → Output → RunFault → Type 0
-IsExplainFault limit marks = IsFaultOf (ExplainReports limit marks)
+abbrev pub IsExplainFault : Limit → Marks → Overviews → Input → Output → RunFault → Type 0
+IsExplainFault limit marks overviews = IsFaultOf (ExplainReports limit marks overviews)
 
 -- the report of a task, and its answer
 abbrev pub TaskReports : Task → Captured → List ℕ → Bool → Type 0
-TaskReports (tasks.Check limit marks) = CheckReports limit marks
-TaskReports (tasks.Verify marks) = VerifyReports marks
+TaskReports (tasks.Check limit marks overviews) = CheckReports limit marks overviews
+TaskReports (tasks.Verify marks overviews) = VerifyReports marks overviews
 TaskReports tasks.Show = ShowReports
-TaskReports (tasks.Explain limit marks) = ExplainReports limit marks
+TaskReports (tasks.Explain limit marks overviews) = ExplainReports limit marks overviews
 
 -- why a task gives no answer
 abbrev pub IsTaskFault : Task → Input → Output → RunFault → Type 0
-IsTaskFault (tasks.Check limit marks) = IsCheckFault limit marks
-IsTaskFault (tasks.Verify marks) = IsVerifyFault marks
+IsTaskFault (tasks.Check limit marks overviews) = IsCheckFault limit marks overviews
+IsTaskFault (tasks.Verify marks overviews) = IsVerifyFault marks overviews
 IsTaskFault tasks.Show = IsShowFault
-IsTaskFault (tasks.Explain limit marks) = IsExplainFault limit marks
+IsTaskFault (tasks.Explain limit marks overviews) = IsExplainFault limit marks overviews
 
 -- how the program's words are done: the report of a task is written, or a task has a fault; or nothing is read or written. No task reads more than 2^30 octets
 abbrev pub EndsRun : {R W : Type 0} → (R → Option (List ℕ)) → (W → Option (List ℕ)) → Watched R → Watched R → Watched W → Watched W → Result Bool Failure → Type 0

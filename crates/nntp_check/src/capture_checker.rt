@@ -2,6 +2,7 @@
 ghost use Rattle.std.specs.Prelude.{◌≡◌, ◌++◌, ◌∷◌, [], IfErr, IfOk, OnOk};
 ghost use Rattle.nntp_wire.specs.declared.limit.Limit.{Limit};
 ghost use Rattle.nntp_wire.specs.declared.marks.Marks.{Marks};
+ghost use Rattle.nntp_wire.specs.declared.overviews.Overviews.{Overviews};
 ghost use Rattle.nntp_pair.specs.declared.pair_error.PairError.TheVariants.{Memory};
 ghost use Rattle.nntp_check.specs.Capture.{Held, nothing, sessions_of};
 ghost use Rattle.nntp_check.specs.Inner.Collecting.{Judges};
@@ -15,7 +16,7 @@ use crate::sink::Sink;
 use crate::source::Source;
 use nntp_pair::PairError;
 use nntp_verdict::{Checker, SessionsVerdict};
-use nntp_wire::{Limit, Marks};
+use nntp_wire::{Limit, Marks, Overviews};
 use std::alloc::{AllocError, Allocator};
 use std::mem;
 
@@ -39,13 +40,18 @@ pub(crate) struct JudgedCapture<A: Allocator> {
 }
 
 impl<A: Allocator + Copy> CaptureChecker<A> {
-    /// A checker of a capture of which nothing has come.
-    pub(crate) fn new(alloc: A, limit: Limit, marks: Marks) -> CaptureChecker<A>
-        ensures { Judges limit marks result nothing }
+    /// A checker of a capture of which nothing has come, where OVER and XOVER are taken so in each session.
+    pub(crate) fn new(
+        alloc: A,
+        limit: Limit,
+        marks: Marks,
+        overviews: Overviews,
+    ) -> CaptureChecker<A>
+        ensures { Judges limit marks overviews result nothing }
     {
         CaptureChecker {
             alloc,
-            checker: Checker::new(alloc, limit, marks),
+            checker: Checker::taking(alloc, limit, marks, overviews),
             names: Vec::new(alloc),
             last_name: Vec::new(alloc),
         }
@@ -53,10 +59,10 @@ impl<A: Allocator + Copy> CaptureChecker<A> {
 
     /// The verdict on what came, where no more comes.
     pub(crate) fn finish(self) -> Result<JudgedCapture<A>, PairError>
-        requires { (limit : Limit) × (marks : Marks) × (held : Held) × Judges limit marks self held }
-        ensures ok { IfOk result (λ judged. (limit : Limit) (marks : Marks) (held : Held) → Judges limit marks self held
-            → IsVerdictOfAll limit marks (unnamed (sessions_of held)) (sessions_verdict_shown judged.verdict)
-            × (names_in judged.names.items ≡ names_of (sessions_of held))) }
+        requires { (limit : Limit) × (marks : Marks) × (overviews : Overviews) × (held : Held) × Judges limit marks overviews self held }
+        ensures ok { IfOk result (λ judged. (limit : Limit) (marks : Marks) (overviews : Overviews) (held : Held) → Judges limit marks overviews self held
+            → IsVerdictOfAll limit marks (unnamed (sessions_of overviews held)) (sessions_verdict_shown judged.verdict)
+            × (names_in judged.names.items ≡ names_of (sessions_of overviews held))) }
         ensures err { IfErr result (λ error. error ≡ Memory) }
     {
         let CaptureChecker {
@@ -94,9 +100,9 @@ fn with_name<A: Allocator>(
 
 /// It passes over the text of a spool.
 impl<A: Allocator + Copy> Sink for CaptureChecker<A> {
-    ghost By = { Limit × Marks };
+    ghost By = { Limit × Marks × Overviews };
 
-    ghost stands = { λ by checker held. Judges by.0 by.1 checker held };
+    ghost stands = { λ by checker held. Judges by.0 by.1 by.2 checker held };
 
     fn take(&mut self, source: Source, octets: &[u8]) -> Result<(), PairError> {
         match source {

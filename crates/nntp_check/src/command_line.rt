@@ -5,21 +5,32 @@ ghost use Rattle.nntp_check.specs.CommandLine.{exit_status};
 use crate::run_fault::RunFault;
 use clap::error::ErrorKind;
 use clap::{Arg, ArgAction, ArgMatches, Command};
-use nntp_wire::{Limit, Marks};
+use nntp_wire::{Limit, Marks, Overviews};
 use std::alloc::{AllocError, Global};
 use thiserror::Error;
 
 /// What the words ask for.
 #[derive(Clone, Copy, Debug, PartialEq, Eq)]
 pub enum Task {
-    /// Judge the sessions of a capture by the limit and the marks, as `run_check` does.
-    Check { limit: Limit, marks: Marks },
-    /// Tell whether a given spool explains them, as `run_verify` does, by the marks.
-    Verify { marks: Marks },
+    /// Judge the sessions of a capture by the limit and the marks, as `run_check` does, where OVER and XOVER are taken so.
+    Check {
+        limit: Limit,
+        marks: Marks,
+        overviews: Overviews,
+    },
+    /// Tell whether a given spool explains them, as `run_verify` does, by the marks, where OVER and XOVER are taken so.
+    Verify {
+        marks: Marks,
+        overviews: Overviews,
+    },
     /// Show them as a reader sees them, as `run_show` does.
     Show,
-    /// Tell all that is bad of them by the limit and the marks, as `run_explain` does.
-    Explain { limit: Limit, marks: Marks },
+    /// Tell all that is bad of them by the limit and the marks, as `run_explain` does, where OVER and XOVER are taken so.
+    Explain {
+        limit: Limit,
+        marks: Marks,
+        overviews: Overviews,
+    },
 }
 
 /// What the help of each task says behind its options.
@@ -92,6 +103,9 @@ const WIDE: &str = "wide";
 /// The option by which marks are read strictly.
 const STRICT_MARKS: &str = "strict-marks";
 
+/// The option by which OVER and XOVER are judged.
+const OVERVIEW: &str = "overview";
+
 /// An option without a value.
 fn flag<'a>(alloc: Global, name: &'a str, help: &'a str) -> Arg<'a> {
     Arg::new(alloc, name)
@@ -118,27 +132,41 @@ fn strict_marks<'a>(alloc: Global) -> Arg<'a> {
     )
 }
 
+/// The option by which OVER and XOVER are judged.
+fn overview<'a>(alloc: Global) -> Arg<'a> {
+    flag(
+        alloc,
+        OVERVIEW,
+        "Judge OVER and XOVER too: which articles a range has, and the id of each",
+    )
+}
+
+/// A task with the two options that all tasks have that judge.
+fn judging<'a>(alloc: Global, task: Command<'a>) -> Result<Command<'a>, AllocError> {
+    task.arg(strict_marks(alloc))?.arg(overview(alloc))
+}
+
 /// The command that judges a session.
 fn check<'a>(alloc: Global) -> Result<Command<'a>, AllocError> {
-    Command::new(alloc, "check")
+    let task = Command::new(alloc, "check")
         .about(
             "Judge the capture on standard input: write a spool that explains its sessions, or name the first answer that none explains",
         )
         .override_usage("nntpcheck check [OPTIONS] < CAPTURE")
         .after_help(CHECK_HELP)
-        .arg(wide(alloc))?
-        .arg(strict_marks(alloc))
+        .arg(wide(alloc))?;
+    judging(alloc, task)
 }
 
 /// The command that tells whether a given spool explains a session.
 fn verify<'a>(alloc: Global) -> Result<Command<'a>, AllocError> {
-    Command::new(alloc, "verify")
+    let task = Command::new(alloc, "verify")
         .about(
             "Tell whether the spool in the capture on standard input explains its sessions, or name the first answer that it doesn't explain",
         )
         .override_usage("nntpcheck verify [OPTIONS] < CAPTURE")
-        .after_help(VERIFY_HELP)
-        .arg(strict_marks(alloc))
+        .after_help(VERIFY_HELP);
+    judging(alloc, task)
 }
 
 /// The command that shows a session.
@@ -153,14 +181,14 @@ fn show<'a>(alloc: Global) -> Command<'a> {
 
 /// The command that explains what is bad of a session.
 fn explain<'a>(alloc: Global) -> Result<Command<'a>, AllocError> {
-    Command::new(alloc, "explain")
+    let task = Command::new(alloc, "explain")
         .about(
             "Tell all bad answers of the sessions in the capture on standard input, and why each is bad",
         )
         .override_usage("nntpcheck explain [OPTIONS] < CAPTURE")
         .after_help(EXPLAIN_HELP)
-        .arg(wide(alloc))?
-        .arg(strict_marks(alloc))
+        .arg(wide(alloc))?;
+    judging(alloc, task)
 }
 
 /// Whether the option stands behind the task.
@@ -186,6 +214,15 @@ fn limit_for(matches: &ArgMatches<'_>, task: &str) -> Limit {
         Limit::Wide
     } else {
         Limit::Narrow
+    }
+}
+
+/// How the task is to take OVER and XOVER.
+fn overviews_for(matches: &ArgMatches<'_>, task: &str) -> Overviews {
+    if is_given(matches, task, OVERVIEW) {
+        Overviews::Judged
+    } else {
+        Overviews::Opaque
     }
 }
 
@@ -218,15 +255,18 @@ fn task_asked(matches: &ArgMatches<'_>) -> Task {
     match matches.subcommand_name() {
         Some("verify") => Task::Verify {
             marks: marks_for(matches, "verify"),
+            overviews: overviews_for(matches, "verify"),
         },
         Some("show") => Task::Show,
         Some("explain") => Task::Explain {
             limit: limit_for(matches, "explain"),
             marks: marks_for(matches, "explain"),
+            overviews: overviews_for(matches, "explain"),
         },
         _ => Task::Check {
             limit: limit_for(matches, "check"),
             marks: marks_for(matches, "check"),
+            overviews: overviews_for(matches, "check"),
         },
     }
 }

@@ -8,6 +8,8 @@ ghost use Rattle.nntp_verdict.specs.Verdict.{Judgement};
 ghost use Rattle.nntp_verdict.specs.Inner.Verdict.{is_consistent, verdict_of_one};
 ghost use Rattle.nntp_wire.specs.declared.limit.Limit.{Limit};
 ghost use Rattle.nntp_wire.specs.declared.marks.Marks.{Marks};
+ghost use Rattle.nntp_wire.specs.declared.overviews.Overviews.{Overviews};
+ghost use Rattle.nntp_wire.specs.Session.{taken};
 
 pub use nntp_verdict::laws::{
     bad_for_good_stays, one_is_told_bad, one_verdict, yes_where_a_spool_explains,
@@ -54,8 +56,8 @@ pub fn bad_piece_for_good()
 /// streams.
 pub fn one_session_is_reported_alone()
     ensures alone { (octets : List ℕ) (c : Captured) → AreCapture octets c → c.is_several ≡ false → c.held.ended ≡ [] }
-    ensures report { (limit : Limit) (marks : Marks) (c : Captured) (verdict : Judgement) (text : List ℕ) (answer : Bool) → c.is_several ≡ false → c.held.ended
-        ≡ []
-        → IsVerdict limit marks c.held.last.session.client c.held.last.session.server verdict
-        → CheckReports limit marks c text answer ↔ ((text ≡ report_of false [] (verdict_of_one verdict)) × (answer ≡ is_consistent verdict)) }
+    ensures report { (limit : Limit) (marks : Marks) (overviews : Overviews) (c : Captured) (verdict : Judgement) (text : List ℕ) (answer : Bool)
+        → c.is_several ≡ false → c.held.ended ≡ []
+        → IsVerdict limit marks (taken overviews c.held.last.session.client.octets) c.held.last.session.server verdict
+        → CheckReports limit marks overviews c text answer ↔ ((text ≡ report_of false [] (verdict_of_one verdict)) × (answer ≡ is_consistent verdict)) }
 {}

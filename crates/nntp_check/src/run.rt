@@ -10,6 +10,7 @@ ghost use Rattle.nntp_check.specs.Inner.Collecting.{held_in, judged_report};
 ghost use Rattle.nntp_check.specs.Inner.Report.{IsWithin, text_behind};
 ghost use Rattle.nntp_check.specs.Report.{is_permitted};
 ghost use Rattle.nntp_verdict.specs.Verdict.{sessions_verdict_shown, is_consistent_of_all};
+ghost use Rattle.nntp_wire.specs.declared.overviews.Overviews.TheVariants.{Opaque};
 ghost use Rattle.nntp_check.specs.Run.{Input, Output, ReadsCapture, read_by, written_by, CheckReports, VerifyReports, ShowReports, ExplainReports};
 ghost use Rattle.nntp_check.specs.Run.{TaskReports, IsReported, IsCheckFault, IsVerifyFault, IsShowFault, IsExplainFault, IsTaskFault};
 
@@ -21,11 +22,11 @@ use crate::run_fault::RunFault;
 use crate::session_printer::SessionPrinter;
 use crate::streams::Streams;
 use bumpalo::Bump;
-use nntp_explain::{Explanation, explain, explain_sessions};
+use nntp_explain::{Explanation, explain_sessions, explain_taking};
 use nntp_several::{VerifiedSessions, verify_sessions};
 use nntp_spool::{Spool, Watched, WriteFault, put};
 use nntp_verdict::SessionsVerdict;
-use nntp_wire::{Limit, Marks};
+use nntp_wire::{Limit, Marks, Overviews};
 use std::alloc::{AllocError, Allocator};
 use std::io::{Read, Write};
 
@@ -98,9 +99,9 @@ fn report_verdict<A: Allocator + Copy, W: Write>(
 }
 
 /// Judges the sessions of the capture that the input has, as they come, by the limit and the marks, and writes the report
-/// on them: the answer is whether they are consistent. It reads at most `most` octets, up to the input's end, behind
-/// a bad answer too, and passes over spool pieces; at the first fault it ends. What memory the report needs
-/// is taken before its first octet is written; one flush follows the last.
+/// on them: the answer is whether they are consistent. OVER and XOVER are opaque. It reads at most `most` octets, up to
+/// the input's end, behind a bad answer too, and passes over spool pieces; at the first fault it ends. What memory the
+/// report needs is taken before its first octet is written; one flush follows the last.
 ///
 /// # Errors
 ///
@@ -116,17 +117,39 @@ pub fn run_check<A: Allocator + Copy, R: Read, W: Write>(
     most: u64,
 ) -> Result<bool, RunFault>
     // What was read is a capture, and what was written is the report on its sessions.
-    ensures ok { IfOk result (IsReported (CheckReports limit marks) (read_by R.remaining input.old input.new most)
+    ensures ok { IfOk result (IsReported (CheckReports limit marks Opaque) (read_by R.remaining input.old input.new most)
         (written_by W.contents output.old output.new)) }
     // Which fault it is, by what was read and written.
-    ensures err { IfErr result (IsCheckFault limit marks (read_by R.remaining input.old input.new most) (written_by W.contents output.old output.new)) }
+    ensures err { IfErr result (IsCheckFault limit marks Opaque (read_by R.remaining input.old input.new most)
+        (written_by W.contents output.old output.new)) }
     // After any fault but `Write` the writer isn't touched.
     ensures unwritten { IfErr result (λ e. e ≢ RunFault.Write → output.new ≡ output.old) }
 
     ensures read_failed { has_failed_of input.old ≡ false → (IsErrOf result RunFault.Read ↔ (has_failed_of input.new ≡ true)) }
     ensures write_failed { has_failed_of output.old ≡ false → (IsErrOf result RunFault.Write ↔ (has_failed_of output.new ≡ true)) }
 {
-    let mut checker = CaptureChecker::new(alloc, limit, marks);
+    run_check_taking(alloc, limit, marks, Overviews::Opaque, input, output, most)
+}
+
+/// Does what [`run_check`] does, where OVER and XOVER are taken so.
+fn run_check_taking<A: Allocator + Copy, R: Read, W: Write>(
+    alloc: A,
+    limit: Limit,
+    marks: Marks,
+    overviews: Overviews,
+    input: &mut Watched<R>,
+    output: &mut Watched<W>,
+    most: u64,
+) -> Result<bool, RunFault>
+    ensures ok { IfOk result (IsReported (CheckReports limit marks overviews) (read_by R.remaining input.old input.new most)
+        (written_by W.contents output.old output.new)) }
+    ensures err { IfErr result (IsCheckFault limit marks overviews (read_by R.remaining input.old input.new most)
+        (written_by W.contents output.old output.new)) }
+    ensures unwritten { IfErr result (λ e. e ≢ RunFault.Write → output.new ≡ output.old) }
+    ensures read_failed { has_failed_of input.old ≡ false → (IsErrOf result RunFault.Read ↔ (has_failed_of input.new ≡ true)) }
+    ensures write_failed { has_failed_of output.old ≡ false → (IsErrOf result RunFault.Write ↔ (has_failed_of output.new ≡ true)) }
+{
+    let mut checker = CaptureChecker::new(alloc, limit, marks, overviews);
     let is_several = read_capture(input, &mut checker, most)?;
     let judged = checker.finish()?;
     report_verdict(alloc, is_several, &judged, output)
@@ -147,17 +170,19 @@ fn verify_collected<A: Allocator + Copy, S: Allocator + Copy>(
     alloc: A,
     arena: S,
     marks: Marks,
+    overviews: Overviews,
     is_several: bool,
     streams: &Streams<A>,
 ) -> Result<Verification<A>, RunFault>
-    ensures ok { IfOk result (λ told. VerifyReports marks (record { held = held_in streams.now; is_several = is_several }) told.text.items told.is_permitted) }
+    ensures ok { IfOk result (λ told. VerifyReports marks overviews (record { held = held_in streams.now; is_several = is_several }) told.text.items
+        told.is_permitted) }
     ensures err { IfErr result (λ fault. (input : Input) (output : Output) → ReadsCapture input (record { held = held_in streams.now; is_several = is_several })
-        → IsVerifyFault marks input output fault) }
+        → IsVerifyFault marks overviews input output fault) }
     ensures by_text { IfErr result (λ fault. (fault ≢ RunFault.Read) × (fault ≢ RunFault.Write)) }
 {
     let spool = Spool::read_with(arena, alloc, &streams.spool)?;
-    let verified = verify_sessions(alloc, marks, &spool, &streams.recorded()?)?;
-    let text = verified_report(alloc, is_several, &streams.named()?, &verified)?;
+    let verified = verify_sessions(alloc, marks, &spool, &streams.recorded(overviews)?)?;
+    let text = verified_report(alloc, is_several, &streams.named(overviews)?, &verified)?;
     Ok(Verification {
         text,
         is_permitted: is_permitted(&verified),
@@ -166,8 +191,8 @@ fn verify_collected<A: Allocator + Copy, S: Allocator + Copy>(
 
 /// Tells whether the spool of a capture explains its sessions, and writes the report on them: the answer is whether the
 /// spool permits all answers. The spool is the one whose text the joined spool pieces are; article numbers are judged by
-/// its limit, and the water marks of a 211 (RFC 3977, section 6.1.1) are read as `marks` tells. It reads and writes as
-/// [`run_check`] does.
+/// its limit, and the water marks of a 211 (RFC 3977, section 6.1.1) are read as `marks` tells. OVER and XOVER are
+/// opaque. It reads and writes as [`run_check`] does.
 ///
 /// # Errors
 ///
@@ -180,19 +205,41 @@ pub fn run_verify<A: Allocator + Copy, R: Read, W: Write>(
     most: u64,
 ) -> Result<bool, RunFault>
     // What was read is a capture, and what was written is the report on its sessions and its spool.
-    ensures ok { IfOk result (IsReported (VerifyReports marks) (read_by R.remaining input.old input.new most) (written_by W.contents output.old output.new)) }
+    ensures ok { IfOk result (IsReported (VerifyReports marks Opaque) (read_by R.remaining input.old input.new most)
+        (written_by W.contents output.old output.new)) }
     // Which fault it is, by what was read and written.
-    ensures err { IfErr result (IsVerifyFault marks (read_by R.remaining input.old input.new most) (written_by W.contents output.old output.new)) }
+    ensures err { IfErr result (IsVerifyFault marks Opaque (read_by R.remaining input.old input.new most)
+        (written_by W.contents output.old output.new)) }
     // After any fault but `Write` the writer isn't touched.
     ensures unwritten { IfErr result (λ e. e ≢ RunFault.Write → output.new ≡ output.old) }
 
     ensures read_failed { has_failed_of input.old ≡ false → (IsErrOf result RunFault.Read ↔ (has_failed_of input.new ≡ true)) }
     ensures write_failed { has_failed_of output.old ≡ false → (IsErrOf result RunFault.Write ↔ (has_failed_of output.new ≡ true)) }
 {
+    run_verify_taking(alloc, marks, Overviews::Opaque, input, output, most)
+}
+
+/// Does what [`run_verify`] does, where OVER and XOVER are taken so.
+fn run_verify_taking<A: Allocator + Copy, R: Read, W: Write>(
+    alloc: A,
+    marks: Marks,
+    overviews: Overviews,
+    input: &mut Watched<R>,
+    output: &mut Watched<W>,
+    most: u64,
+) -> Result<bool, RunFault>
+    ensures ok { IfOk result (IsReported (VerifyReports marks overviews) (read_by R.remaining input.old input.new most)
+        (written_by W.contents output.old output.new)) }
+    ensures err { IfErr result (IsVerifyFault marks overviews (read_by R.remaining input.old input.new most)
+        (written_by W.contents output.old output.new)) }
+    ensures unwritten { IfErr result (λ e. e ≢ RunFault.Write → output.new ≡ output.old) }
+    ensures read_failed { has_failed_of input.old ≡ false → (IsErrOf result RunFault.Read ↔ (has_failed_of input.new ≡ true)) }
+    ensures write_failed { has_failed_of output.old ≡ false → (IsErrOf result RunFault.Write ↔ (has_failed_of output.new ≡ true)) }
+{
     let mut streams = Streams::new(alloc);
     let is_several = read_capture(input, &mut streams, most)?;
     let arena = Bump::new(alloc);
-    let told = verify_collected(alloc, &arena, marks, is_several, &streams)?;
+    let told = verify_collected(alloc, &arena, marks, overviews, is_several, &streams)?;
     print(&told.text, output)?;
     Ok(told.is_permitted)
 }
@@ -231,23 +278,31 @@ fn explain_collected<A: Allocator + Copy>(
     alloc: A,
     limit: Limit,
     marks: Marks,
+    overviews: Overviews,
     is_several: bool,
     streams: &Streams<A>,
 ) -> Result<Explanation<A>, AllocError>
-    ensures { IfOk result (λ told. ExplainReports limit marks (record { held = held_in streams.now; is_several = is_several }) told.text.items
+    ensures { IfOk result (λ told. ExplainReports limit marks overviews (record { held = held_in streams.now; is_several = is_several }) told.text.items
         told.is_without_fault) }
 {
     if is_several {
-        return explain_sessions(alloc, limit, marks, &streams.named()?);
+        return explain_sessions(alloc, limit, marks, &streams.named(overviews)?);
     }
-    let session = streams.last();
-    explain(alloc, limit, marks, session.client, session.server)
+    let session = streams.last(overviews);
+    explain_taking(
+        alloc,
+        limit,
+        marks,
+        session.overviews,
+        session.client,
+        session.server,
+    )
 }
 
 /// Reads the sessions of the capture that the input has to their ends, by the limit and the marks, and writes each bad
 /// answer of them, with where its session stands there: the answer is whether none is bad. A bad answer is passed over,
-/// and the next one is judged behind those that were accepted. It reads and writes as [`run_check`] does, and holds
-/// all streams whole.
+/// and the next one is judged behind those that were accepted. OVER and XOVER are opaque. It reads and writes as
+/// [`run_check`] does, and holds all streams whole.
 ///
 /// # Errors
 ///
@@ -261,24 +316,47 @@ pub fn run_explain<A: Allocator + Copy, R: Read, W: Write>(
     most: u64,
 ) -> Result<bool, RunFault>
     // What was read is a capture, and what was written is the report on the one reading of its sessions.
-    ensures ok { IfOk result (IsReported (ExplainReports limit marks) (read_by R.remaining input.old input.new most)
+    ensures ok { IfOk result (IsReported (ExplainReports limit marks Opaque) (read_by R.remaining input.old input.new most)
         (written_by W.contents output.old output.new)) }
     // Which fault it is, by what was read and written.
-    ensures err { IfErr result (IsExplainFault limit marks (read_by R.remaining input.old input.new most) (written_by W.contents output.old output.new)) }
+    ensures err { IfErr result (IsExplainFault limit marks Opaque (read_by R.remaining input.old input.new most)
+        (written_by W.contents output.old output.new)) }
     // After any fault but `Write` the writer isn't touched.
     ensures unwritten { IfErr result (λ e. e ≢ RunFault.Write → output.new ≡ output.old) }
 
     ensures read_failed { has_failed_of input.old ≡ false → (IsErrOf result RunFault.Read ↔ (has_failed_of input.new ≡ true)) }
     ensures write_failed { has_failed_of output.old ≡ false → (IsErrOf result RunFault.Write ↔ (has_failed_of output.new ≡ true)) }
 {
+    run_explain_taking(alloc, limit, marks, Overviews::Opaque, input, output, most)
+}
+
+/// Does what [`run_explain`] does, where OVER and XOVER are taken so.
+fn run_explain_taking<A: Allocator + Copy, R: Read, W: Write>(
+    alloc: A,
+    limit: Limit,
+    marks: Marks,
+    overviews: Overviews,
+    input: &mut Watched<R>,
+    output: &mut Watched<W>,
+    most: u64,
+) -> Result<bool, RunFault>
+    ensures ok { IfOk result (IsReported (ExplainReports limit marks overviews) (read_by R.remaining input.old input.new most)
+        (written_by W.contents output.old output.new)) }
+    ensures err { IfErr result (IsExplainFault limit marks overviews (read_by R.remaining input.old input.new most)
+        (written_by W.contents output.old output.new)) }
+    ensures unwritten { IfErr result (λ e. e ≢ RunFault.Write → output.new ≡ output.old) }
+    ensures read_failed { has_failed_of input.old ≡ false → (IsErrOf result RunFault.Read ↔ (has_failed_of input.new ≡ true)) }
+    ensures write_failed { has_failed_of output.old ≡ false → (IsErrOf result RunFault.Write ↔ (has_failed_of output.new ≡ true)) }
+{
     let mut streams = Streams::new(alloc);
     let is_several = read_capture(input, &mut streams, most)?;
-    let told = explain_collected(alloc, limit, marks, is_several, &streams)?;
+    let told = explain_collected(alloc, limit, marks, overviews, is_several, &streams)?;
     print(&told.text, output)?;
     Ok(told.is_without_fault)
 }
 
-/// Does the task: `run_check`, `run_verify`, `run_show` or `run_explain`, by what the task holds.
+/// Does the task: what `run_check`, `run_verify`, `run_show` or `run_explain` does, by what the task holds, where OVER and
+/// XOVER are taken as it says.
 ///
 /// # Errors
 ///
@@ -301,9 +379,19 @@ pub fn run_task<A: Allocator + Copy, R: Read, W: Write>(
     ensures write_failed { has_failed_of output.old ≡ false → (IsErrOf result RunFault.Write ↔ (has_failed_of output.new ≡ true)) }
 {
     match task {
-        Task::Check { limit, marks } => run_check(alloc, limit, marks, input, output, most),
-        Task::Verify { marks } => run_verify(alloc, marks, input, output, most),
+        Task::Check {
+            limit,
+            marks,
+            overviews,
+        } => run_check_taking(alloc, limit, marks, overviews, input, output, most),
+        Task::Verify { marks, overviews } => {
+            run_verify_taking(alloc, marks, overviews, input, output, most)
+        }
         Task::Show => run_show(alloc, input, output, most),
-        Task::Explain { limit, marks } => run_explain(alloc, limit, marks, input, output, most),
+        Task::Explain {
+            limit,
+            marks,
+            overviews,
+        } => run_explain_taking(alloc, limit, marks, overviews, input, output, most),
     }
 }

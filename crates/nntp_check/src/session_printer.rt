@@ -1,12 +1,13 @@
 //! Shows sessions as they come.
 ghost use Rattle.std.specs.Prelude.{◌≡◌, IfOk, IfErr, OnOk};
 ghost use Rattle.nntp_pair.specs.declared.pair_error.PairError.TheVariants.{Memory};
-ghost use Rattle.nntp_check.specs.Capture.{Captured, Held, nothing, sessions_of};
+ghost use Rattle.nntp_check.specs.Capture.{Captured, Held, nothing, session_as, sessions_of};
 ghost use Rattle.nntp_check.specs.Inner.Capture.{IsAlone};
 ghost use Rattle.nntp_check.specs.Run.{ShowReports};
 ghost use Rattle.nntp_check.specs.Inner.Sinks.{HasRoom, Takes};
 ghost use Rattle.nntp_check.specs.Inner.Showing.{HaveEnded, IsShownWhole, Shows, ShowsWhole};
 ghost use Rattle.nntp_check.specs.declared.capture_reader.Passage.TheVariants.{From};
+ghost use Rattle.nntp_wire.specs.declared.overviews.Overviews.TheVariants.{Opaque};
 
 use crate::show::{put_end, put_exchange};
 use crate::sink::Sink;
@@ -86,7 +87,8 @@ impl<A: Allocator + Copy> SessionPrinter<A> {
     /// answers.
     fn put_ending(&mut self) -> Result<bool, AllocError>
         requires { (held : Held) × ShowsWhole self.old held }
-        ensures shown { IfOk result (λ is_answered. (held : Held) → ShowsWhole self.old held → IsShownWhole held.last self.new.text.items is_answered) }
+        ensures shown { IfOk result (λ is_answered. (held : Held) → ShowsWhole self.old held
+            → IsShownWhole (session_as Opaque held.last) self.new.text.items is_answered) }
         ensures rest { self.new ≡ record self.old { text = self.new.text } }
     {
         match self.feed.finish() {
@@ -107,7 +109,7 @@ impl<A: Allocator + Copy> SessionPrinter<A> {
     /// Ends the last session: what is shown of it stands behind its title, and behind the sessions before.
     fn end_session(&mut self) -> Result<(), AllocError>
         requires { (held : Held) × ShowsWhole self.old held }
-        ensures { OnOk result ((held : Held) → ShowsWhole self.old held → HaveEnded self.new (sessions_of held)) }
+        ensures { OnOk result ((held : Held) → ShowsWhole self.old held → HaveEnded self.new (sessions_of Opaque held)) }
     {
         let is_answered = self.put_ending()?;
         self.is_answered &= is_answered;

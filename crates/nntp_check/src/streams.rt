@@ -1,9 +1,8 @@
 //! What a capture holds, collected.
 ghost use Rattle.std.specs.Prelude.{◌≡◌, IfOk, OnOk};
-ghost use Rattle.nntp_check.specs.Capture.{blank, nothing, sessions_of, with_another};
+ghost use Rattle.nntp_check.specs.Capture.{blank, nothing, session_as, sessions_of, with_another};
 ghost use Rattle.nntp_check.specs.Inner.Collecting.{held_in};
 ghost use Rattle.nntp_several.specs.Sessions.{unnamed};
-ghost use Rattle.nntp_wire.specs.declared.overviews.Overviews.TheVariants.{Opaque};
 
 use crate::sink::Sink;
 use crate::source::Source;
@@ -46,25 +45,24 @@ impl<A: Allocator + Copy> Collected<A> {
         }
     }
 
-    /// What was recorded of it.
-    fn recorded(&self) -> Recorded<'_>
-        ensures session { result ≡ self.now.session }
-        ensures opaque { result.client.overviews ≡ Opaque }
+    /// What was recorded of it, where OVER and XOVER are taken so.
+    fn recorded(&self, overviews: Overviews) -> Recorded<'_>
+        ensures { result ≡ (session_as overviews self.now).session }
     {
         Recorded {
-            overviews: Overviews::Opaque,
+            overviews,
             client: &self.client,
             server: &self.server,
         }
     }
 
     /// The same with its name.
-    fn named(&self) -> Named<'_>
-        ensures { result ≡ self.now }
+    fn named(&self, overviews: Overviews) -> Named<'_>
+        ensures { result ≡ session_as overviews self.now }
     {
         Named {
             name: &self.name,
-            session: self.recorded(),
+            session: self.recorded(overviews),
         }
     }
 }
@@ -103,35 +101,34 @@ impl<A: Allocator + Copy> Streams<A> {
         Ok(())
     }
 
-    /// What was recorded of the last session.
-    pub(crate) fn last(&self) -> Recorded<'_>
-        ensures session { result ≡ (held_in self.now).last.session }
-        ensures opaque { result.client.overviews ≡ Opaque }
+    /// What was recorded of the last session, where OVER and XOVER are taken so.
+    pub(crate) fn last(&self, overviews: Overviews) -> Recorded<'_>
+        ensures { result ≡ (session_as overviews (held_in self.now).last).session }
     {
-        self.last.recorded()
+        self.last.recorded(overviews)
     }
 
-    /// What was recorded of each session.
-    pub(crate) fn recorded(&self) -> Result<Vec<Recorded<'_>, A>, AllocError>
-        ensures { IfOk result (λ sessions. sessions.items ≡ unnamed (sessions_of (held_in self.now))) }
+    /// What was recorded of each session, where OVER and XOVER are taken so.
+    pub(crate) fn recorded(&self, overviews: Overviews) -> Result<Vec<Recorded<'_>, A>, AllocError>
+        ensures { IfOk result (λ sessions. sessions.items ≡ unnamed (sessions_of overviews (held_in self.now))) }
     {
         let mut sessions = Vec::new(self.alloc);
         for session in &self.ended {
-            sessions.push(session.recorded())?;
+            sessions.push(session.recorded(overviews))?;
         }
-        sessions.push(self.last.recorded())?;
+        sessions.push(self.last.recorded(overviews))?;
         Ok(sessions)
     }
 
     /// The same of each with its name.
-    pub(crate) fn named(&self) -> Result<Vec<Named<'_>, A>, AllocError>
-        ensures { IfOk result (λ sessions. sessions.items ≡ sessions_of (held_in self.now)) }
+    pub(crate) fn named(&self, overviews: Overviews) -> Result<Vec<Named<'_>, A>, AllocError>
+        ensures { IfOk result (λ sessions. sessions.items ≡ sessions_of overviews (held_in self.now)) }
     {
         let mut sessions = Vec::new(self.alloc);
         for session in &self.ended {
-            sessions.push(session.named())?;
+            sessions.push(session.named(overviews))?;
         }
-        sessions.push(self.last.named())?;
+        sessions.push(self.last.named(overviews))?;
         Ok(sessions)
     }
 }

@@ -1,7 +1,7 @@
 //! Explains recorded sessions: each bad answer, where its session stands there, and why it is bad.
 //!
-//! `explain` reads a session to its end, behind bad answers too, and writes the report on it; `explain_sessions` does so
-//! of several sessions of one spool.
+//! `explain` reads a session to its end, behind bad answers too, and writes the report on it; `explain_taking` is told how
+//! OVER and XOVER are taken in it. `explain_sessions` does so of several sessions of one spool.
 #![tactic(auto)]
 
 mod ask;
@@ -19,4 +19,4 @@ mod says;
 mod sessions;
 mod unfitting;
 
-pub use sessions::{Explanation, explain, explain_sessions};
+pub use sessions::{Explanation, explain, explain_sessions, explain_taking};

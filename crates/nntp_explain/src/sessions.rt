@@ -25,8 +25,8 @@ pub struct Explanation<A: Allocator> {
     pub is_without_fault: bool,
 }
 
-/// Explains what is bad of a session, of which these are both streams. OVER and XOVER are opaque: a session of
-/// [`explain_sessions`] says how they are taken in it.
+/// Explains what is bad of a session, of which these are both streams. OVER and XOVER are opaque: [`explain_taking`] is
+/// told how they are taken, and a session of [`explain_sessions`] says how they are in it.
 ///
 /// # Errors
 ///
@@ -40,8 +40,26 @@ pub fn explain<A: Allocator + Copy>(
 ) -> Result<Explanation<A>, AllocError>
     ensures { IfOk result (λ told. IsExplanation limit marks (taken Opaque client.now) server.now told.text.items told.is_without_fault) }
 {
+    explain_taking(alloc, limit, marks, Overviews::Opaque, client, server)
+}
+
+/// Explains what is bad of a session, as [`explain`] does, where OVER and XOVER are taken so.
+///
+/// # Errors
+///
+/// `AllocError` where memory is refused.
+pub fn explain_taking<A: Allocator + Copy>(
+    alloc: A,
+    limit: Limit,
+    marks: Marks,
+    overviews: Overviews,
+    client: &[u8],
+    server: &[u8],
+) -> Result<Explanation<A>, AllocError>
+    ensures { IfOk result (λ told. IsExplanation limit marks (taken overviews client.now) server.now told.text.items told.is_without_fault) }
+{
     let mut explainer = Explainer::new(alloc, limit, marks);
-    let is_without_fault = explainer.tell_one(client, server)?;
+    let is_without_fault = explainer.tell_one(overviews, client, server)?;
     Ok(Explanation {
         text: explainer.text,
         is_without_fault,
@@ -72,12 +90,17 @@ pub fn explain_sessions<A: Allocator + Copy>(
 
 impl<'a, A: Allocator + Copy> Explainer<'a, A> {
     /// Tells of one session, which has no title, and whether no answer of it is bad.
-    fn tell_one(&mut self, client: &'a [u8], server: &'a [u8]) -> Result<bool, AllocError>
+    fn tell_one(
+        &mut self,
+        overviews: Overviews,
+        client: &'a [u8],
+        server: &'a [u8],
+    ) -> Result<bool, AllocError>
         requires { HasReadNone self.old }
-        ensures { IfOk result (λ good. IsExplanation self.old.facts.limit self.old.facts.marks (taken Opaque client.now) server.now self.new.text.items good) }
+        ensures { IfOk result (λ good. IsExplanation self.old.facts.limit self.old.facts.marks (taken overviews client.now) server.now
+            self.new.text.items good) }
     {
         self.begin(None);
-        let overviews = Overviews::Opaque;
         let session = Recorded {
             overviews,
             client,

@@ -1,7 +1,10 @@
 //! The command line, the words on standard error, and the exit status.
 use crate::tasks::{
-    CHECK, CHECK_STRICTLY, CHECK_WIDE, CHECK_WIDE_AND_STRICT, EXPLAIN, EXPLAIN_STRICTLY,
-    EXPLAIN_WIDE, VERIFY, VERIFY_STRICTLY,
+    CHECK, CHECK_OVERVIEW, CHECK_OVERVIEW_STRICTLY, CHECK_OVERVIEW_WIDE,
+    CHECK_OVERVIEW_WIDE_AND_STRICT, CHECK_STRICTLY, CHECK_WIDE, CHECK_WIDE_AND_STRICT, EXPLAIN,
+    EXPLAIN_OVERVIEW, EXPLAIN_OVERVIEW_STRICTLY, EXPLAIN_OVERVIEW_WIDE,
+    EXPLAIN_OVERVIEW_WIDE_AND_STRICT, EXPLAIN_STRICTLY, EXPLAIN_WIDE, VERIFY, VERIFY_OVERVIEW,
+    VERIFY_OVERVIEW_STRICTLY, VERIFY_STRICTLY,
 };
 use clap::error::ErrorKind;
 use nntp_check::{Failure, Kind, ReadFault, RunFault, Task, job, refusal, status};
@@ -18,7 +21,7 @@ fn words(alloc: Global, of: &[&str]) -> Result<Vec<String>, AllocError> {
 }
 
 /// Words, and the task that they ask for.
-const ASKED: [(&[&str], Task); 11] = [
+const ASKED: [(&[&str], Task); 22] = [
     (&["nntpcheck", "check"], CHECK),
     (&["nntpcheck", "check", "--strict-marks"], CHECK_STRICTLY),
     (&["nntpcheck", "check", "--wide"], CHECK_WIDE),
@@ -39,6 +42,59 @@ const ASKED: [(&[&str], Task); 11] = [
         EXPLAIN_STRICTLY,
     ),
     (&["nntpcheck", "explain", "--wide"], EXPLAIN_WIDE),
+    (&["nntpcheck", "check", "--overview"], CHECK_OVERVIEW),
+    (
+        &["nntpcheck", "check", "--strict-marks", "--overview"],
+        CHECK_OVERVIEW_STRICTLY,
+    ),
+    (
+        &["nntpcheck", "check", "--overview", "--wide"],
+        CHECK_OVERVIEW_WIDE,
+    ),
+    (
+        &[
+            "nntpcheck",
+            "check",
+            "--wide",
+            "--strict-marks",
+            "--overview",
+        ],
+        CHECK_OVERVIEW_WIDE_AND_STRICT,
+    ),
+    (
+        &[
+            "nntpcheck",
+            "check",
+            "--overview",
+            "--strict-marks",
+            "--wide",
+        ],
+        CHECK_OVERVIEW_WIDE_AND_STRICT,
+    ),
+    (&["nntpcheck", "verify", "--overview"], VERIFY_OVERVIEW),
+    (
+        &["nntpcheck", "verify", "--overview", "--strict-marks"],
+        VERIFY_OVERVIEW_STRICTLY,
+    ),
+    (&["nntpcheck", "explain", "--overview"], EXPLAIN_OVERVIEW),
+    (
+        &["nntpcheck", "explain", "--strict-marks", "--overview"],
+        EXPLAIN_OVERVIEW_STRICTLY,
+    ),
+    (
+        &["nntpcheck", "explain", "--wide", "--overview"],
+        EXPLAIN_OVERVIEW_WIDE,
+    ),
+    (
+        &[
+            "nntpcheck",
+            "explain",
+            "--wide",
+            "--overview",
+            "--strict-marks",
+        ],
+        EXPLAIN_OVERVIEW_WIDE_AND_STRICT,
+    ),
 ];
 
 #[test]
@@ -51,7 +107,7 @@ fn words_that_ask_for_a_task(rt: HostRuntime) -> Result<(), Fail> {
 }
 
 /// Words that ask for no task, of which kind the error is, and the exit status.
-const REFUSED: [(&[&str], ErrorKind, u8); 17] = [
+const REFUSED: [(&[&str], ErrorKind, u8); 21] = [
     (&["nntpcheck"], ErrorKind::MissingSubcommand, 2),
     (&["nntpcheck", "check", "x"], ErrorKind::UnknownArgument, 2),
     (
@@ -78,6 +134,26 @@ const REFUSED: [(&[&str], ErrorKind, u8); 17] = [
     ),
     (
         &["nntpcheck", "show", "--strict-marks"],
+        ErrorKind::UnknownArgument,
+        2,
+    ),
+    (
+        &["nntpcheck", "show", "--overview"],
+        ErrorKind::UnknownArgument,
+        2,
+    ),
+    (
+        &["nntpcheck", "verify", "--overview", "--wide"],
+        ErrorKind::UnknownArgument,
+        2,
+    ),
+    (
+        &["nntpcheck", "--overview", "check"],
+        ErrorKind::UnknownArgument,
+        2,
+    ),
+    (
+        &["nntpcheck", "check", "--overviews"],
         ErrorKind::UnknownArgument,
         2,
     ),
@@ -148,7 +224,7 @@ fn a_word_that_is_no_option(rt: HostRuntime) -> Result<(), Fail> {
 }
 
 /// Words that ask for help, and what that tells.
-const HELPS: [(&[&str], &[&str]); 4] = [
+const HELPS: [(&[&str], &[&str]); 5] = [
     (
         &["nntpcheck", "--help"],
         &[
@@ -165,6 +241,8 @@ const HELPS: [(&[&str], &[&str]); 4] = [
             "  --wide",
             "9,999,999,999,999,999",
             "  --strict-marks",
+            "  --overview",
+            "Judge OVER and XOVER too",
             "\nReads a capture",
             "\nWrites to standard output",
             "\nExit status: 0 if",
@@ -174,6 +252,18 @@ const HELPS: [(&[&str], &[&str]); 4] = [
         &["nntpcheck", "verify", "--help"],
         &[
             "  --strict-marks",
+            "  --overview",
+            "\nReads a capture",
+            "\nWrites to standard output",
+            "\nExit status: 0 if",
+        ],
+    ),
+    (
+        &["nntpcheck", "explain", "--help"],
+        &[
+            "  --wide",
+            "  --strict-marks",
+            "  --overview",
             "\nReads a capture",
             "\nWrites to standard output",
             "\nExit status: 0 if",

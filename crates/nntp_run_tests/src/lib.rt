@@ -10,6 +10,8 @@ mod faults;
 #[cfg(test)]
 mod memory;
 #[cfg(test)]
+mod overviews;
+#[cfg(test)]
 mod reported;
 #[cfg(test)]
 mod runs;

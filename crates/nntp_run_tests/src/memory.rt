@@ -175,6 +175,11 @@ fn runs_over_several_sessions(rt: HostRuntime) -> Result<(), Fail> {
 }
 
 #[test]
+fn runs_over_overviews(rt: HostRuntime) -> Result<(), Fail> {
+    Ok(Trial::RefuseMemory.overviews(&rt, rt.alloc())?)
+}
+
+#[test]
 fn runs_that_explain_each_kind_of_point(rt: HostRuntime) -> Result<(), Fail> {
     Ok(Trial::RefuseMemory.reports(&rt, rt.alloc(), POINTS)?)
 }

@@ -10,11 +10,11 @@ use std::test::Fail;
 /// A capture by name: what is done with it, what is printed of it, and whether the answer is yes.
 #[derive(Clone, Copy)]
 pub(crate) struct Captured {
-    name: &'static str,
-    task: Task,
-    capture: &'static [u8],
-    report: &'static [u8],
-    answer: bool,
+    pub(crate) name: &'static str,
+    pub(crate) task: Task,
+    pub(crate) capture: &'static [u8],
+    pub(crate) report: &'static [u8],
+    pub(crate) answer: bool,
 }
 
 impl Captured {

@@ -1,10 +1,12 @@
 //! Trials of the runs over worked sessions, and over those that are shown.
 use crate::explanations::{CONFLICTS, ENDINGS, FAULTLESS, MISFITS, MISSPELLINGS};
 use crate::memory;
+use crate::overviews::OVERVIEWS;
 use crate::reported::Reported;
 use crate::runs::Run;
-use crate::several::SEVERAL;
+use crate::several::{Captured, SEVERAL};
 use crate::shows::SHOWN;
+use nntp_check::Overviews;
 use nntp_run_fixtures::{check_task, verify_task};
 use nntp_sessions::{Full, Session, each_session, verified_report, with_spool};
 use std::alloc::Global;
@@ -54,7 +56,7 @@ impl Trial {
         let report = session.report(alloc)?;
         let run = Run::of(
             session.name,
-            check_task(session.choice),
+            check_task(session.choice, Overviews::Opaque),
             capture.as_bytes(),
             session.is_consistent(),
             report.as_bytes(),
@@ -75,7 +77,7 @@ impl Trial {
         let report = verified_report(alloc, verified)?;
         let run = Run::of(
             session.name,
-            verify_task(session.choice),
+            verify_task(session.choice, Overviews::Opaque),
             capture.as_bytes(),
             session.is_consistent(),
             report.as_bytes(),
@@ -132,15 +134,25 @@ impl Trial {
         self.reports(rt, alloc, CONFLICTS)
     }
 
-    /// Tries the runs over each capture of several sessions.
-    pub(crate) fn several(self, rt: &impl Abort, alloc: Global) -> Result<(), Fail> {
-        for captured in SEVERAL {
+    /// Tries the runs over these captures.
+    fn captured(self, rt: &impl Abort, alloc: Global, captures: &[Captured]) -> Result<(), Fail> {
+        for captured in captures {
             self.make(rt, alloc, &captured.run())?;
         }
         Ok(())
     }
 
-    /// Tries all of these runs.
+    /// Tries the runs over each capture of several sessions.
+    pub(crate) fn several(self, rt: &impl Abort, alloc: Global) -> Result<(), Fail> {
+        self.captured(rt, alloc, SEVERAL)
+    }
+
+    /// Tries the runs over each capture of overviews.
+    pub(crate) fn overviews(self, rt: &impl Abort, alloc: Global) -> Result<(), Fail> {
+        self.captured(rt, alloc, OVERVIEWS)
+    }
+
+    /// Tries all of these runs, but those over overviews.
     pub(crate) fn all(self, rt: &impl Abort, alloc: Global) -> Result<(), Fail> {
         self.sessions(rt, alloc)?;
         self.shown(rt, alloc)?;

@@ -2,8 +2,9 @@
 use Rattle.std.specs.{Prelude.{◌≡◌, ℕ, Bool, true, false, List, length}, List.{flat_map}}
 use Rattle.nntp_pair.specs.{Pairing.{Paired, HasNext}, Inner.Feeding.{Fed, IsFed, left_of}}
 use Rattle.nntp_several.specs.Sessions.{Recorded, Named}
-use Rattle.nntp_check.specs.{Capture.{Held}, Show.{ShownSession, AreShown, IsShownAs, are_answered, exchange_text, is_end, session_text, shown_report}}
-use Rattle.nntp_check.specs.declared.session_printer.SessionPrinter.{SessionPrinter}
+use Rattle.nntp_wire.specs.declared.overviews.Overviews.TheVariants.{Opaque}
+use Rattle.nntp_check.specs.{Capture.{Held, session_as, sessions_as}, Show.{ShownSession, AreShown, IsShownAs, are_answered, exchange_text, is_end}}
+use Rattle.nntp_check.specs.{Show.{session_text, shown_report}, declared.session_printer.SessionPrinter.{SessionPrinter}}
 
 -- octets of both streams of a session came, and the text shows the exchanges of them that have passed
 pub record IsShown (fed : Fed) (text : List ℕ) (session : Recorded) : Type 0 where
@@ -26,9 +27,9 @@ HaveEnded printer sessions = AreReported printer.many printer.ended.items printe
 
 -- behind the sessions that have ended, the printer shows exchanges of the last one
 pub record Shows {A : Type 0} (printer : SessionPrinter A) (held : Held) : Type 0 where
-  pub ended : HaveEnded printer held.ended
+  pub ended : HaveEnded printer (sessions_as Opaque held.ended)
   pub name_is : printer.name.items ≡ held.last.name
-  pub last : IsShown printer.feed printer.text.items held.last.session
+  pub last : IsShown printer.feed printer.text.items (session_as Opaque held.last).session
 
 -- and it shows all that are whole
 abbrev pub ShowsWhole : {A : Type 0} → SessionPrinter A → Held → Type 0

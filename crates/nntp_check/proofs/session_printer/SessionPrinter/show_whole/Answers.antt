@@ -1,12 +1,13 @@
-use Rattle.nntp_check.proofs.ShowLemmas.{one-more}
+use Rattle.nntp_check.{proofs.ShowLemmas.{one-more}, specs.Capture.{session_as}}
 use Rattle.nntp_verdict.proofs.CheckerLemmas.{no-next}
+use Rattle.nntp_wire.specs.declared.overviews.Overviews.TheVariants.{Opaque}
 use Rattle.nntp_check.proofs.session_printer.SessionPrinter.show_whole.Goals as goal
 
 pub loop-exchange-preserved : goal.loop-exchange-preserved
 loop-exchange-preserved g c held start =
     let fed = c.loop-exchange.self.feed in
     let shows = c.loop-exchange.invariant held start in
-    let session = held.last.session in
+    let session = (session_as Opaque held.last).session in
     record {
       ended = shows.ended;
       name_is = shows.name_is;

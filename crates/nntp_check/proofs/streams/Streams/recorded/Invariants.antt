@@ -1,6 +1,7 @@
 use Rattle.std.proofs.Common.{◌≡◌, ◌++◌, drop}
 use Rattle.nntp_several.specs.Sessions.{unnamed}
+use Rattle.nntp_check.specs.Capture.{sessions_as}
 use Rattle.nntp_check.proofs.streams.Streams.recorded.Given as goal
 
 abbrev pub invariant-loop-session : goal.invariant-loop-session
-invariant-loop-session g l = l.sessions.items ++ unnamed (drop l.session-index l.self.ended.items) ≡ unnamed l.self.ended.items
+invariant-loop-session g l = l.sessions.items ++ unnamed (sessions_as l.overviews (drop l.session-index l.self.ended.items)) ≡ unnamed (sessions_as l.overviews l.self.ended.items)

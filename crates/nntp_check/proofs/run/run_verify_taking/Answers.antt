@@ -1,6 +1,6 @@
 use Rattle.std.proofs.{Common.{sym, subst}, lemmas.Result.{err_from_is_err_and}}
 use Rattle.nntp_check.{specs.{Capture.{Held}, Run.{ReadsCapture, read_by, written_by, VerifyReports}}, proofs.RunLemmas.{wrote-all, cut-short}}
-use Rattle.nntp_check.proofs.run.run_verify.Goals as goal
+use Rattle.nntp_check.proofs.run.run_verify_taking.Goals as goal
 
 pub returns-in_err-told-clause-err : goal.returns-in_err-told-clause-err
 returns-in_err-told-clause-err g c =
@@ -19,10 +19,10 @@ returns-in_err-print-clause-err g c =
     let several = c.in_ok-is_several.is_several in
     let told = c.in_ok-told.told in
     rw (exit.1, exit.2)
-    (cut-short (VerifyReports c.args.marks) (read_by g.R.Read.remaining c.args.input.now c.read_capture.new.input c.args.most)
+    (cut-short (VerifyReports c.args.marks c.args.overviews) (read_by g.R.Read.remaining c.args.input.now c.read_capture.new.input c.args.most)
     (g.W.Write.contents c.args.output.now.inner) (g.W.Write.contents c.print.new.output.inner)
     (record { held = read.0; is_several = several }) told.text.items c.deref.result.now c.in_err-print.ensures.text.0 told.is_permitted
-    read.1 (subst (λ (h : Held). VerifyReports c.args.marks (record { held = h; is_several = several }) told.text.items told.is_permitted) read.2 c.in_ok-told.ensures.ok)
+    read.1 (subst (λ (h : Held). VerifyReports c.args.marks c.args.overviews (record { held = h; is_several = several }) told.text.items told.is_permitted) read.2 c.in_ok-told.ensures.ok)
     c.deref.ensures.value c.in_err-print.ensures.text.1)
 
 pub returns-clause-ok : goal.returns-clause-ok
@@ -34,7 +34,7 @@ returns-clause-ok g c =
       captured = record { held = read.0; is_several = several };
       capture = read.1;
       text = told.text.items;
-      reports = subst (λ (h : Held). VerifyReports c.args.marks (record { held = h; is_several = several }) told.text.items told.is_permitted) read.2 c.in_ok-told.ensures.ok;
+      reports = subst (λ (h : Held). VerifyReports c.args.marks c.args.overviews (record { held = h; is_several = several }) told.text.items told.is_permitted) read.2 c.in_ok-told.ensures.ok;
       whole = wrote-all (g.W.Write.contents c.args.output.now.inner)
           (g.W.Write.contents c.print.new.output.inner) told.text.items c.deref.result.now c.deref.ensures.value
           c.in_ok-print.ensures.text;
