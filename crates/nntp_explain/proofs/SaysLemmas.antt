@@ -1,12 +1,12 @@
 -- What lines say, one after the other.
-use Rattle.std.proofs.Common.{arith, ◌≡◌, ap, refl, ℕ, Bool, true, cond, List, [], ◌∷◌, ◌++◌, Option, append_assoc, append-nil, Result}
-use Rattle.std.{proofs.lemmas.List.Concat.{flat_map-append}, specs.{Prelude.{OnOk, IsTrue, decimal}, List.{flat_map, list_any}}}
-use Rattle.nntp_article.specs.{Article.Parts.{Id, Line, is_empty, head_part, body_part}, Session.Spool.{Name}}
-use Rattle.nntp_wire.specs.Listing.{ActiveValue}
+use Rattle.std.proofs.Common.{arith, ◌≡◌, ◌∙◌, ap, refl, sym, ℕ, zero, suc, ◌-◌, Bool, true, cond, List, [], ◌∷◌, ◌++◌, length, take, Option, append_assoc, append-nil, Result}
+use Rattle.std.{proofs.lemmas.List.Concat.{flat_map-append}, specs.{Prelude.{OnOk, IsTrue, codes, decimal}, List.{flat_map, list_any}}}
+use Rattle.nntp_article.specs.{Article.{Parts.{Id, Line, is_empty, head_part, body_part}, Fields.{Word}}, Session.Spool.{Name}}
+use Rattle.nntp_wire.specs.{Octets.{space}, Listing.{ActiveValue}}
 use Rattle.nntp_said.specs.{Asks.{Bounds}, Facts.{Fact, Asks, GroupsAre}}
 use Rattle.nntp_theory.specs.Conflict.{Point, Article}
-use Rattle.nntp_explain.specs.{Reasons.{octets_line}, Says.{numbers_said, says, article_line}}
-use Rattle.nntp_printing.specs.Printing.{escaped}
+use Rattle.nntp_explain.specs.{Reasons.{octets_line}, Says.{numbers_said, says, article_line, spaced}}
+use Rattle.nntp_printing.specs.{Printing.{escaped}, BadAnswer.{shown}}
 
 -- the text goes on with them
 pub bounds_told : (name : Name) (about : Option ℕ) (p : Option (List ℕ)) (line : ActiveValue) (left lines : List ActiveValue) (text more whole : List ℕ)
@@ -74,3 +74,39 @@ pub conflict_told : (text about rest : List ℕ) (said reasons : Option ℕ → 
     → one ≡ text ++ about → two ≡ one ++ said place → three ≡ two ++ rest → four ≡ three ++ reasons place → place ≡ told
     → four ≡ text ++ (about ++ said told ++ rest ++ reasons told)
 conflict_told text about rest said reasons place told one two three four first second third fourth is = grind (arith, append_assoc)
+
+-- a label and what stands behind it, and the end of the line
+pub line_ended : (text label octets one two : List ℕ) → one ≡ text ++ (label ++ octets) → two ≡ one ++ 10 ∷ [] → two ≡ text ++ (label ++ octets ++ codes "\n")
+line_ended text label octets one two first second = grind (arith, append_assoc)
+
+-- ---- words, as far as there is room for them
+
+-- of two lists there is room for the first, and for as much of the other as it leaves
+take_both : (n : ℕ) (xs ys : List ℕ) → take n (xs ++ ys) ≡ take n xs ++ take (n - length xs) ys
+take_both zero xs ys = grind arith
+take_both (suc n) [] ys =
+    let whole : suc n - 0 ≡ suc n = omega arith in
+    ap (λ m. take m ys) (sym whole)
+take_both (suc n) (x ∷ xs) ys = grind (arith, take_both n xs ys)
+
+-- and so of what is printed of them
+room_told : (text one two first more : List ℕ) (room left : ℕ) → one ≡ text ++ escaped (take room first) → left ≡ room - length first → two ≡ first ++ more
+    → one ++ escaped (take left more) ≡ text ++ escaped (take room two)
+room_told text one two first more room left told left-is is = grind (arith, append_assoc, flat_map-append, take_both)
+
+-- behind the first word those that are left
+pub words_begin : (text first : List ℕ) (left more : List Word) (one : List ℕ) (room : ℕ) → left ≡ more → one ≡ text ++ escaped (take 512 first) → room ≡ 512 - length first
+    → one ++ escaped (take room (flat_map (λ w. space ∷ w) left)) ≡ text ++ escaped (shown (spaced (first ∷ more)))
+words_begin text first left more one room is told room-is =
+    ap (λ ws. one ++ escaped (take room (flat_map (λ w. space ∷ w) ws))) is
+    ∙ room_told text one (first ++ flat_map (λ w. space ∷ w) more) first (flat_map (λ w. space ∷ w) more) 512 room told room-is refl
+
+-- a space and a word more
+pub word_told : (left more : List Word) (word text one two whole : List ℕ) (room mid end : ℕ) → left ≡ word ∷ more → one ≡ text ++ escaped (take room (space ∷ [])) → mid ≡ room - 1
+    → two ≡ one ++ escaped (take mid word) → end ≡ mid - length word → text ++ escaped (take room (flat_map (λ w. space ∷ w) left)) ≡ whole
+    → two ++ escaped (take end (flat_map (λ w. space ∷ w) more)) ≡ whole
+word_told left more word text one two whole room mid end is first mid-is second end-is h =
+    let words = flat_map (λ w. space ∷ w) more in
+    let behind : two ++ escaped (take end words) ≡ one ++ escaped (take mid (word ++ words)) = room_told one two (word ++ words) word words mid end second end-is refl in
+    let all : one ++ escaped (take mid (word ++ words)) ≡ text ++ escaped (take room (space ∷ word ++ words)) = room_told text one (space ∷ word ++ words) (space ∷ []) (word ++ words) room mid first mid-is refl in
+    behind ∙ all ∙ ap (λ ws. text ++ escaped (take room (flat_map (λ w. space ∷ w) ws))) (sym is) ∙ h
