@@ -1,11 +1,11 @@
 -- The order of facts, and how often each is said, doesn't matter to the spool that is given for them; so the order of sessions doesn't.
 use Rattle.std.proofs.Common.{◌≡◌, ℕ, ◌+◌, Bool, cond, IsTrue, List, [], ◌∷◌, ◌++◌, Option, None, Some, is_some, inl, inr, refl, sym, ap, ap₂, subst, ◌∙◌}
 use Rattle.std.{proofs.{Common.{arith}, lemmas.Bool.{true≢false}}, specs.{Prelude.{IsFalse, unwrap_or, Contains}, List.{list_any, flat_map}, FinMap.{entries}}}
-use Rattle.nntp_article.specs.{Article.Parts.{Id}, Session.Spool.{Spool, Numbers, Name}, declared.session.profile.Profile.{Profile}}
+use Rattle.nntp_article.specs.{Article.{Parts.{Id, Line}, Fields.{Fields, made_head}}, Session.Spool.{Spool, Numbers, Name}, declared.session.profile.Profile.{Profile}}
 use Rattle.nntp_wire.specs.Session.{prompts_of}
 use Rattle.nntp_said.specs.{Asks.{Ask}, Facts.{Fact}}
 use Rattle.nntp_theory.specs.Given.{denies, demand_in, join, demand, wants, is_known, IsFirstFree, IsOneMore, IsGivenNumber, asks_in, asks_of, shows_group}
-use Rattle.nntp_theory.specs.Given.{mentions, first_given, id_in, id_shown, head_in, body_in, plain_head, invented, AreInvented, unshown_in, unshown_ids}
+use Rattle.nntp_theory.specs.Given.{mentions, first_given, id_in, id_shown, head_in, fields_in, body_in, invented, AreInvented, unshown_in, unshown_ids}
 use Rattle.nntp_theory.specs.{Given.{IsGiven, facts_of_session}, Together.{GiveOne}, Inner.Together.{Together}, declared.demand.Demand.{Demand}}
 use Rattle.nntp_theory.{specs.{declared.demand.Demand.TheVariants.{NoDemand}, Answered.{facts_of_all}}, proofs.GivenNumbers.JoinedDemands.{demand_append}}
 use Rattle.nntp_theory.proofs.{Given.{GivenHolds.{one_given}, OneGivenSpool.{given_once}, SessionsByFacts.{stand_each}}, Members.{In, any_in, found_in}}
@@ -114,7 +114,8 @@ module _ (xs ys : List Fact) (to : AreIn xs ys) (from : AreIn ys xs) (together :
         ids_shown = λ name n id i e. g.ids_shown name n id i (shown_same name n ∙ e);
         ids_invented = invented_same 0 (unshown_ids ys G) (subst (AreInvented xs 0) (unshown_same G) g.ids_invented);
         articles = grind (arith, any_same);
-        heads = λ id t e. g.heads id t e ∙ ap (λ o. unwrap_or o (plain_head id)) (first_same (head_in id) xs ys to from (together.heads id));
+        heads = λ id t e. g.heads id t e ∙ ap₂ (λ (sent : Option (List Line)) (told : Option Fields). unwrap_or sent (made_head id told))
+        (first_same (head_in id) xs ys to from (together.heads id)) (first_same (fields_in id) xs ys to from (together.fields id));
         bodies = λ id t e. g.bodies id t e ∙ ap (λ o. unwrap_or o []) (first_same (body_in id) xs ys to from (together.bodies id));
       }
 

@@ -27,12 +27,17 @@ const ROWS: &[Row] = &[
     (
         b"OVER <a@b>",
         b"224 x\r\n0\ts\tf\td\t<a@b>\r\n.\r\n",
-        &["article"],
+        &["fields"],
+    ),
+    (
+        b"OVER <a@b>",
+        b"224 x\r\n2\ts\tf\td\t<a@b>\r\n.\r\n",
+        &["fields", "id"],
     ),
     (
         b"OVER",
         b"224 x\r\n2\ts\tf\td\t<a@b>\r\n.\r\n",
-        &["article", "numbers", "id"],
+        &["fields", "numbers", "id"],
     ),
     (b"OVER", b"224 x\r\n.\r\n", &[]),
     (
@@ -51,6 +56,7 @@ fn first_of(facts: &SaidFacts<'_>) -> &'static str {
         Some(Fact::IdAt(_, _, _)) => "id",
         Some(Fact::TextIs { .. }) => "article",
         Some(Fact::NoArticle(_)) => "no article",
+        Some(Fact::FieldsAre { .. }) => "fields",
         Some(Fact::OverviewsAre { .. }) => "overviews",
         Some(Fact::GroupsAre { .. }) => "groups",
         None => "nothing",

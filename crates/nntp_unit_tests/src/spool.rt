@@ -1,5 +1,6 @@
-//! The text of a spool, read and written, and what a builder takes, refuses and builds.
+//! The text of a spool, read and written, what a builder takes, refuses and builds, and which overviews a spool explains.
 mod builders;
+mod overviews;
 mod texts;
 
 use nntp_spool::{Counts, Spool, Watched};

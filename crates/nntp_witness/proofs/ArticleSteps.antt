@@ -32,7 +32,7 @@ shown_has_article facts G given holds id t = let f = found_in (shows_article id)
     by (IdAt name n other) i t at = (given.articles id).1 (inl (name, n, at ∙ ap Some (same_text other id (sym t))))
     by (OverviewsAre name r os) i t held =
         let f = found_in (λ o. is_same o.id id) os t in
-        (given.articles id).1 (inl (name, f.0.number, all_at _ f.0 os held.1 f.1 ∙ ap Some (same_text f.0.id id (sym f.2))))
+        (given.articles id).1 (inl (name, f.0.number, (all_at _ f.0 os held.1 f.1).0 ∙ ap Some (same_text f.0.id id (sym f.2))))
     by fact i t at = grind (arith, any_in)
 
 -- ---- before the first

@@ -1,13 +1,13 @@
 -- What the given spool has is added to a part of it without a fault.
 use Rattle.std.proofs.{Common.{arith, ◌≡◌, ℕ, true, false, List, [], ◌∷◌, Option, None, Some, is_some, refl, sym, ap, subst, ◌∙◌}, lemmas.Bool.{true≢false}}
-use Rattle.std.{proofs.lemmas.{Bool.{false_from_ne_true, or_left, or_right}, Slice.Eq.{bytes_eq-Decides}}, specs.Prelude.{unwrap_or, IsFalse, bytes_eq}}
+use Rattle.std.{proofs.{Common.{ap₂}, lemmas.{Bool.{false_from_ne_true, or_left, or_right}, Slice.Eq.{bytes_eq-Decides}}}, specs.Prelude.{unwrap_or, option_map, IsFalse, bytes_eq}}
 use Rattle.std.specs.{List.{list_all}, Cmp.{nat_cmp_total}, FinMap.{get, entries, nat_cmp-IsAntisymmetric}}
-use Rattle.nntp_wire.{specs.{Decided.{is_group_name, is_message_id}, Limit.{greatest}, declared.limit.Limit.{Limit}}, proofs.OptionLemmas.{some_is}}
+use Rattle.nntp_wire.{specs.{Decided.{is_group_name, is_message_id}, Limit.{greatest}, Listing.{OverviewValue}, declared.limit.Limit.{Limit}}, proofs.OptionLemmas.{some_is}}
 use Rattle.nntp_article.specs.{Article.Parts.{Id, Line}, Session.{Machine.{is_article_number}, Spool.{Spool, Name, Numbers, Text, IsGroup, IsSpool, numbers}}}
-use Rattle.nntp_article.specs.Session.Spool.{is_line}
-use Rattle.nntp_said.specs.Facts.{Fact}
-use Rattle.nntp_theory.{specs.Given.{mentions, is_mentioned, first_given, head_in, body_in, plain_head, IsGiven}, proofs.Given.GivenHolds.{group_of_number}}
-use Rattle.nntp_theory.proofs.{Maps.{in_get}, Members.{found_in}}
+use Rattle.nntp_article.specs.{Session.Spool.{is_line}, Article.Fields.{Fields, fields_of_head, plain_head, made_head}}
+use Rattle.nntp_said.specs.Facts.{Fact, FieldsAre, OverviewsAre}
+use Rattle.nntp_theory.specs.Given.{mentions, is_mentioned, has_overview_of, first_given, head_in, fields_of_overview, fields_in, body_in, IsGiven}
+use Rattle.nntp_theory.proofs.{Maps.{in_get}, Members.{found_in}, Given.GivenHolds.{group_of_number}}
 use Rattle.nntp_facts.proofs.Keeping.SaidOfArticles.{head_of_text, body_of_text}
 use Rattle.nntp_spool.specs.{Inner.Building.{group_fault, number_fault, article_fault}, Content.{is_head_of}, Numbers.{has_id}}
 use Rattle.nntp_spool.proofs.WholeSpools.{content_of_spool}
@@ -65,24 +65,36 @@ article_fits limit G S is_spool id t at absent =
     let is = (content_of_spool (greatest limit) G is_spool).articles id t at in
     no_article_fault S id t is.is_id is.head_lines is.head is.body_lines absent
 
--- ---- an article of which nothing is sent
+-- ---- an article of which nothing is said
 
 -- a fact that does not mention an id sends no head of it
 silent_head : (id : Id) (fact : Fact) → mentions id fact ≡ false → head_in id fact ≡ None
 silent_head id fact e = grind (arith, head_of_text)
 
--- nor a body
+-- and overviews tell nothing of it
+silent_overviews : (id : Id) (os : List OverviewValue) → has_overview_of id os ≡ false → first_given (fields_of_overview id) os ≡ None
+silent_overviews id [] e = refl
+silent_overviews id (o ∷ os) e = grind (arith, false_from_ne_true, true≢false, or_left, or_right, silent_overviews id os)
+
+silent_fields : (id : Id) (fact : Fact) → mentions id fact ≡ false → fields_in id fact ≡ None
+silent_fields id (FieldsAre os) e = silent_overviews id os e
+silent_fields id (OverviewsAre name range os) e = silent_overviews id os e
+silent_fields id fact e = ap (option_map fields_of_head) (silent_head id fact e)
+
+-- nor is a body sent
 silent_body : (id : Id) (fact : Fact) → mentions id fact ≡ false → body_in id fact ≡ None
 silent_body id fact e = grind (arith, body_of_text)
 
 -- where no fact mentions it, nothing is given of it
-none_given : (id : Id) (f : Fact → Option (List Line)) (facts : List Fact) → ((fact : Fact) → mentions id fact ≡ false → f fact ≡ None) → is_mentioned facts id ≡ false → first_given f facts ≡ None
+none_given : {A : Type 0} (id : Id) (f : Fact → Option A) (facts : List Fact) → ((fact : Fact) → mentions id fact ≡ false → f fact ≡ None) → is_mentioned facts id ≡ false → first_given f facts ≡ None
 none_given id f [] silent e = refl
 none_given id f (fact ∷ facts) silent e = grind (arith, false_from_ne_true, true≢false, or_left, or_right, none_given id f facts silent)
 
 -- so the given article is plain
 pub plain_text : (facts : List Fact) (G : Spool) (id : Id) (t : Text) → IsGiven facts G → IsFalse (is_mentioned facts id) → get G.articles id ≡ Some t → t ≡ record { head = plain_head id; body = [] }
 plain_text facts G id t given silent at =
-    let head : t.head ≡ plain_head id = given.heads id t at ∙ ap (λ o. unwrap_or o (plain_head id)) (none_given id (head_in id) facts (silent_head id) silent) in
+    let sent = none_given id (head_in id) facts (silent_head id) silent in
+    let told = none_given id (fields_in id) facts (silent_fields id) silent in
+    let head : t.head ≡ plain_head id = given.heads id t at ∙ ap₂ (λ (sent : Option (List Line)) (told : Option Fields). unwrap_or sent (made_head id told)) sent told in
     let body : t.body ≡ [] = given.bodies id t at ∙ ap (λ o. unwrap_or o []) (none_given id (body_in id) facts (silent_body id) silent) in
     λ i. record { head = head i; body = body i }

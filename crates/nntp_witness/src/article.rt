@@ -1,26 +1,28 @@
 //! The parts of the articles of the given spool, of which less may be shown than they have.
-ghost use Rattle.std.specs.Prelude.{◌≡◌, [], IfOk, unwrap_or};
+ghost use Rattle.std.specs.Prelude.{◌≡◌, [], IfOk, IfSome, unwrap_or};
 ghost use Rattle.std.specs.Rc.{rc_str_bytes};
 ghost use Rattle.nntp_wire.specs.Name.{IsMessageId};
-ghost use Rattle.nntp_theory.specs.Given.{plain_head};
+ghost use Rattle.nntp_article.specs.Article.Fields.{made_head};
+ghost use Rattle.nntp_article.specs.Inner.Fields.{AreWords};
 ghost use Rattle.nntp_witness.specs.Inner.Making.{Makes};
 
+use nntp_article::{Fields, made_head};
 use nntp_facts::ShownArticle;
 use nntp_spool::SpoolFault;
 use nntp_wire::{MessageId, OwnedBlock};
 use std::alloc::{AllocError, Allocator};
 use std::rc::{Rc, RcStr};
 
-/// Returns the head as it was sent, or one that says the message-id and nothing else.
+/// Returns the head as it was sent, or one that says the message-id, and of four headers what overviews tell.
 pub(crate) fn given_head<A: Allocator + Copy>(
     alloc: A,
     shown: &ShownArticle<'_, A>,
 ) -> Result<Rc<OwnedBlock<A>, A>, SpoolFault>
-    ensures { IsMessageId shown.now.id → Makes result (λ head. head.value ≡ unwrap_or shown.now.head (plain_head shown.now.id)) }
+    ensures { IsMessageId shown.now.id → Makes result (λ head. head.value ≡ unwrap_or shown.now.head (made_head shown.now.id shown.now.fields)) }
 {
     match shown.head() {
         Some(head) => shared(head),
-        None => plain_head(alloc, shown.id()),
+        None => head_of(alloc, shown.id(), shown.fields()),
     }
 }
 
@@ -58,32 +60,32 @@ pub(crate) fn no_lines<A: Allocator + Copy>(alloc: A) -> Result<Rc<OwnedBlock<A>
     }
 }
 
-/// Makes a head that says the message-id and nothing else.
-pub(crate) fn plain_head<A: Allocator + Copy>(
+/// Makes a head that says the message-id, and of four headers what is told.
+pub(crate) fn head_of<A: Allocator + Copy>(
     alloc: A,
     id: &RcStr<A>,
+    told: Option<Fields<'_>>,
 ) -> Result<Rc<OwnedBlock<A>, A>, SpoolFault>
-    ensures { IsMessageId (rc_str_bytes id.now) → Makes result (λ head. head.value ≡ plain_head (rc_str_bytes id.now)) }
+    requires { IfSome told AreWords }
+    ensures { IsMessageId (rc_str_bytes id.now) → Makes result (λ head. head.value ≡ made_head (rc_str_bytes id.now) told.entry) }
 {
     let Some(id) = MessageId::parse(id.as_str().as_bytes()) else {
         return Err(SpoolFault::BadId);
     };
-    match head_line(alloc, &id) {
+    match shared_head(alloc, &id, told) {
         Ok(head) => Ok(head),
         Err(_) => Err(SpoolFault::Memory),
     }
 }
 
-/// Makes a block of the one line that says the message-id, in as much memory as it needs.
-fn head_line<A: Allocator + Copy>(
+/// Makes the head of a message-id, to be shared.
+fn shared_head<A: Allocator + Copy>(
     alloc: A,
     id: &MessageId<'_>,
+    told: Option<Fields<'_>>,
 ) -> Result<Rc<OwnedBlock<A>, A>, AllocError>
-    ensures { IfOk result (λ head. head.value ≡ plain_head id.now) }
+    requires { IfSome told AreWords }
+    ensures { IfOk result (λ head. head.value ≡ made_head id.now told.entry) }
 {
-    let mut line = Vec::from_slice(alloc, b"Message-ID: ")?;
-    line.extend_from_slice(id.as_slice())?;
-    let mut head = OwnedBlock::new(alloc);
-    head.push(&line)?;
-    Ok(Rc::new(alloc, head.as_block().to_owned(alloc)?)?)
+    Ok(Rc::new(alloc, made_head(alloc, id, told)?)?)
 }

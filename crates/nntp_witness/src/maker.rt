@@ -10,7 +10,7 @@ ghost use Rattle.nntp_spool.specs.Inner.Text.{IsWritten};
 ghost use Rattle.nntp_witness.specs.Inner.Witness.{HaveArticles, IsGivenSpool};
 ghost use Rattle.nntp_witness.specs.Inner.Making.{Makes, unseen_number, GroupsLeft, NumbersLeft, ArticlesLeft};
 
-use crate::article::{given_body, given_head, no_lines, plain_head};
+use crate::article::{given_body, given_head, head_of, no_lines};
 use crate::invented::invent;
 use nntp_facts::{Facts, ShownArticle, ShownGroup, ShownNumber, ShownNumbers, TakenGroups};
 use nntp_spool::{Spool, SpoolBuilder, SpoolFault};
@@ -134,7 +134,7 @@ impl<A: Allocator + Copy> SpoolMaker<A> {
         };
         self.next = invented.number + 1;
         self.builder.number_sharing(name, number, &invented.id)?;
-        let head = plain_head(self.alloc, &invented.id)?;
+        let head = head_of(self.alloc, &invented.id, None)?;
         self.builder
             .article_sharing(&invented.id, &head, &self.no_lines)
     }

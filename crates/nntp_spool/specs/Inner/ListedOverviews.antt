@@ -1,12 +1,8 @@
--- The overviews that OVER or XOVER lists of a range, against the numbers of a group (RFC 3977, section 8.3).
-use Rattle.std.specs.{Prelude.{◌≡◌, List, Some}, List.{AllByRecursion}, FinMap.{get}}
+-- The overviews that OVER or XOVER lists of a range, against the group and the articles of a spool (RFC 3977, section 8.3).
+use Rattle.std.specs.{Prelude.{◌≡◌, Some}, FinMap.{get}}
 use Rattle.nntp_wire.specs.Listing.{OverviewValue}
-use Rattle.nntp_article.specs.Session.Spool.{Numbers}
+use Rattle.nntp_article.specs.Session.{Spool.{Spool, Name, numbers}, Machine.{HasOverview}}
 
--- the overview has the id at its number
-abbrev pub HasId : Numbers → OverviewValue → Type 0
-HasId N overview = get N overview.number ≡ Some overview.id
-
--- so each of them
-abbrev pub HaveIds : Numbers → List OverviewValue → Type 0
-HaveIds N overviews = AllByRecursion (HasId N) overviews
+-- the overview has the id at its number in the group, and the article of the id tells the same
+abbrev pub StandsIn : Spool → Name → OverviewValue → Type 0
+StandsIn S name overview = (get (numbers S name) overview.number ≡ Some overview.id) × HasOverview S overview

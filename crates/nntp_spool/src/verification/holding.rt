@@ -15,7 +15,7 @@ use crate::value::content::Content;
 use crate::verification::asked_counts::AskedCounts;
 use crate::verification::last_group::LastGroup;
 use crate::verification::listed_groups::lists_groups;
-use crate::verification::listed_overviews::lists_overviews;
+use crate::verification::listed_overviews::{have_overviews, lists_overviews};
 use crate::verification::sent_lines::has_text;
 use nntp_article::Listed;
 use nntp_said::{Fact, SaidFacts};
@@ -85,6 +85,7 @@ fn holds<A: Allocator + Copy, S: Allocator>(
         Fact::IdAt(name, number, id) => Ok(group.has_id(*name, *number, *id)),
         Fact::TextIs { what, id, block } => Ok(sends(group.spool(), *what, *id, *block)),
         Fact::NoArticle(word) => Ok(!group.spool().knows(*word)),
+        Fact::FieldsAre { block } => Ok(have_overviews(group.spool(), block)),
         Fact::OverviewsAre { name, range, block } => {
             Ok(lists_overviews(group, *name, *range, *block, listed))
         }

@@ -3,9 +3,9 @@ use Rattle.std.specs.Prelude.{◌≡◌, ◌≢◌, ℕ, ◌<◌, ◌^◌, ◌==
 use Rattle.std.specs.{Prelude.{IsSome, unwrap_or, Result, Ok, Err}, List.{AllByRecursion, flat_map, list_any, Sorted.{IsStrictlySortedBy}}, Ordering.{nat_cmp}}
 use Rattle.std.specs.{Cmp.Lexicographic.{slice_cmp}, FinMap.{get}}
 use Rattle.nntp_wire.specs.declared.limit.Limit.{Limit}
-use Rattle.nntp_article.specs.{Article.Parts.{Id}, Session.{Machine.{is_same}, Spool.{Spool, Name, Numbers, Text, IsGroup, IsNumber, numbers}}}
+use Rattle.nntp_article.specs.{Article.{Parts.{Id}, Fields.{made_head}}, Session.{Machine.{is_same}, Spool.{Spool, Name, Numbers, Text, IsGroup, IsNumber, numbers}}}
 use Rattle.nntp_said.specs.Facts.{Fact}
-use Rattle.nntp_theory.specs.{Given.{id_shown, is_mentioned, plain_head, invented, AreInvented}, Together.{shows_article}}
+use Rattle.nntp_theory.specs.{Given.{id_shown, is_mentioned, invented, AreInvented}, Together.{shows_article}}
 use Rattle.nntp_facts.specs.Inner.Readers.{ShownGroup, ShownArticle, HasShownNumbers, IsShownArticle}
 use Rattle.nntp_spool.specs.{Inner.Building.{Building}, declared.value.spool_fault.SpoolFault.{SpoolFault, TheVariants.{Memory}}}
 
@@ -36,7 +36,7 @@ unshown_of G groups = flat_map (λ g. unshown_at (numbers G g.name) (given_numbe
 
 -- the article that is given where this is shown of it
 abbrev pub given_text : ShownArticle → Text
-given_text a = record { head = unwrap_or a.head (plain_head a.id); body = unwrap_or a.body [] }
+given_text a = record { head = unwrap_or a.head (made_head a.id a.fields); body = unwrap_or a.body [] }
 
 -- ---- what is made
 
