@@ -1,5 +1,6 @@
 //! The spool that is given for what answers say.
 use crate::ends::{add_marks, unseen_marks};
+use crate::fields::{add_lines, told_by_overview};
 use crate::numbers::least_free;
 use crate::said::Said;
 use crate::spool::{Article, Group, Numbered, Spool};
@@ -218,7 +219,7 @@ fn spelled(alloc: Global, number: u64) -> Result<Vec<u8>, AllocError> {
 fn article(alloc: Global, said: &Said<'_>, id: &[u8]) -> Result<Article, AllocError> {
     let head = match head_sent(said, id) {
         Some(lines) => copied(alloc, lines)?,
-        None => least_head(alloc, id)?,
+        None => made_head(alloc, said, id)?,
     };
     let body = match body_sent(said, id) {
         Some(lines) => copied(alloc, lines)?,
@@ -251,12 +252,15 @@ fn body_sent<'s, 'a>(said: &'s Said<'a>, id: &[u8]) -> Option<&'s [&'a [u8]]> {
     None
 }
 
-/// A head that says the id, and nothing else.
-fn least_head(alloc: Global, id: &[u8]) -> Result<Vec<Vec<u8>>, AllocError> {
+/// A head that says the id, and what the first overview of it tells.
+fn made_head(alloc: Global, said: &Said<'_>, id: &[u8]) -> Result<Vec<Vec<u8>>, AllocError> {
     let mut line = Vec::from_slice(alloc, b"Message-ID: ")?;
     line.extend_from_slice(id)?;
     let mut lines = Vec::new(alloc);
     lines.push(line)?;
+    if let Some(overview) = said.overviews.iter().find(|overview| overview.id == id) {
+        add_lines(alloc, &mut lines, &told_by_overview(alloc, overview.line)?)?;
+    }
     Ok(lines)
 }
 

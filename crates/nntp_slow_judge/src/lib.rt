@@ -7,6 +7,7 @@
 
 mod blocks;
 mod ends;
+mod fields;
 mod given;
 mod numbers;
 mod overviews;

@@ -1,11 +1,12 @@
 //! OVER and XOVER, where they are judged: what fits what was asked for, what it says, and whether a spool has that.
 use crate::blocks::is_in;
-use crate::said::Said;
-use crate::spool::Group;
+use crate::fields::{told_by_head, told_by_overview};
+use crate::said::{Overview, Said};
+use crate::spool::{Article, Group};
 use crate::standing::Standing;
 use crate::visible::Visible;
-use nntp_wire::{Block, OverviewKeyword, OverviewLine, Range, Which, WhichArticles};
-use std::alloc::AllocError;
+use nntp_wire::{Block, OverviewKeyword, OverviewLine, Range, Which, WhichArticles, overview_line};
+use std::alloc::{AllocError, Global};
 
 impl<'a> Visible<'a> {
     /// Whether a code alone fits.
@@ -61,7 +62,7 @@ impl<'a> Visible<'a> {
     /// Whether there is one overview, as of a success of STAT.
     fn overview_fits(&self, which: &Which<'_>, block: &Block<'_>) -> bool {
         match only(block) {
-            Some(overview) => self.number_fits(which, overview.number, &overview.id),
+            Some((overview, _)) => self.number_fits(which, overview.number, &overview.id),
             None => false,
         }
     }
@@ -79,14 +80,14 @@ fn ids_differ(block: &Block<'_>) -> bool {
     true
 }
 
-/// The overview, if there is just one.
-fn only<'a>(block: &Block<'a>) -> Option<OverviewLine<'a>> {
-    let mut overviews = block.overviews();
-    let first = overviews.next();
-    if overviews.next().is_some() {
+/// The overview and its line, if there is just one.
+fn only<'a>(block: &Block<'a>) -> Option<(OverviewLine<'a>, &'a [u8])> {
+    let mut lines = block.lines();
+    let first = lines.next()?;
+    if lines.next().is_some() {
         return None;
     }
-    first
+    Some((overview_line(first)?, first))
 }
 
 impl<'a> Said<'a> {
@@ -100,13 +101,19 @@ impl<'a> Said<'a> {
             (WhichArticles::Range(range), Some(group)) => self.hear_range(group, range, block),
             (WhichArticles::Range(_), None) => Ok(()),
             _ => match only(block) {
-                Some(overview) => self.hear_overview(which, &overview),
+                Some((overview, line)) => self.hear_overview(which, &overview, line),
                 None => Ok(()),
             },
         }
     }
 
-    /// The numbers of a range, each with its id, and no others.
+    /// What an overview tells of its article.
+    fn tell(&mut self, id: &'a [u8], line: &'a [u8]) -> Result<(), AllocError> {
+        self.overviews.push(Overview { id, line })?;
+        Ok(())
+    }
+
+    /// The numbers of a range, each with its id and with what is told of it, and no others.
     fn hear_range(
         &mut self,
         group: &'a [u8],
@@ -114,25 +121,28 @@ impl<'a> Said<'a> {
         block: &Block<'a>,
     ) -> Result<(), AllocError> {
         let mut from = range.first;
-        for overview in block.overviews() {
+        for (overview, line) in block.overviews().zip(block.lines()) {
             let number = overview.number;
             let id = overview.id.as_slice();
             self.deny(group, from, number.saturating_sub(1))?;
             self.mention(id)?;
             self.show(group, number, Some(id))?;
+            self.tell(id, line)?;
             from = number.saturating_add(1);
         }
         self.deny(group, from, range.last.unwrap_or(u64::MAX))
     }
 
-    /// An article, with its number and its id.
+    /// An article, with its number, its id, and what is told of it.
     fn hear_overview(
         &mut self,
         which: &WhichArticles<'a>,
         overview: &OverviewLine<'a>,
+        line: &'a [u8],
     ) -> Result<(), AllocError> {
         let id = overview.id.as_slice();
         self.hear_stat(id)?;
+        self.tell(id, line)?;
         let (Some(group), true) = (self.stands().0, overview.number != 0) else {
             return Ok(());
         };
@@ -164,40 +174,70 @@ impl<'a> Said<'a> {
 
 impl<'s> Standing<'s> {
     /// Whether what overviews say is so.
-    pub(crate) fn has_overviews(&self, which: &WhichArticles<'_>, block: &Block<'_>) -> bool {
+    pub(crate) fn has_overviews(
+        &self,
+        which: &WhichArticles<'_>,
+        block: &Block<'_>,
+    ) -> Result<bool, AllocError> {
+        Ok(self.has_places(which, block) && self.has_articles(block)?)
+    }
+
+    /// Whether the articles of overviews are where they say.
+    fn has_places(&self, which: &WhichArticles<'_>, block: &Block<'_>) -> bool {
         match (which, only(block)) {
             (WhichArticles::Range(range), _) => {
                 self.group()
                     .is_some_and(|group| group.is_range(range, block))
             }
-            (WhichArticles::Id(_), Some(overview)) => { self.has_overview(&overview) }
-            (WhichArticles::Current, Some(overview)) => {
-                self.has_overview(&overview) && self.number() == Some(overview.number)
+            (WhichArticles::Id(_), Some((overview, _))) => self.has_place(&overview),
+            (WhichArticles::Current, Some((overview, _))) => {
+                self.has_place(&overview) && self.number() == Some(overview.number)
             }
             (_, None) => false,
         }
     }
 
-    /// Whether there is the article of an overview, at its number if that isn't 0.
-    fn has_overview(&self, overview: &OverviewLine<'_>) -> bool {
-        let id = overview.id.as_slice();
+    /// Whether the id of an overview is at its number, if that isn't 0.
+    fn has_place(&self, overview: &OverviewLine<'_>) -> bool {
         let is_there = match self.group() {
-            Some(group) => group.has_at(overview.number, id),
+            Some(group) => group.has_at(overview.number, overview.id.as_slice()),
             None => false,
         };
-        self.has_article(id) && (overview.number == 0 || is_there)
+        overview.number == 0 || is_there
+    }
+
+    /// Whether there are the articles of overviews, each of which tells what its overview tells.
+    fn has_articles(&self, block: &Block<'_>) -> Result<bool, AllocError> {
+        for (overview, line) in block.overviews().zip(block.lines()) {
+            let tells = match self.article(overview.id.as_slice()) {
+                Some(article) => article.tells(self.alloc(), line)?,
+                None => false,
+            };
+            if !tells {
+                return Ok(false);
+            }
+        }
+        Ok(true)
     }
 
     /// Whether what a code alone says is so.
     pub(crate) fn has_no_overview(&self, which: &WhichArticles<'_>, code: u64) -> bool {
         match (which, code) {
-            (WhichArticles::Id(word), 430) => !self.has_article(*word),
+            (WhichArticles::Id(word), 430) => self.article(*word).is_none(),
             (WhichArticles::Range(range), 420 | 423) => {
                 !self.group().is_some_and(|group| group.has_within(range))
             }
             (WhichArticles::Current, 420) => self.number().is_none(),
             _ => true,
         }
+    }
+}
+
+impl Article {
+    /// Whether its head tells what an overview tells.
+    fn tells(&self, alloc: Global, line: &[u8]) -> Result<bool, AllocError> {
+        let told = told_by_head(alloc, self.head.as_slice())?;
+        Ok(told == told_by_overview(alloc, line)?)
     }
 }
 

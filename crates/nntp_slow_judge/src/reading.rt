@@ -109,7 +109,8 @@ impl<'a> Reading<'a> {
         }
         let is_had = match given_spool(self.alloc, self.choice, &said)? {
             Some(spool) => {
-                told.is_had(&spool, self.choice.marks) && self.are_had(reasons, left_out, &spool)
+                told.is_had(self.alloc, &spool, self.choice.marks)?
+                    && self.are_had(reasons, left_out, &spool)?
             }
             None => false,
         };
@@ -138,17 +139,22 @@ impl<'a> Reading<'a> {
     }
 
     /// Whether the spool has what the accepted answers of these indexes say.
-    fn are_had(&self, indexes: &[u64], left_out: Option<u64>, spool: &Spool) -> bool {
+    fn are_had(
+        &self,
+        indexes: &[u64],
+        left_out: Option<u64>,
+        spool: &Spool,
+    ) -> Result<bool, AllocError> {
         for index in indexes {
             let is_had = match self.accepted(*index) {
-                Some(told) => told.is_had(spool, self.choice.marks),
+                Some(told) => told.is_had(self.alloc, spool, self.choice.marks)?,
                 None => false,
             };
             if left_out != Some(*index) && !is_had {
-                return false;
+                return Ok(false);
             }
         }
-        true
+        Ok(true)
     }
 
     /// Accepts the next exchange, or leaves it out.

@@ -44,6 +44,13 @@ pub(crate) struct Sent<'a> {
     pub(crate) body: Option<Vec<&'a [u8]>>,
 }
 
+/// An overview of an id.
+#[derive(Clone, Copy)]
+pub(crate) struct Overview<'a> {
+    pub(crate) id: &'a [u8],
+    pub(crate) line: &'a [u8],
+}
+
 /// What was said so far, in lists.
 pub(crate) struct Said<'a> {
     alloc: Global,
@@ -56,6 +63,7 @@ pub(crate) struct Said<'a> {
     pub(crate) unseen: Vec<Unseen<'a>>,
     pub(crate) mentioned: Vec<&'a [u8]>,
     pub(crate) sent: Vec<Sent<'a>>,
+    pub(crate) overviews: Vec<Overview<'a>>,
 }
 
 /// By hand, since a derived one is checked list by list at each place where what was said may be dropped.
@@ -72,6 +80,7 @@ impl<'a> Drop for Said<'a> {
             unseen: _,
             mentioned: _,
             sent: _,
+            overviews: _,
         } = self;
     }
 }
@@ -89,6 +98,7 @@ impl<'a> Said<'a> {
             unseen: Vec::new(alloc),
             mentioned: Vec::new(alloc),
             sent: Vec::new(alloc),
+            overviews: Vec::new(alloc),
         }
     }
 

@@ -1,5 +1,5 @@
 //! Where a session stands over a spool, and whether the spool has what is answered there.
-use crate::spool::{Group, Spool};
+use crate::spool::{Article, Group, Spool};
 use crate::visible::{Visible, is_generic};
 use nntp_pair::Exchange;
 use nntp_wire::{Answer, Block, Command, Marks, Prompt, WaterMarks, What, Which};
@@ -8,6 +8,7 @@ use std::alloc::{AllocError, Global};
 /// A spool, how the marks of a 211 are read, the selected group, and the number of the current article.
 #[derive(Clone, Copy)]
 pub(crate) struct Standing<'s> {
+    alloc: Global,
     spool: &'s Spool,
     marks: Marks,
     selected: Option<&'s Group>,
@@ -16,8 +17,9 @@ pub(crate) struct Standing<'s> {
 
 impl<'s> Standing<'s> {
     /// Before the greeting.
-    fn new(spool: &'s Spool, marks: Marks) -> Standing<'s> {
+    fn new(alloc: Global, spool: &'s Spool, marks: Marks) -> Standing<'s> {
         Standing {
+            alloc,
             spool,
             marks,
             selected: None,
@@ -27,12 +29,13 @@ impl<'s> Standing<'s> {
 
     /// In this group at this number; without a number, at the first of the group.
     pub(crate) fn at(
+        alloc: Global,
         spool: &'s Spool,
         marks: Marks,
         selected: Option<&[u8]>,
         current: Option<u64>,
     ) -> Standing<'s> {
-        let mut standing = Standing::new(spool, marks);
+        let mut standing = Standing::new(alloc, spool, marks);
         if let Some(name) = selected {
             standing.select(name);
         }
@@ -55,7 +58,9 @@ impl<'s> Standing<'s> {
     /// Goes where an answer leads. A greeting begins a session, in which no group is selected.
     fn pass(&mut self, exchange: &Exchange<'_>) {
         match (exchange.prompt(), exchange.answer()) {
-            (Prompt::Greeting, _) => *self = Standing::new(self.spool, self.marks),
+            (Prompt::Greeting, _) => {
+                *self = Standing::new(self.alloc, self.spool, self.marks);
+            }
             (_, Answer::Group { name, .. }) => self.select(name.as_slice()),
             (_, Answer::Numbers { name, .. }) => self.select(name.as_slice()),
             (
@@ -74,11 +79,11 @@ impl<'s> Standing<'s> {
     }
 
     /// Whether the spool has what an answer that fits says.
-    pub(crate) fn has(&self, exchange: &Exchange<'_>) -> bool {
+    pub(crate) fn has(&self, exchange: &Exchange<'_>) -> Result<bool, AllocError> {
         let Prompt::To(command) = exchange.prompt() else {
-            return true;
+            return Ok(true);
         };
-        match exchange.answer() {
+        Ok(match exchange.answer() {
             Answer::Plain { code } => is_generic(*code) || self.has_code(command, *code),
             Answer::Group { marks, name } => self.has_marks(name.as_slice(), *marks),
             Answer::Numbers { marks, name, block } => {
@@ -96,10 +101,10 @@ impl<'s> Standing<'s> {
                 _ => false,
             },
             Answer::Overviews(block) => match command {
-                Command::Over { which, .. } => self.has_overviews(which, block),
+                Command::Over { which, .. } => self.has_overviews(which, block)?,
                 _ => false,
             },
-        }
+        })
     }
 
     /// Whether what a code alone says is so: what isn't named here says nothing of a spool.
@@ -152,9 +157,14 @@ impl<'s> Standing<'s> {
         self.current
     }
 
-    /// Whether an id has an article.
-    pub(crate) fn has_article(&self, id: &[u8]) -> bool {
-        self.spool.article(id).is_some()
+    /// The article of an id.
+    pub(crate) fn article(&self, id: &[u8]) -> Option<&'s Article> {
+        self.spool.article(id)
+    }
+
+    /// Of which memory is taken.
+    pub(crate) fn alloc(&self) -> Global {
+        self.alloc
     }
 
     /// The least number of the group above the current one.
@@ -242,10 +252,10 @@ pub(crate) fn count_permitted(
     exchanges: &[&Exchange<'_>],
 ) -> Result<usize, AllocError> {
     let mut visible = Visible::new(alloc, spool.limit);
-    let mut standing = Standing::new(spool, marks);
+    let mut standing = Standing::new(alloc, spool, marks);
     let mut count = 0usize;
     for exchange in exchanges {
-        if !visible.fits(*exchange) || !standing.has(*exchange) {
+        if !visible.fits(*exchange) || !standing.has(*exchange)? {
             return Ok(count);
         }
         visible.pass(*exchange)?;

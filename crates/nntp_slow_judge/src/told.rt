@@ -4,7 +4,7 @@ use crate::spool::Spool;
 use crate::standing::Standing;
 use nntp_pair::Exchange;
 use nntp_wire::Marks;
-use std::alloc::AllocError;
+use std::alloc::{AllocError, Global};
 
 /// An answer where it stands.
 #[derive(Drop)]
@@ -45,7 +45,12 @@ impl<'a> Told<'a> {
 
     /// Whether the spool has what the answer says where it stands. Its group needn't have the number of the current
     /// article, since by itself the answer doesn't say so. Where that number isn't shown, it is the first of the group.
-    pub(crate) fn is_had(&self, spool: &Spool, marks: Marks) -> bool {
-        Standing::at(spool, marks, self.selected, self.current).has(&self.exchange)
+    pub(crate) fn is_had(
+        &self,
+        alloc: Global,
+        spool: &Spool,
+        marks: Marks,
+    ) -> Result<bool, AllocError> {
+        Standing::at(alloc, spool, marks, self.selected, self.current).has(&self.exchange)
     }
 }

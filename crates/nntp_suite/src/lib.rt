@@ -8,6 +8,8 @@ mod cuts;
 #[cfg(test)]
 mod marks;
 #[cfg(test)]
+mod overview_fields;
+#[cfg(test)]
 mod overview_verdicts;
 #[cfg(test)]
 mod overviews;

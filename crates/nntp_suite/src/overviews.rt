@@ -6,8 +6,11 @@ use nntp_wire::{Limit, Marks, Overviews};
 use std::alloc::Global;
 use std::test::Fail;
 
-/// Both streams, how many answers are right, and the class of the one behind them, if that is bad.
-type Row = (&'static [u8], &'static [u8], (u64, Option<Class>));
+/// How many answers are right, and the class of the one behind them, if that is bad.
+pub(crate) type End = (u64, Option<Class>);
+
+/// Both streams, and how the session ends.
+pub(crate) type Row = (&'static [u8], &'static [u8], End);
 
 /// Sessions that ask for ranges of a group.
 const RANGES: &[Row] = &[
@@ -146,7 +149,7 @@ const ARTICLES: &[Row] = &[
 ];
 
 /// How the noting of a session ends, where OVER and XOVER are judged.
-fn noted(alloc: Global, client: &[u8], server: &[u8]) -> Result<(u64, Option<Class>), Stop> {
+pub(crate) fn noted(alloc: Global, client: &[u8], server: &[u8]) -> Result<End, Stop> {
     let (limit, marks) = (Limit::Narrow, Marks::Lenient);
     match note_taking(alloc, limit, marks, Overviews::Judged, client, server) {
         Ok(whole) => Ok((whole.answers, whole.class)),
@@ -156,7 +159,7 @@ fn noted(alloc: Global, client: &[u8], server: &[u8]) -> Result<(u64, Option<Cla
 }
 
 /// Each session ends as its row says.
-fn expect(alloc: Global, rows: &[Row]) -> Result<(), Fail> {
+pub(crate) fn expect(alloc: Global, rows: &[Row]) -> Result<(), Fail> {
     for (row, &(client, server, wanted)) in rows.iter().enumerate() {
         let outcome = noted(alloc, client, server);
         if outcome != Ok(wanted) {
