@@ -10,7 +10,7 @@ use Rattle.nntp_theory.specs.{Inner.Together.{join_said, Together, JoinNames, Jo
 use Rattle.nntp_theory.proofs.Together.{TwoListsOfFacts.{given_append}, FactsJoin.{asks_append}, FactsOfASpoolStand.{same_itself}}
 use Rattle.nntp_theory.proofs.{Members.{all_both}, Together.ListedOverviews.{alone_agrees}}
 use Rattle.nntp_theory.proofs.Ids.OnePlaceOfAnId.{agree_together, shown_with_id}
-use Rattle.nntp_facts.specs.Inner.Saying.{OfGroup, OfArticle, Lacks, Exists, Tells, Saying, asked_id, sent_facts, lack_facts, there_facts, missing_facts, groups_facts}
+use Rattle.nntp_facts.specs.Inner.Saying.{OfGroup, OfArticle, Lacks, Exists, Describes, Saying, asked_id, sent_facts, lack_facts, there_facts, missing_facts, groups_facts}
 use Rattle.nntp_facts.specs.Inner.{Saying.{id_facts, group_facts, facts_in, MaySay, IsToExist, MayBeOf, IsShownThen}, Kept.{told, Told, IsUntold, AreKept}}
 use Rattle.nntp_facts.specs.Inner.{Kept.{AreKeptGroups, with_part, Changes, Agree, IsShownAt, MayShow, AreKeptWith, id_of, place_of}, KeptSaying.{GroupJoins}}
 use Rattle.nntp_facts.{specs.Inner.KeptSaying.{JoinGroups, said_in, ArticleJoins}, proofs.Keeping.{KeptNamesAndGroups.{groups_kept}, KeptGroups.{Groups}}}
@@ -24,19 +24,19 @@ use Rattle.nntp_numbers.specs.Inner.{Summary.{AreBounded}, Part.{Says}}
 
 -- of each id the facts of the article's part, and the id at a number, say what that part does
 of_part : (a : Option (Id × OfArticle)) (name : Name) (e : Option (ℕ × Id)) → IfSome e (λ e. IsToExist a e.1) → ((other : Id) → a ≡ Some (other, Exists) → MatchOption e ⊥ (λ e. e.1 ≡ other))
-    → ((other : Id) (os : List OverviewValue) → a ≡ Some (other, Tells os) → MatchOption (only os) ⊥ (λ o. o.id ≡ other)) → (id : Id) → join_said (said_of (sent_facts a) id) (join_said (said_of (id_facts name e) id) (said_of (lack_facts a) id)) ≡ said_in a id
+    → ((other : Id) (os : List OverviewValue) → a ≡ Some (other, Describes os) → MatchOption (only os) ⊥ (λ o. o.id ≡ other)) → (id : Id) → join_said (said_of (sent_facts a) id) (join_said (said_of (id_facts name e) id) (said_of (lack_facts a) id)) ≡ said_in a id
 of_part None name None placed may one id = refl
 of_part None name (Some e) placed may one id = absurd placed
 of_part (Some (other, Lacks)) name None placed may one id = lack_said other id
 of_part (Some (other, Lacks)) name (Some e) placed may one id = absurd placed
 of_part (Some (other, Exists)) name None placed may one id = absurd (may other refl)
-of_part (Some (other, Tells os)) name None placed may one id = ap (λ s. join_said s said_nothing) (overview_said other os (one other os refl) id) ∙ nothing_more (said_in (Some (other, Tells os)) id)
-of_part (Some (other, Tells os)) name (Some e) placed may one id = grind (arith, nothing_more, there_said, overview_said other os (one other os refl) id, overview_at)
+of_part (Some (other, Describes os)) name None placed may one id = ap (λ s. join_said s said_nothing) (overview_said other os (one other os refl) id) ∙ nothing_more (said_in (Some (other, Describes os)) id)
+of_part (Some (other, Describes os)) name (Some e) placed may one id = grind (arith, nothing_more, there_said, overview_said other os (one other os refl) id, overview_at)
 of_part s name d placed may one id = grind (arith, nothing_more, there_said, text_said, text_at)
 
 -- an overview agrees with itself, as it is the only one
 part_agrees : (group : Option OfGroup) (a : Option (Id × OfArticle)) → IfSome a (MayBeOf group) → AllByRecursion AgreesWithItself (sent_facts a)
-part_agrees group (Some (id, Tells (o ∷ []))) may = (alone_agrees o, tt)
+part_agrees group (Some (id, Describes (o ∷ []))) may = (alone_agrees o, tt)
 part_agrees group a may = grind arith
 
 -- of the parts none is a list of overviews of a range
@@ -81,7 +81,7 @@ module _ (facts : List Fact) (s : Saying) (asks : List Ask) (no_list : s.groups 
   exists_at : (other : Id) → s.article ≡ Some (other, Exists) → MatchOption s.group ⊥ (λ g. MatchOption g.id ⊥ (λ e. e.1 ≡ other))
   exists_at other is = subst (λ a. IfSome a (MayBeOf s.group)) is may.article
 
-  only_told : (other : Id) (os : List OverviewValue) → s.article ≡ Some (other, Tells os) → MatchOption (only os) ⊥ (λ o. o.id ≡ other)
+  only_told : (other : Id) (os : List OverviewValue) → s.article ≡ Some (other, Describes os) → MatchOption (only os) ⊥ (λ o. o.id ≡ other)
   only_told other os is = subst (λ a. IfSome a (MayBeOf s.group)) is may.article
 
   -- of each id all facts say what the article's part does

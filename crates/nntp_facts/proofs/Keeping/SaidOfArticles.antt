@@ -6,7 +6,7 @@ use Rattle.nntp_article.specs.{Article.{Parts.{Id, Line}, Fields.{fields_told}},
 use Rattle.nntp_said.specs.Facts.{Fact, IdAt, TextIs, NoArticle, FieldsAre}
 use Rattle.nntp_theory.specs.{Given.{head_in, body_in}, Inner.Together.{SaidOfArticle, said_of, said_nothing, join_said, JoinArticle, JoinArticles}}
 use Rattle.nntp_theory.proofs.Together.TwoListsOfFacts.{given_append, or_none}
-use Rattle.nntp_facts.specs.Inner.{Kept.{KeptArticle, said_kept, AreKeptArticles}, Articles.{head_sent, body_sent, telling}, Saying.{Lacks, Exists, Sends, Tells}, KeptSaying.{said_in}}
+use Rattle.nntp_facts.specs.Inner.{Kept.{KeptArticle, said_kept, AreKeptArticles}, Articles.{head_sent, body_sent, telling}, Saying.{Lacks, Exists, Sends, Describes}, KeptSaying.{said_in, said_alone}}
 use Rattle.nntp_facts.proofs.Keeping.FactsOfParts.{IsRead}
 
 -- ---- one list behind the other
@@ -57,9 +57,9 @@ pub text_said : (what : What) (other : Id) (lines : Option (List Line)) (id : Id
 text_said what other lines id = grind arith
 
 -- an overview that was asked for alone tells of an article
-pub overview_said : (other : Id) (os : List OverviewValue) → MatchOption (only os) ⊥ (λ o. o.id ≡ other) → (id : Id) → said_of (FieldsAre os ∷ []) id ≡ said_in (Some (other, Tells os)) id
+pub overview_said : (other : Id) (os : List OverviewValue) → MatchOption (only os) ⊥ (λ o. o.id ≡ other) → (id : Id) → said_of (FieldsAre os ∷ []) id ≡ said_in (Some (other, Describes os)) id
 overview_said other [] is id = absurd is
-overview_said other (o ∷ []) is id = subst (λ other. said_of (FieldsAre (o ∷ []) ∷ []) id ≡ said_in (Some (other, Tells (o ∷ []))) id) is (by (is_same o.id id))
+overview_said other (o ∷ []) is id = subst (λ other. said_of (FieldsAre (o ∷ []) ∷ []) id ≡ said_in (Some (other, Describes (o ∷ []))) id) is (by (is_same o.id id))
   where
     by : (b : Bool) → record {
       is_mentioned = (b || false) || false;
@@ -76,10 +76,16 @@ overview_said other (o ∷ p ∷ os) is id = absurd is
 
 -- who tells of an article needn't say that its id stands at a number
 pub overview_at : (other : Id) (os : List OverviewValue) (id : Id)
-    → join_said (said_in (Some (other, Tells os)) id) (said_in (Some (other, Exists)) id) ≡ said_in (Some (other, Tells os)) id
+    → join_said (said_in (Some (other, Describes os)) id) (said_in (Some (other, Exists)) id) ≡ said_in (Some (other, Describes os)) id
 overview_at other os id = grind (arith, or_none)
 
 -- who sends something of an article needn't say that its id stands at a number
 pub text_at : (what : What) (other : Id) (lines : Option (List Line)) (id : Id)
     → join_said (said_in (Some (other, Sends what lines)) id) (said_in (Some (other, Exists)) id) ≡ said_in (Some (other, Sends what lines)) id
 text_at what other lines id = grind arith
+
+-- where only one overview tells, and it is that of the id, all that is said is what it tells
+pub first_said : (os : List OverviewValue) (o : OverviewValue) (rest : List OverviewValue) (id : Id) → os ≡ o ∷ rest → MatchOption (only os) ⊥ (λ o. o.id ≡ id)
+    → said_alone o.id (telling true (Some (fields_told o))) ≡ said_in (Some (id, Describes os))
+first_said os o [] id is one = (λ i. said_alone (subst (λ os. MatchOption (only os) ⊥ (λ o. o.id ≡ id)) is one i) (telling true (Some (fields_told o)))) ∙ ap (λ os. said_in (Some (id, Describes os))) (sym is)
+first_said os o (v ∷ rest) id is one = absurd (subst (λ os. MatchOption (only os) ⊥ (λ o. o.id ≡ id)) is one)

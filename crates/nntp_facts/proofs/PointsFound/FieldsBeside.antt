@@ -8,7 +8,7 @@ use Rattle.nntp_said.specs.Facts.{Fact}
 use Rattle.nntp_theory.specs.{Given.{first_given, fields_in, fields_of_overview}, Together.{GiveOne}, Inner.Together.{SaidOfArticle, said_nothing, AreSame}}
 use Rattle.nntp_theory.{specs.Conflict.{Point, FieldOf, ConflictAt, words_told}, proofs.{Members.{In, all_at, all_from, part_first}, PointsByRank.{of_rank}}}
 use Rattle.nntp_theory.proofs.Together.{TwoListsOfFacts.{give_one_both, give_same_of_both}, ListedOverviews.{told_by}}
-use Rattle.nntp_facts.specs.Inner.{Kept.{Kept, said_kept}, Articles.{head_sent}, Saying.{OfArticle, Sends, Tells, MayBeOf}, KeptSaying.{said_in, said_listed, kept_by}}
+use Rattle.nntp_facts.specs.Inner.{Kept.{Kept, said_kept}, Articles.{head_sent}, Saying.{OfArticle, Sends, Describes, MayBeOf}, KeptSaying.{said_in, said_listed, kept_by}}
 use Rattle.nntp_facts.specs.Inner.Points.{IsPointOf, IsBeside, IsFieldOf, IsFieldAmong, IsOtherField, OneTellsOther, Statement, said_by}
 use Rattle.nntp_facts.proofs.Keeping.{OverviewsTold.{of_range}, ListedOverviews.{own_agree}}
 use Rattle.nntp_facts.proofs.PointsFound.{StatementsRead.{article_told}, KindsOfPoints.{alone_once}, ArticlesBeside.{own, others, said_plain}}
@@ -50,10 +50,13 @@ module _ (profile : Profile) (facts : List Fact) (k : Kept) (t : Statement) (mor
 
   -- where it was, they do
   other_point : (id : Id) (point : Point) → IsOtherField k id (said_by t.saying id).fields point → IsPointOf all 10 (Some point)
-  other_point id point (field, is, other) = subst (λ point. IsPointOf all 10 (Some point)) (sym is) ((λ one. by (said_by t.saying id).fields (said_kept (get k.articles id)).fields
-      (part_first (λ fields. words_in fields field) (fields_in id) more ∙ ap (option_map (λ fields. words_in fields field)) (given id))
-      (part_first (λ fields. words_in fields field) (fields_in id) facts ∙ ap (option_map (λ fields. words_in fields field)) (sym (kept_is id)))
-      other (give_same_of_both (words_told id field) facts more one)), refl)
+  other_point id point (field, is, other) = subst (λ point. IsPointOf all 10 (Some point)) (sym is) (
+    (λ one. by (said_by t.saying id).fields (said_kept (get k.articles id)).fields
+        (part_first (λ fields. words_in fields field) (fields_in id) more ∙ ap (option_map (λ fields. words_in fields field)) (given id))
+        (part_first (λ fields. words_in fields field) (fields_in id) facts ∙ ap (option_map (λ fields. words_in fields field)) (sym (kept_is id)))
+        other (give_same_of_both (words_told id field) facts more one)),
+    refl,
+  )
     where
       by : (x y : Option Fields) → first_given (words_told id field) more ≡ option_map (λ fields. words_in fields field) x
           → first_given (words_told id field) facts ≡ option_map (λ fields. words_in fields field) y
@@ -119,9 +122,9 @@ module _ (profile : Profile) (facts : List Fact) (k : Kept) (t : Statement) (mor
       (ap (option_map fields_of_head) (is (subst (λ o. IfSome o (MayBeOf t.saying.group)) e h.tells.tells.may.article)))
 
   -- of an overview that was asked for alone
-  pub overview_point : (id : Id) (os : List OverviewValue) → t.saying.article ≡ Some (id, Tells os) → (p : Option Point) → IsFieldAmong k os p → IsPointOf all 10 p
+  pub overview_point : (id : Id) (os : List OverviewValue) → t.saying.article ≡ Some (id, Describes os) → (p : Option Point) → IsFieldAmong k os p → IsPointOf all 10 p
   overview_point id os e p among =
-      field_point id (Tells os) e (option_map fields_told (only os)) refl p
+      field_point id (Describes os) e (option_map fields_told (only os)) refl p
       (one_point os id (subst (λ o. IfSome o (MayBeOf t.saying.group)) e h.tells.tells.may.article) p among)
     where
       one_point : (os : List OverviewValue) (id : Id) → MatchOption (only os) ⊥ (λ o. o.id ≡ id) → (p : Option Point) → IsFieldAmong k os p → IsFieldOf k id (option_map fields_told (only os)) p

@@ -9,9 +9,13 @@ returns-then-not-may_give g c facts kept =
     grind (arith, true≢false, joins, c.may_give.ensures (told facts) kept.groups, c.if-not-may_give.true, c.loop-overview.invariant.2 facts kept)
 
 pub loop-overview-preserved : goal.loop-overview-preserved
-loop-overview-preserved g c = (tt, tt, λ facts kept.
-    let joins = gives_joins facts c.args.name.now c.args.self.now (overview_value c.in-Some.overview) kept in
-    grind (arith, joins, c.may_give.ensures (told facts) kept.groups, c.if-not-may_give.false, c.loop-overview.invariant.2 facts kept))
+loop-overview-preserved g c = (
+  tt,
+  tt,
+  λ facts kept.
+      let joins = gives_joins facts c.args.name.now c.args.self.now (overview_value c.in-Some.overview) kept in
+      grind (arith, joins, c.may_give.ensures (told facts) kept.groups, c.if-not-may_give.false, c.loop-overview.invariant.2 facts kept),
+)
 
 pub returns : goal.returns
 returns g c facts kept = grind (arith, c.loop-overview.invariant.2 facts kept)

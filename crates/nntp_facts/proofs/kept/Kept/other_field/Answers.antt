@@ -1,6 +1,6 @@
 use Rattle.std.{proofs.Common.{rules, ◌≡◌, None, Some, refl, ap}, specs.Prelude.{option_map}}
 use Rattle.nntp_wire.specs.Listing.{overviews_of}
-use Rattle.nntp_facts.specs.Inner.{Saying.{Lacks, Exists, Sends, Tells}, SayingView.{article_said, overviews_said}, PointView.{point_of}, StatementView.{statement_of}}
+use Rattle.nntp_facts.specs.Inner.{Saying.{Lacks, Exists, Sends, Describes}, SayingView.{article_said, overviews_said}, PointView.{point_of}, StatementView.{statement_of}}
 use Rattle.nntp_facts.proofs.PointsFound.FieldsBeside.{listed_field, no_field, field_point, head_point, overview_point}
 use Rattle.nntp_facts.proofs.kept.Kept.other_field.Goals as goal
 
@@ -34,10 +34,10 @@ returns-in-Some-Sends g c profile facts more h =
     head_point profile facts c.args.self.now (statement_of c.args.told.now) more h id w.what lines said c.of.result.head (c.of.ensures.head id)
     (option_map point_of c.other_field_sent.result) c.other_field_sent.ensures
 
-pub returns-in-Some-Tells : goal.returns-in-Some-Tells
-returns-in-Some-Tells g c profile facts more h =
-    let w = c.in-Some-Tells in
+pub returns-in-Some-Describes : goal.returns-in-Some-Describes
+returns-in-Some-Describes g c profile facts more h =
+    let w = c.in-Some-Describes in
     let id = w.field-0-0.now in
     let os = overviews_of w.block.now in
-    let said : option_map article_said c.args.told.now.saying.article ≡ Some (id, Tells os) = search rules in
-    overview_point profile facts c.args.self.now (statement_of c.args.told.now) more h id os said (option_map point_of c.other_listed_field-in-Some-Tells.result) c.other_listed_field-in-Some-Tells.ensures
+    let said : option_map article_said c.args.told.now.saying.article ≡ Some (id, Describes os) = search rules in
+    overview_point profile facts c.args.self.now (statement_of c.args.told.now) more h id os said (option_map point_of c.other_listed_field-in-Some-Describes.result) c.other_listed_field-in-Some-Describes.ensures
