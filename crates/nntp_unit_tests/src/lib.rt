@@ -4,6 +4,8 @@
 #![tactic(auto)]
 
 #[cfg(test)]
+mod article;
+#[cfg(test)]
 mod intervals;
 #[cfg(test)]
 mod pair;

@@ -1,10 +1,10 @@
 -- A head that is made of the words of four headers tells these.
-use Rattle.std.proofs.Common.{◌≡◌, ℕ, ◌<◌, Bool, true, false, ◌&&◌, IsTrue, List, [], ◌∷◌, ◌++◌, length, refl, sym, ap, ◌∙◌, arith, append-nil}
+use Rattle.std.proofs.Common.{◌≡◌, ℕ, ◌<◌, true, false, ◌&&◌, IsTrue, List, [], ◌∷◌, ◌++◌, length, refl, sym, ap, ◌∙◌, append-nil}
 use Rattle.std.proofs.lemmas.{Bool.{and_parts, and_from, ltb-true}, List.Folds.{list_all-append}}
-use Rattle.std.specs.{Prelude.{codes, nat_lt, not, slice_get, Some}, Option.{option_map_or}, List.{list_all, flat_map, filter, AllByRecursion}}
-use Rattle.nntp_wire.{specs.{Octets.{is_blank, is_clean, space}, Words.{words_of, is_some_octets}}, proofs.WordLemmas.{words_of-blank}}
-use Rattle.nntp_article.specs.Article.{Parts.{Line, Header, is_continuation, continues_first, begins_header, is_header, headers, is_head, is_named, is_empty}, Fields.{Word, Fields, words_of_header, words_named}}
-use Rattle.nntp_article.specs.{Article.Fields.{fields_of_head, fields_among, field_line, field_lines}, Inner.{Fields.{is_word, AreWords}, Parts.{more}}, Session.Spool.{is_line}}
+use Rattle.std.specs.{Prelude.{codes, not, slice_get}, Option.{option_map_or}, List.{list_all, flat_map, filter, AllByRecursion}}
+use Rattle.nntp_wire.{specs.{Octets.{is_clean, space}, Words.{words_of, is_some_octets}}, proofs.WordLemmas.{words_of-blank}}
+use Rattle.nntp_article.specs.Article.{Parts.{Line, is_continuation, continues_first, begins_header, is_header, headers, is_head, is_named, is_empty}, Fields.{Word, Fields, words_of_header, words_named}}
+use Rattle.nntp_article.specs.{Article.Fields.{fields_of_head, fields_among, field_line, field_lines}, Inner.{Fields.{is_word, AreWords}}, Session.Spool.{is_line}}
 use Rattle.nntp_article.specs.declared.article.field.Field.TheVariants.{Subject, From, Date, References}
 use Rattle.nntp_article.proofs.ArticleLemmas.{HeadLemmas.{after, more-no, after-no, headers-cons}, IdLemmas.{is_solid, words-solid, words-solid_then}}
 

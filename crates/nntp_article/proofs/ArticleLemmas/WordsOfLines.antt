@@ -1,163 +1,146 @@
--- The words of lines are words: those of heads, and those of overviews.
-use Rattle.std.proofs.Common.{◌≡◌, ℕ, ◌==◌, Bool, true, false, ◌&&◌, cond, IsTrue, List, [], ◌∷◌, ◌++◌, Option, None, Some, MatchOption, refl, sym, ap, ◌∙◌, arith}
-use Rattle.std.proofs.lemmas.{Bool.{and_parts, and_from, true≢false, Decides.{nat_tests}}, List.{Splits.{slice_split-cons_yes, slice_split-cons_no}, Folds.{list_all-append}}}
-use Rattle.std.specs.{Prelude.{codes, not, nat_lt, slice_get, IfSome}, Option.{option_map_or}, List.{AllByRecursion, list_all, filter, cons_option, flat_map, slice_split, onto_first, after_first}}
-use Rattle.nntp_wire.specs.{Octets.{is_blank, is_clean, tab}, Words.{words_of, is_some_octets}, Listing.{OverviewValue, overview_of, overview_of_fields, overview_by, first_words, fields_of, overviews_of}}
-use Rattle.nntp_wire.specs.Listing.{number_alone, id_alone}
-use Rattle.nntp_article.specs.Article.{Parts.{Line, Header, is_colon, headers, with_line, continues_first, is_named}, Fields.{Word, words_in, words_of_header, words_named, fields_of_head, fields_told}}
+-- What heads and overviews tell, where their lines are lines, are words.
+use Rattle.std.proofs.Common.{◌≡◌, ℕ, zero, suc, ◌+◌, Bool, true, false, ◌&&◌, IsTrue, List, [], ◌∷◌, Option, None, Some, drop, refl, ◌∙◌, ap, arith}
+use Rattle.std.proofs.lemmas.{Bool.{and_parts, and_from, Decides.{nat_tests}}, List.{Folds.{list_all-append}, Splits.{slice_split-cons_yes, slice_split-cons_no}}}
+use Rattle.std.specs.{Prelude.{◌==◌, codes, IfSome}, List.{list_all, flat_map, filter, slice_split, onto_first, position_or_len, AllByRecursion, cons_option}}
+use Rattle.nntp_wire.specs.{Octets.{is_blank, tab}, Words.{words_of, is_some_octets}}
+use Rattle.nntp_wire.specs.Listing.{OverviewValue, overview_by, overview_of, overview_of_fields, overviews_of, first_words, fields_of, number_alone, id_alone}
+use Rattle.nntp_article.specs.Article.{Parts.{Line, Header, is_colon, with_line, headers, is_named}, Fields.{Word, words_in, words_of_header, words_named, fields_told, fields_of_head}}
 use Rattle.nntp_article.specs.{Inner.Fields.{is_word, AreWords}, Session.Spool.{is_line}, declared.article.field.Field.{Field, TheVariants.{Subject, From, Date, References}}}
 use Rattle.nntp_article.proofs.ArticleLemmas.IdLemmas.{is_solid}
 
 -- ---- the words of a line
 
--- octets of a line without a blank
-abbrev is_part : List ℕ → Bool
-is_part octets = is_solid octets && is_line octets
+-- an octet of a line, and the rest
+line_parts : (c : ℕ) (cs : List ℕ) → is_line (c ∷ cs) ≡ true → (is_line (c ∷ []) ≡ true) × (is_line cs ≡ true)
+line_parts c cs h = grind (arith, nat_tests)
 
--- what stands between blanks
-parts_of_line : (line : Line) → is_line line ≡ true → list_all is_part (slice_split is_blank line) ≡ true
-parts_of_line [] h = refl
-parts_of_line (b ∷ bs) h = by (is_blank b) refl (parts_of_line bs rest)
-  where
-    both : (is_clean (b ∷ bs) ≡ true) × (list_all (λ c. nat_lt c 256) (b ∷ bs) ≡ true)
-    both = and_parts (is_clean (b ∷ bs)) _ h
+line_from : (c : ℕ) (cs : List ℕ) → is_line (c ∷ []) ≡ true → is_line cs ≡ true → is_line (c ∷ cs) ≡ true
+line_from c cs h hs = grind (arith, nat_tests)
 
-    rest : is_line bs ≡ true
-    rest = and_from (is_clean bs) _ (and_parts _ (is_clean bs) both.0).1 (and_parts _ (list_all (λ c. nat_lt c 256) bs) both.1).1
+-- an octet in front of the first part
+onto_line : (c : ℕ) (parts : List Line) → is_line (c ∷ []) ≡ true → list_all is_line parts ≡ true → list_all is_line (onto_first c parts) ≡ true
+onto_line c [] h hs = and_from _ _ h refl
+onto_line c (part ∷ parts) h hs = let p = and_parts (is_line part) _ hs in and_from _ _ (line_from c part h p.0) p.1
 
-    onto : (parts : List (List ℕ)) → is_blank b ≡ false → list_all is_part parts ≡ true → list_all is_part (onto_first b parts) ≡ true
-    onto parts plain ok = grind (arith, and_parts, both)
+onto_solid : (c : ℕ) (parts : List Line) → is_blank c ≡ false → list_all is_solid parts ≡ true → list_all is_solid (onto_first c parts) ≡ true
+onto_solid c [] h hs = rw h refl
+onto_solid c (part ∷ parts) h hs = rw h hs
 
-    by : (v : Bool) → is_blank b ≡ v → list_all is_part (slice_split is_blank bs) ≡ true → list_all is_part (slice_split is_blank (b ∷ bs)) ≡ true
-    by true e ok = ap (list_all is_part) (slice_split-cons_yes is_blank b bs e) ∙ ok
-    by false e ok = ap (list_all is_part) (slice_split-cons_no is_blank b bs e) ∙ onto (slice_split is_blank bs) e ok
+-- parts of a line are lines
+split_lines : (cuts : ℕ → Bool) (line : Line) → is_line line ≡ true → list_all is_line (slice_split cuts line) ≡ true
+split_lines cuts [] h = refl
+split_lines cuts (c ∷ cs) h = let p = line_parts c cs h in at (cuts c) refl p.0 (split_lines cuts cs p.1) where
+  at : (v : Bool) → cuts c ≡ v → is_line (c ∷ []) ≡ true → list_all is_line (slice_split cuts cs) ≡ true → list_all is_line (slice_split cuts (c ∷ cs)) ≡ true
+  at true e one others = ap (list_all is_line) (slice_split-cons_yes cuts c cs e) ∙ others
+  at false e one others = ap (list_all is_line) (slice_split-cons_no cuts c cs e) ∙ onto_line c (slice_split cuts cs) one others
 
--- of them those with octets are words
-some_are_words : (parts : List (List ℕ)) → list_all is_part parts ≡ true → list_all is_word (filter is_some_octets parts) ≡ true
-some_are_words [] h = refl
-some_are_words (part ∷ parts) h = by (is_some_octets part) refl (some_are_words parts (and_parts (is_part part) _ h).1)
-  where
-    p : (is_solid part ≡ true) × (is_line part ≡ true)
-    p = and_parts (is_solid part) (is_line part) (and_parts (is_part part) _ h).0
+-- those between blanks have none
+split_solid : (line : Line) → list_all is_solid (slice_split is_blank line) ≡ true
+split_solid [] = refl
+split_solid (c ∷ cs) = at (is_blank c) refl (split_solid cs) where
+  at : (v : Bool) → is_blank c ≡ v → list_all is_solid (slice_split is_blank cs) ≡ true → list_all is_solid (slice_split is_blank (c ∷ cs)) ≡ true
+  at true e others = ap (list_all is_solid) (slice_split-cons_yes is_blank c cs e) ∙ others
+  at false e others = ap (list_all is_solid) (slice_split-cons_no is_blank c cs e) ∙ onto_solid c (slice_split is_blank cs) e others
 
-    by : (v : Bool) → is_some_octets part ≡ v → list_all is_word (filter is_some_octets parts) ≡ true → list_all is_word (cond v (part ∷ filter is_some_octets parts) (filter is_some_octets parts)) ≡ true
-    by true e ok = and_from (is_word part) _ (and_from (is_some_octets part && is_solid part) (is_line part) (and_from (is_some_octets part) (is_solid part) e p.0) p.1) ok
-    by false e ok = ok
+-- those with octets are words
+some_words : (parts : List Line) → list_all is_solid parts ≡ true → list_all is_line parts ≡ true → list_all is_word (filter is_some_octets parts) ≡ true
+some_words [] s l = refl
+some_words (part ∷ parts) s l =
+    let p = and_parts (is_solid part) _ s in let q = and_parts (is_line part) _ l in at (is_some_octets part) refl p.0 q.0 (some_words parts p.1 q.1) where
+      at : (v : Bool) → is_some_octets part ≡ v → is_solid part ≡ true → is_line part ≡ true → list_all is_word (filter is_some_octets parts) ≡ true
+          → list_all is_word (filter is_some_octets (part ∷ parts)) ≡ true
+      at true e solid line others = rw e (and_from (is_word part) _ (and_from (is_some_octets part && is_solid part) _ (and_from (is_some_octets part) _ e solid) line) others)
+      at false e solid line others = rw e others
 
-line_has_words : (line : Line) → is_line line ≡ true → list_all is_word (words_of line) ≡ true
-line_has_words line h = some_are_words (slice_split is_blank line) (parts_of_line line h)
+line_words : (line : Line) → is_line line ≡ true → list_all is_word (words_of line) ≡ true
+line_words line h = some_words (slice_split is_blank line) (split_solid line) (split_lines is_blank line h)
 
--- ---- heads
+-- ---- those of a header
 
-lines_have_words : (lines : List Line) → AllByRecursion (λ line. IsTrue (is_line line)) lines → list_all is_word (flat_map words_of lines) ≡ true
-lines_have_words [] h = refl
-lines_have_words (line ∷ lines) h = list_all-append is_word (words_of line) (flat_map words_of lines) ∙ and_from _ _ (line_has_words line h.0) (lines_have_words lines h.1)
+drop_line : (n : ℕ) (line : Line) → is_line line ≡ true → is_line (drop n line) ≡ true
+drop_line zero line h = h
+drop_line (suc n) [] h = refl
+drop_line (suc n) (c ∷ cs) h = drop_line n cs (line_parts c cs h).1
 
--- what follows the colon is a part of a line
-behind_colon : (line : Line) → is_line line ≡ true → is_line (after_first is_colon line) ≡ true
-behind_colon [] h = refl
-behind_colon (c ∷ cs) h = grind (arith, and_parts, behind_colon cs)
+flat_words : (lines : List Line) → list_all is_line lines ≡ true → list_all is_word (flat_map words_of lines) ≡ true
+flat_words [] h = refl
+flat_words (line ∷ lines) h =
+    let p = and_parts (is_line line) _ h in
+    list_all-append is_word (words_of line) (flat_map words_of lines) ∙ and_from _ _ (line_words line p.0) (flat_words lines p.1)
 
--- each line of each header is a line
-AreLines : List Header → Type 0
-AreLines hs = AllByRecursion (λ header. AllByRecursion (λ line. IsTrue (is_line line)) header) hs
+header_words : (header : Header) → list_all is_line header ≡ true → list_all is_word (words_of_header header) ≡ true
+header_words [] h = refl
+header_words (first ∷ more) h =
+    let p = and_parts (is_line first) _ h in
+    let value = drop (position_or_len is_colon first + 1) first in
+    list_all-append is_word (words_of value) (flat_map words_of more)
+    ∙ and_from _ _ (line_words value (drop_line (position_or_len is_colon first + 1) first p.0)) (flat_words more p.1)
 
-with_lines : (line : Line) (hs : List Header) → is_line line ≡ true → AreLines hs → AreLines (with_line line hs)
-unfolding AreLines
-with_lines line [] l h = ((l, tt), tt)
-with_lines line (header ∷ hs) l h = by (continues_first header)
-  where
-    by : (v : Bool) → AreLines (cond v ((line ∷ header) ∷ hs) ((line ∷ []) ∷ header ∷ hs))
-    by true = ((l, h.0), h.1)
-    by false = ((l, tt), h)
+-- ---- those of a head
 
-headers_of_lines : (lines : List Line) → AllByRecursion (λ line. IsTrue (is_line line)) lines → AreLines (headers lines)
-unfolding AreLines
-headers_of_lines [] h = tt
-headers_of_lines (line ∷ lines) h = with_lines line (headers lines) h.0 (headers_of_lines lines h.1)
+with_lines : (line : Line) (hs : List Header) → is_line line ≡ true → list_all (list_all is_line) hs ≡ true → list_all (list_all is_line) (with_line line hs) ≡ true
+with_lines line hs h l = grind (arith, nat_tests)
 
-header_has_words : (header : Header) → AllByRecursion (λ line. IsTrue (is_line line)) header → list_all is_word (words_of_header header) ≡ true
-header_has_words [] h = refl
-header_has_words (first ∷ more) h =
-    list_all-append is_word (words_of (after_first is_colon first)) (flat_map words_of more)
-    ∙ and_from _ _ (line_has_words (after_first is_colon first) (behind_colon first h.0)) (lines_have_words more h.1)
+headers_lines : (lines : List Line) → list_all is_line lines ≡ true → list_all (list_all is_line) (headers lines) ≡ true
+headers_lines [] h = refl
+headers_lines (line ∷ lines) h = let p = and_parts (is_line line) _ h in with_lines line (headers lines) p.0 (headers_lines lines p.1)
 
-named_has_words : (name : List ℕ) (hs : List Header) → AreLines hs → list_all is_word (words_named name hs) ≡ true
-unfolding AreLines
-named_has_words name [] h = refl
-named_has_words name (header ∷ hs) h = by (is_named name header) (named_has_words name hs h.1)
-  where
-    by : (v : Bool) → list_all is_word (words_named name hs) ≡ true → list_all is_word (option_map_or words_of_header (slice_get (cond v (header ∷ filter (is_named name) hs) (filter (is_named name) hs)) 0) []) ≡ true
-    by true ok = header_has_words header h.0
-    by false ok = ok
+named_words : (name : List ℕ) (hs : List Header) → list_all (list_all is_line) hs ≡ true → list_all is_word (words_named name hs) ≡ true
+named_words name [] h = refl
+named_words name (header ∷ hs) h = let p = and_parts (list_all is_line header) _ h in at (is_named name header) refl p.0 (named_words name hs p.1) where
+  at : (v : Bool) → is_named name header ≡ v → list_all is_line header ≡ true → list_all is_word (words_named name hs) ≡ true → list_all is_word (words_named name (header ∷ hs)) ≡ true
+  at true e lines others = rw e (header_words header lines)
+  at false e lines others = rw e others
 
--- the fields of a head have words alone
+all_lines : (lines : List Line) → AllByRecursion (λ line. IsTrue (is_line line)) lines → list_all is_line lines ≡ true
+all_lines [] h = refl
+all_lines (line ∷ lines) h = and_from _ _ h.0 (all_lines lines h.1)
+
+-- a head of lines tells words
 pub head_has_words : (lines : List Line) → AllByRecursion (λ line. IsTrue (is_line line)) lines → AreWords (fields_of_head lines)
-head_has_words lines h Subject = named_has_words (codes "Subject") (headers lines) (headers_of_lines lines h)
-head_has_words lines h From = named_has_words (codes "From") (headers lines) (headers_of_lines lines h)
-head_has_words lines h Date = named_has_words (codes "Date") (headers lines) (headers_of_lines lines h)
-head_has_words lines h References = named_has_words (codes "References") (headers lines) (headers_of_lines lines h)
+head_has_words lines h Subject = named_words (codes "Subject") (headers lines) (headers_lines lines (all_lines lines h))
+head_has_words lines h From = named_words (codes "From") (headers lines) (headers_lines lines (all_lines lines h))
+head_has_words lines h Date = named_words (codes "Date") (headers lines) (headers_lines lines (all_lines lines h))
+head_has_words lines h References = named_words (codes "References") (headers lines) (headers_lines lines (all_lines lines h))
 
--- ---- overviews
+-- ---- those of an overview
 
--- what stands between TABs is a part of a line
-fields_are_lines : (line : Line) → is_line line ≡ true → list_all is_line (fields_of line) ≡ true
-fields_are_lines [] h = refl
-fields_are_lines (b ∷ bs) h = by (b == tab) refl (fields_are_lines bs rest)
-  where
-    both : (is_clean (b ∷ bs) ≡ true) × (list_all (λ c. nat_lt c 256) (b ∷ bs) ≡ true)
-    both = and_parts (is_clean (b ∷ bs)) _ h
+module _ (subject from date references : List Word) (s : list_all is_word subject ≡ true) (f : list_all is_word from ≡ true) (d : list_all is_word date ≡ true)
+    (r : list_all is_word references ≡ true) where
+  told_by : (number : Option ℕ) (id : Option (List ℕ)) → IfSome (overview_by subject from date references number id) (λ o. AreWords (fields_told o))
+  told_by (Some number) (Some id) = by where
+    by : (field : Field) → IsTrue (list_all is_word (words_in (record { subject = subject; from = from; date = date; references = references }) field))
+    by Subject = s
+    by From = f
+    by Date = d
+    by References = r
+  told_by (Some number) None = tt
+  told_by None id = tt
 
-    rest : is_line bs ≡ true
-    rest = and_from (is_clean bs) _ (and_parts _ (is_clean bs) both.0).1 (and_parts _ (list_all (λ c. nat_lt c 256) bs) both.1).1
+more_words : (fields : List Line) → list_all is_line fields ≡ true → list_all is_word (first_words fields) ≡ true
+more_words [] h = refl
+more_words (field ∷ fields) h = line_words field (and_parts (is_line field) _ h).0
 
-    onto : (parts : List (List ℕ)) → list_all is_line parts ≡ true → list_all is_line (onto_first b parts) ≡ true
-    onto parts ok = grind (arith, and_parts, both)
+fields_words : (fields : List Line) → list_all is_line fields ≡ true → IfSome (overview_of_fields fields) (λ o. AreWords (fields_told o))
+fields_words [] h = tt
+fields_words (number ∷ []) h = tt
+fields_words (number ∷ subject ∷ []) h = tt
+fields_words (number ∷ subject ∷ from ∷ []) h = tt
+fields_words (number ∷ subject ∷ from ∷ date ∷ []) h = tt
+fields_words (number ∷ subject ∷ from ∷ date ∷ id ∷ more) h =
+    let one = and_parts (is_line number) _ h in
+    let two = and_parts (is_line subject) _ one.1 in
+    let three = and_parts (is_line from) _ two.1 in
+    let four = and_parts (is_line date) _ three.1 in
+    let five = and_parts (is_line id) _ four.1 in
+    told_by (words_of subject) (words_of from) (words_of date) (first_words more) (line_words subject two.0) (line_words from three.0) (line_words date four.0)
+    (more_words more five.1) (number_alone (words_of number)) (id_alone (words_of id))
 
-    by : (v : Bool) → (b == tab) ≡ v → list_all is_line (fields_of bs) ≡ true → list_all is_line (fields_of (b ∷ bs)) ≡ true
-    by true e ok = ap (list_all is_line) (slice_split-cons_yes (λ b. b == tab) b bs e) ∙ ok
-    by false e ok = ap (list_all is_line) (slice_split-cons_no (λ b. b == tab) b bs e) ∙ onto (fields_of bs) ok
-
--- what fields that are lines tell, are words
-abbrev TellsWords : Option OverviewValue → Type 0
-TellsWords o = IfSome o (λ o. AreWords (fields_told o))
-
-fields_tell_words : (fields : List (List ℕ)) → list_all is_line fields ≡ true → TellsWords (overview_of_fields fields)
-fields_tell_words (number ∷ subject ∷ from ∷ date ∷ id ∷ more) h = by (number_alone (words_of number)) (id_alone (words_of id))
-  where
-    a : (is_line number ≡ true) × (list_all is_line (subject ∷ from ∷ date ∷ id ∷ more) ≡ true)
-    a = and_parts (is_line number) _ h
-
-    b : (is_line subject ≡ true) × (list_all is_line (from ∷ date ∷ id ∷ more) ≡ true)
-    b = and_parts (is_line subject) _ a.1
-
-    c : (is_line from ≡ true) × (list_all is_line (date ∷ id ∷ more) ≡ true)
-    c = and_parts (is_line from) _ b.1
-
-    d : (is_line date ≡ true) × (list_all is_line (id ∷ more) ≡ true)
-    d = and_parts (is_line date) _ c.1
-
-    last : (more : List (List ℕ)) → list_all is_line more ≡ true → list_all is_word (first_words more) ≡ true
-    last [] h = refl
-    last (field ∷ fields) h = line_has_words field (and_parts (is_line field) _ h).0
-
-    by : (n : Option ℕ) (i : Option (List ℕ)) → TellsWords (overview_by (words_of subject) (words_of from) (words_of date) (first_words more) n i)
-    by (Some n) (Some i) = told
-      where
-        told : (field : Field) → list_all is_word (words_in (record { subject = words_of subject; from = words_of from; date = words_of date; references = first_words more }) field) ≡ true
-        told Subject = line_has_words subject b.0
-        told From = line_has_words from c.0
-        told Date = line_has_words date d.0
-        told References = last more (and_parts (is_line id) _ d.1).1
-    by n i = tt
-fields_tell_words fields h = tt
-
--- the fields of overviews that are lines have words alone
+-- overviews of lines tell words
 pub overview_has_words : (lines : List (List ℕ)) → AllByRecursion (λ line. IsTrue (is_line line)) lines → AllByRecursion (λ o. AreWords (fields_told o)) (overviews_of lines)
 overview_has_words [] h = tt
-overview_has_words (line ∷ lines) h = by (overview_of line) (fields_tell_words (fields_of line) (fields_are_lines line h.0)) (overview_has_words lines h.1)
-  where
-    by : (o : Option OverviewValue) → TellsWords o → AllByRecursion (λ o. AreWords (fields_told o)) (overviews_of lines)
-        → AllByRecursion (λ o. AreWords (fields_told o)) (cons_option o (overviews_of lines))
-    by None words more = more
-    by (Some o) words more = (words, more)
+overview_has_words (line ∷ lines) h = by (overview_of line) (fields_words (fields_of line) (split_lines (λ b. b == tab) line h.0)) (overview_has_words lines h.1) where
+  by : (o : Option OverviewValue) → IfSome o (λ o. AreWords (fields_told o)) → AllByRecursion (λ o. AreWords (fields_told o)) (overviews_of lines)
+      → AllByRecursion (λ o. AreWords (fields_told o)) (cons_option o (overviews_of lines))
+  by (Some o) is more = (is, more)
+  by None is more = more
