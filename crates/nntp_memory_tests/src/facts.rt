@@ -11,7 +11,9 @@ use std::alloc::{AllocError, Allocator, Global};
 use std::test::Fail;
 
 /// How many answers are right, and the class of the one behind them, if that is bad.
-fn outcome<A: Allocator>(noted: Result<Whole<A>, Stop>) -> Result<(u64, Option<Class>), Ended> {
+pub(crate) fn outcome<A: Allocator>(
+    noted: Result<Whole<A>, Stop>,
+) -> Result<(u64, Option<Class>), Ended> {
     match noted {
         Ok(whole) => Ok((whole.answers, whole.class)),
         Err(Stop::Bad { answer, class }) => Ok((answer, Some(class))),

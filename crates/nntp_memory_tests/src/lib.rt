@@ -10,6 +10,8 @@ mod facts;
 #[cfg(test)]
 mod feeds;
 #[cfg(test)]
+mod overviews;
+#[cfg(test)]
 mod several;
 #[cfg(test)]
 mod spools;

@@ -1,6 +1,6 @@
 //! Want of memory while several sessions are judged.
 use nntp_fixtures::{
-    check_sessions_by, checker_by, feed_sessions, recorded, sessions_shown, verified_shown,
+    check_sessions_by, checker_taking, feed_sessions, recorded, sessions_shown, verified_shown,
 };
 use nntp_little_memory::{Ended, refuse_each, right_if};
 use nntp_pair::PairError;
@@ -8,6 +8,7 @@ use nntp_sessions::{NARROW_LENIENT, session_lists};
 use nntp_several::{Recorded, verify_sessions};
 use nntp_spool::Spool;
 use nntp_verdict::{Checker, SessionsVerdict};
+use nntp_wire::Overviews;
 use std::alloc::{Allocator, Global};
 use std::test::Fail;
 
@@ -24,7 +25,7 @@ fn right_if_shown<A: Allocator>(
 }
 
 /// By `check_sessions`.
-fn judge_at_once<A: Allocator + Copy>(
+pub(crate) fn judge_at_once<A: Allocator + Copy>(
     alloc: Global,
     heap: A,
     sessions: &[Recorded<'_>],
@@ -49,14 +50,15 @@ fn after_want<A: Allocator + Copy>(mut checker: Checker<A>) -> Ended {
     }
 }
 
-/// By a checker, to which the sessions come one after the other.
-fn judge_in_turn<A: Allocator + Copy>(
+/// By a checker that takes OVER and XOVER so, to which the sessions come one after the other.
+pub(crate) fn judge_in_turn<A: Allocator + Copy>(
     alloc: Global,
     heap: A,
+    overviews: Overviews,
     sessions: &[Recorded<'_>],
     wanted: &str,
 ) -> Ended {
-    let mut checker = checker_by(NARROW_LENIENT, heap);
+    let mut checker = checker_taking(NARROW_LENIENT, heap, overviews);
     match feed_sessions(&mut checker, sessions) {
         Ok(()) => {}
         Err(PairError::Memory) => return after_want(checker),
@@ -70,7 +72,7 @@ fn judge_in_turn<A: Allocator + Copy>(
 }
 
 /// By `verify_sessions`.
-fn verify_given<A: Allocator + Copy>(
+pub(crate) fn verify_given<A: Allocator + Copy>(
     alloc: Global,
     heap: A,
     spool: &Spool,
@@ -105,7 +107,13 @@ fn sessions_in_turn(rt: HostRuntime) -> Result<(), Fail> {
             let sessions = recorded(rt.alloc(), list.sessions)?;
             let wanted = list.report(rt.alloc())?;
             refuse_each(rt.alloc(), list.name, |heap| {
-                judge_in_turn(rt.alloc(), heap, &sessions, wanted.as_str())
+                judge_in_turn(
+                    rt.alloc(),
+                    heap,
+                    Overviews::Opaque,
+                    &sessions,
+                    wanted.as_str(),
+                )
             })?;
         }
     }

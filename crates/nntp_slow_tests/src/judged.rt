@@ -7,17 +7,19 @@ use nntp_sessions::{
     each_row, each_session, exchanges,
 };
 use nntp_slow_judge::{Judged, SlowVerdict};
-use nntp_spool::{Verified, verify};
+use nntp_spool::{Verified, verify_taking};
 use nntp_verdict::Verdict;
 use nntp_wire::Overviews;
 use std::alloc::{AllocError, Global};
 use std::process::Abort;
 use std::test::Fail;
 
-/// Compares a verdict on two streams with what the slow judge says. `verify` permits the spool that is given.
-fn compare_verdict(
+/// Compares a verdict on two streams, where OVER and XOVER are taken so, with what the slow judge says. `verify_taking`
+/// permits the spool that is given.
+pub(crate) fn compare_verdict(
     alloc: Global,
     choice: Choice,
+    overviews: Overviews,
     name: &str,
     (client, server): (&[u8], &[u8]),
     verdict: &Verdict,
@@ -27,7 +29,7 @@ fn compare_verdict(
     let Verdict::Consistent { spool, answers } = verdict else {
         return Ok(());
     };
-    let verified = verify(alloc, choice.marks, spool, client, server)?;
+    let verified = verify_taking(alloc, choice.marks, spool, overviews, client, server)?;
     expect_verified(name, verified, Verified::Permits { answers: *answers })
 }
 
@@ -40,7 +42,8 @@ fn compare_check(
     slow: &SlowVerdict,
 ) -> Result<(), Fail> {
     let verdict = check_by(choice, alloc, streams)?;
-    compare_verdict(alloc, choice, name, streams, &verdict, slow)
+    let overviews = Overviews::Opaque;
+    compare_verdict(alloc, choice, overviews, name, streams, &verdict, slow)
 }
 
 /// Compares `check` and what is noted of these exchanges.

@@ -1,14 +1,19 @@
-//! Short sessions in which OVER and XOVER are judged, as they are noted and by the slow judge (RFC 3977, section 8.3).
+//! Short sessions in which OVER and XOVER are judged, as they are noted, by a checker and by the slow judge (RFC 3977,
+//! section 8.3).
+use crate::judged::compare_verdict;
 use crate::noted::compare_noted;
+use nntp_fixtures::checker_taking;
 use nntp_pair::{Pairs, Step};
 use nntp_sessions::{Answered, Choice, NARROW_LENIENT, NARROW_STRICT};
 use nntp_slow_judge::{Judged, SlowVerdict};
+use nntp_verdict::Verdict;
 use nntp_wire::Overviews;
 use std::alloc::{AllocError, Global};
 use std::process::Abort;
 use std::test::Fail;
 
-/// A command and its answer. `/` stands between lines, and `#` for what an overview has between its number and its id.
+/// A command and its answer. `/` stands between lines, `~` for TAB, and `#` for what an overview has between its number
+/// and its id.
 type Exchange = (&'static str, &'static str);
 
 /// What is said of the group.
@@ -49,12 +54,38 @@ const EXCHANGES: [Exchange; 27] = [
     ("LAST", "223 2 <2@x>"),
 ];
 
+/// What is said of the headers of an article.
+const FIELDS: [Exchange; 12] = [
+    ("XOVER 1-3", "224 x/1#<1@x>/3#<3@x>~<r@x>/."),
+    ("XOVER 3-", "224 x/3~ s  ~f~d~<3@x>~<r@x> ~9~1/."),
+    ("XOVER 3", "224 x/3~t~f~d~<3@x>~<r@x>/."),
+    ("XOVER 3", "224 x/3#<3@x>/."),
+    ("OVER <3@x>", "224 x/0#<3@x>~<r@x>~40~7~X/."),
+    ("OVER <3@x>", "224 x/0~t~f~d~<3@x>~/."),
+    ("OVER", "224 x/3#<3@x>~<r@x>/."),
+    (
+        "HEAD 3",
+        "221 3 <3@x>/Subject: s/From: f/Date: d/References: <r@x>/.",
+    ),
+    ("HEAD <3@x>", "221 0 <3@x>/Subject: t/From: f/Date: d/."),
+    (
+        "ARTICLE <3@x>",
+        "220 0 <3@x>/subject:/~s/From: f/DATE: d/References:~<r@x>/Subject: t//one/.",
+    ),
+    (
+        "ARTICLE 3",
+        "220 3 <3@x>/From: f/Date: d/Subject: s//References: <r@x>/.",
+    ),
+    ("BODY <3@x>", "222 0 <3@x>/Subject: t/."),
+];
+
 /// Adds lines to a stream.
 fn put_lines(stream: &mut Vec<u8>, lines: &str) -> Result<(), AllocError> {
     for octet in lines.as_bytes() {
         match *octet {
             b'/' => stream.extend_from_slice(b"\r\n")?,
             b'#' => stream.extend_from_slice(b"\ts\tf\td\t")?,
+            b'~' => stream.push(b'\t')?,
             _ => stream.push(*octet)?,
         }
     }
@@ -79,7 +110,33 @@ fn exchanges<'a>(
     Ok(answered)
 }
 
-/// Puts these exchanges behind a greeting to both, and tells whether they are consistent.
+/// The verdict of a checker on two streams, where OVER and XOVER are judged.
+fn checked(alloc: Global, choice: Choice, client: &[u8], server: &[u8]) -> Result<Verdict, Fail> {
+    let mut checker = checker_taking(choice, alloc, Overviews::Judged);
+    checker.feed_client(client)?;
+    checker.feed_server(server)?;
+    Ok(checker.finish()?)
+}
+
+/// Puts two streams to all, and tells what is said of them.
+fn compare_streams(
+    alloc: Global,
+    choice: Choice,
+    (client, server): (&[u8], &[u8]),
+    exchanges: &[Answered<'_>],
+) -> Result<Judged, Fail> {
+    let name = format!(in alloc; "{choice:?}: {}", server.escape_ascii())?;
+    let name = name.as_str();
+    let slow = SlowVerdict::of(alloc, choice, exchanges)?;
+    let streams = (client, server);
+    let taken = Overviews::Judged;
+    compare_noted(alloc, choice, taken, name, streams, exchanges, &slow)?;
+    let verdict = checked(alloc, choice, client, server)?;
+    compare_verdict(alloc, choice, taken, name, streams, &verdict, &slow)?;
+    Ok(slow.judged)
+}
+
+/// Puts these exchanges behind a greeting to all, and tells whether they are consistent.
 fn compare(alloc: Global, choice: Choice, said: &[Exchange]) -> Result<bool, Fail> {
     let mut client = Vec::new(alloc);
     let mut server = Vec::from_slice(alloc, b"200 hi\r\n")?;
@@ -87,43 +144,59 @@ fn compare(alloc: Global, choice: Choice, said: &[Exchange]) -> Result<bool, Fai
         put_lines(&mut client, *command)?;
         put_lines(&mut server, *answer)?;
     }
-    let name = format!(in alloc; "{choice:?}: {}", server.escape_ascii())?;
     let exchanges = exchanges(alloc, &client, &server)?;
     if exchanges.len() != said.len().saturating_add(1) {
         return Err("some octets are no answers".into());
     }
-    let slow = SlowVerdict::of(alloc, choice, &exchanges)?;
     let streams = (client.as_slice(), server.as_slice());
-    let taken = Overviews::Judged;
-    compare_noted(
-        alloc,
-        choice,
-        taken,
-        name.as_str(),
-        streams,
-        &exchanges,
-        &slow,
-    )?;
-    Ok(slow.judged == Judged::Consistent)
+    Ok(compare_streams(alloc, choice, streams, &exchanges)? == Judged::Consistent)
+}
+
+/// How many sessions are consistent, and how many aren't.
+#[derive(Clone, Copy)]
+struct Counts {
+    consistent: u64,
+    others: u64,
+}
+
+impl Counts {
+    fn add(&mut self, is_consistent: bool) {
+        let count = if is_consistent {
+            &mut self.consistent
+        } else {
+            &mut self.others
+        };
+        *count = count.saturating_add(1);
+    }
+}
+
+/// Each two of these exchanges, behind one and before another.
+fn compare_pairs(
+    alloc: Global,
+    choice: Choice,
+    (first, last): (Exchange, Exchange),
+    exchanges: &[Exchange],
+    counts: &mut Counts,
+) -> Result<(), Fail> {
+    for second in exchanges {
+        for third in exchanges {
+            counts.add(compare(alloc, choice, &[first, *second, *third, last])?);
+        }
+    }
+    Ok(())
 }
 
 /// Each two exchanges behind one that selects the group, and one more behind both: some are consistent, and some aren't.
 fn compare_all(rt: &impl Abort, alloc: Global, choice: Choice, last: Exchange) -> Result<(), Fail> {
-    let mut consistent = 0u64;
-    let mut others = 0u64;
+    let mut counts = Counts {
+        consistent: 0,
+        others: 0,
+    };
     for selected in SELECTED {
-        for first in EXCHANGES {
-            for second in EXCHANGES {
-                if compare(alloc, choice, &[selected, first, second, last])? {
-                    consistent = consistent.saturating_add(1);
-                } else {
-                    others = others.saturating_add(1);
-                }
-            }
-        }
+        compare_pairs(alloc, choice, (selected, last), &EXCHANGES, &mut counts)?;
     }
-    assert!(rt; consistent > 20, "{consistent}");
-    assert!(rt; others > 1_000, "{others}");
+    assert!(rt; counts.consistent > 20, "{}", counts.consistent);
+    assert!(rt; counts.others > 1_000, "{}", counts.others);
     Ok(())
 }
 
@@ -143,4 +216,27 @@ fn overviews_and_then_a_range(rt: HostRuntime) -> Result<(), Fail> {
 fn overviews_and_strict_marks(rt: HostRuntime) -> Result<(), Fail> {
     let last = ("STAT 4", "223 4 <4@x>");
     compare_all(&rt, rt.alloc(), NARROW_STRICT, last)
+}
+
+/// Each three of what is said of headers. They are consistent where they tell the same, send one head and one body, and
+/// show no number that they deny: so counted, 291 are.
+#[test]
+fn overviews_and_heads(rt: HostRuntime) -> Result<(), Fail> {
+    let mut counts = Counts {
+        consistent: 0,
+        others: 0,
+    };
+    let selected = ("GROUP g", "211 3 1 4 g");
+    for last in FIELDS {
+        compare_pairs(
+            rt.alloc(),
+            NARROW_LENIENT,
+            (selected, last),
+            &FIELDS,
+            &mut counts,
+        )?;
+    }
+    assert!(rt; counts.consistent == 291, "{}", counts.consistent);
+    assert!(rt; counts.others == 1_437, "{}", counts.others);
+    Ok(())
 }

@@ -10,6 +10,8 @@ mod marks;
 #[cfg(test)]
 mod overview_fields;
 #[cfg(test)]
+mod overview_spools;
+#[cfg(test)]
 mod overview_verdicts;
 #[cfg(test)]
 mod overviews;

@@ -50,7 +50,77 @@ const ANOTHER_ID: Row = Row {
     judged: "bad answer 3 Contradiction\ncommand STAT 1\nanswer 223 1 <b@x>\n",
 };
 
-const ROWS: [Row; 4] = [SHOWS_2, DENIES_2, NO_LINE, ANOTHER_ID];
+/// An overview tells four headers of number 1.
+const TELLS_1: Row = Row {
+    client: "GROUP g\r\nXOVER 1\r\n",
+    server: "200 hi\r\n211 5 1 5 g\r\n\
+        224 x\r\n1\tone\t\"A\" <f@x>\td\t<a@x>\t<r@x>  <q@x>\t9\t1\r\n.\r\n",
+    judged: "consistent answers=3 groups=1 ",
+};
+
+/// A head tells the same of the article of number 1.
+const SENDS_SAME: Row = Row {
+    client: "GROUP g\r\nHEAD 1\r\n",
+    server: "200 hi\r\n211 5 1 5 g\r\n221 1 <a@x>\r\n\
+        Subject: one\r\nFrom: \"A\" <f@x>\r\nDate: d\r\nreferences: <r@x>\r\n\t<q@x>\r\n.\r\n",
+    judged: "consistent answers=3 groups=1 ",
+};
+
+/// A head tells another From of it.
+const SENDS_OTHER: Row = Row {
+    client: "GROUP g\r\nHEAD 1\r\n",
+    server: "200 hi\r\n211 5 1 5 g\r\n221 1 <a@x>\r\n\
+        Subject: one\r\nFrom: A <f@x>\r\nDate: d\r\nReferences: <r@x> <q@x>\r\n.\r\n",
+    judged: "consistent answers=3 groups=1 ",
+};
+
+/// The overview of number 7 of another group tells another Subject of it.
+const TELLS_OTHER: Row = Row {
+    client: "GROUP h\r\nXOVER 7\r\n",
+    server: "200 hi\r\n211 5 3 9 h\r\n\
+        224 x\r\n7\ttwo\t\"A\" <f@x>\td\t<a@x>\t<r@x> <q@x>\t9\t1\r\n.\r\n",
+    judged: "consistent answers=3 groups=1 ",
+};
+
+/// Behind an overview, a head tells the same.
+const SAME_HEAD: Row = Row {
+    client: "GROUP g\r\nXOVER 1\r\nHEAD 1\r\nBODY 1\r\n",
+    server: "200 hi\r\n211 5 1 5 g\r\n\
+        224 x\r\n1\tone\tf\td\t<a@x>\t<r@x>  <q@x>\t40\t7\tXref: x g:1\r\n.\r\n221 1 <a@x>\r\n\
+        Subject: one\r\nFrom: f\r\nDate: d\r\nreferences: <r@x>\r\n\t<q@x>\r\nSubject: two\r\nXref: y g:2\r\n.\r\n\
+        222 1 <a@x>\r\nSubject: two\r\n.\r\n",
+    judged: "consistent answers=5 groups=1 ",
+};
+
+/// Behind an overview that ends before the References, an article has some.
+const OTHER_HEAD: Row = Row {
+    client: "GROUP g\r\nXOVER 1\r\nARTICLE 1\r\n",
+    server: "200 hi\r\n211 5 1 5 g\r\n224 x\r\n1\tone\tf\td\t<a@x>\r\n.\r\n220 1 <a@x>\r\n\
+        Subject: one\r\nFrom: f\r\nDate: d\r\nReferences: <r@x>\r\n\r\n.\r\n",
+    judged: "bad answer 3 Contradiction\ncommand ARTICLE 1\nanswer 220 1 <a@x>\n",
+};
+
+/// Behind a head, the overview by its id tells another Date.
+const OTHER_OVERVIEW: Row = Row {
+    client: "HEAD <a@x>\r\nOVER <a@x>\r\n",
+    server: "200 hi\r\n221 0 <a@x>\r\nSubject: one\r\nFrom: f\r\nDate: d\r\n.\r\n\
+        224 x\r\n0\tone\tf\te\t<a@x>\t\t9\t1\r\n.\r\n",
+    judged: "bad answer 2 Contradiction\ncommand OVER <a@x>\nanswer 224 x\n",
+};
+
+const ROWS: [Row; 11] = [
+    SHOWS_2,
+    DENIES_2,
+    NO_LINE,
+    ANOTHER_ID,
+    TELLS_1,
+    SENDS_SAME,
+    SENDS_OTHER,
+    TELLS_OTHER,
+    SAME_HEAD,
+    OTHER_HEAD,
+    OTHER_OVERVIEW,
+];
 
 /// Gives both streams octet by octet, the server's first.
 fn feed_octets(checker: &mut Checker, row: &Row) -> Result<(), Fail> {
@@ -147,7 +217,7 @@ fn the_calls_of_one_session_take_them_as_opaque(rt: HostRuntime) -> Result<(), F
 /// Two sessions, each with how OVER and XOVER are taken in it, and how the report on them begins.
 type Pair = ([(Overviews, Row); 2], &'static str);
 
-const PAIRS: [Pair; 4] = [
+const PAIRS: [Pair; 10] = [
     (
         [(Overviews::Opaque, SHOWS_2), (Overviews::Judged, DENIES_2)],
         "session 1\nbad answer 2 Contradiction\n",
@@ -163,6 +233,48 @@ const PAIRS: [Pair; 4] = [
     (
         [(Overviews::Judged, DENIES_2), (Overviews::Judged, NO_LINE)],
         "session 1\nbad answer 2 OutOfPlace\n",
+    ),
+    (
+        [
+            (Overviews::Judged, TELLS_1),
+            (Overviews::Judged, SENDS_SAME),
+        ],
+        "consistent answers=3,3\n",
+    ),
+    (
+        [
+            (Overviews::Judged, TELLS_1),
+            (Overviews::Judged, SENDS_OTHER),
+        ],
+        "session 1\nbad answer 2 Contradiction\ncommand HEAD 1\n",
+    ),
+    (
+        [
+            (Overviews::Judged, TELLS_1),
+            (Overviews::Opaque, SENDS_OTHER),
+        ],
+        "session 1\nbad answer 2 Contradiction\ncommand HEAD 1\n",
+    ),
+    (
+        [
+            (Overviews::Opaque, TELLS_1),
+            (Overviews::Judged, SENDS_OTHER),
+        ],
+        "consistent answers=3,3\n",
+    ),
+    (
+        [
+            (Overviews::Judged, SENDS_OTHER),
+            (Overviews::Judged, TELLS_1),
+        ],
+        "session 1\nbad answer 2 Contradiction\ncommand XOVER 1\n",
+    ),
+    (
+        [
+            (Overviews::Judged, TELLS_1),
+            (Overviews::Judged, TELLS_OTHER),
+        ],
+        "session 1\nbad answer 2 Contradiction\ncommand XOVER 7\n",
     ),
 ];
 
