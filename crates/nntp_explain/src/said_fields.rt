@@ -1,9 +1,7 @@
 //! What an answer tells of the headers of an article, as `explain` prints it.
 ghost use Rattle.std.specs.Prelude.{◌≡◌, ◌++◌, ◌∷◌, ◌-◌, [], IfOk, OnOk, length, option_map, take};
-ghost use Rattle.std.specs.List.{flat_map};
 ghost use Rattle.std.specs.Option.{option_map_or};
 ghost use Rattle.nntp_wire.specs.Listing.{overviews_of};
-ghost use Rattle.nntp_wire.specs.Octets.{space};
 ghost use Rattle.nntp_article.specs.Article.Fields.{fields_of_head, words_in};
 ghost use Rattle.nntp_said.specs.Facts.{FieldsAre};
 ghost use Rattle.nntp_theory.specs.Given.{fields_of_overview, first_given};
