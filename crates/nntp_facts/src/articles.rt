@@ -19,7 +19,7 @@ ghost use Rattle.nntp_theory.specs.Inner.Together.{AreSame};
 ghost use Rattle.nntp_facts.specs.Inner.Articles.{head_sent, body_sent, is_there, denied, telling, with_new};
 ghost use Rattle.nntp_facts.specs.Inner.Kept.{AreKeptArticles, said_kept};
 ghost use Rattle.nntp_facts.specs.Inner.KeptSaying.{IsThereAlready, MayBeSaid, IsArticleAdded, IsSaidAdded, said_alone};
-ghost use Rattle.nntp_facts.specs.Inner.Saying.{Lacks, Exists, Sends, Tells, IsToExist};
+ghost use Rattle.nntp_facts.specs.Inner.Saying.{Lacks, Exists, Sends, Describes, IsToExist};
 ghost use Rattle.nntp_facts.specs.Inner.SayingView.{article_said};
 ghost use Rattle.nntp_facts.specs.Inner.Readers.{shown_articles};
 ghost use Rattle.nntp_facts.specs.Inner.ArticleView.{is_added, text_of};
@@ -72,7 +72,7 @@ impl<A: Allocator> Model for Articles<A> {
 }
 
 impl<A: Allocator> Articles<A> {
-    /// Tells whether an answer mentions the id.
+    /// Describes whether an answer mentions the id.
     pub(crate) fn mentions(&self, id: &[u8]) -> bool
         ensures is { result ≡ is_some (map.get self.now id.now) }
         ensures facts { (facts : List Fact) → AreKeptArticles facts self.now → result ≡ is_mentioned facts id.now }
@@ -80,21 +80,21 @@ impl<A: Allocator> Articles<A> {
         self.has_octets(id) || self.denied.contains(id)
     }
 
-    /// Tells whether the octets are an id that has an article.
+    /// Describes whether the octets are an id that has an article.
     pub(crate) fn has_octets(&self, id: &[u8]) -> bool
         ensures { result ≡ is_there (map.get self.now id.now) }
     {
         has_key(&self.known, id)
     }
 
-    /// Tells whether the id is said to have no article.
+    /// Describes whether the id is said to have no article.
     pub(crate) fn is_denied(&self, id: &str) -> bool
         ensures { result ≡ option_map_or (λ a. a.is_denied) (map.get self.now id.now) false }
     {
         self.denied.contains(id.as_bytes()) && !self.has(id)
     }
 
-    /// Tells whether the id has an article.
+    /// Describes whether the id has an article.
     fn has(&self, id: &str) -> bool
         ensures { result ≡ is_there (map.get self.now id.now) }
     {
@@ -103,7 +103,7 @@ impl<A: Allocator> Articles<A> {
 }
 
 impl<A: Allocator> Articles<A> {
-    /// Tells whether no other head of the article was sent than this, if it is one.
+    /// Describes whether no other head of the article was sent than this, if it is one.
     pub(crate) fn may_have_head(&self, id: &str, sent: &Sent<'_>) -> bool
         ensures { (facts : List Fact) → AreKeptArticles facts self.now → IsTrue result ↔ AreSame sent.now.head (first_given (head_in id.now) facts) }
     {
@@ -113,7 +113,7 @@ impl<A: Allocator> Articles<A> {
         }
     }
 
-    /// Tells whether no other body of the article was sent than this, if it is one.
+    /// Describes whether no other body of the article was sent than this, if it is one.
     pub(crate) fn may_have_body(&self, id: &str, sent: &Sent<'_>) -> bool
         ensures { (facts : List Fact) → AreKeptArticles facts self.now → IsTrue result ↔ AreSame sent.now.body (first_given (body_in id.now) facts) }
     {
@@ -176,16 +176,16 @@ impl<A: Allocator + Copy> Articles<A> {
             ArticlePart::Sends { id, what, block } => {
                 self.note_sent(joins, *id, &Sent::of(*what, *block))
             }
-            ArticlePart::Tells { block, .. } => self.note_told(*block),
+            ArticlePart::Describes { block, .. } => self.note_told(*block),
         }
     }
 
     /// Adds what the only overview of a block tells, if it may be so, and hands back the id's text. After an error the
     /// articles say nothing of use.
     fn note_told(&mut self, block: &Block<'_>) -> Result<Added<A>, AllocError>
-        ensures added { IfOk result (λ added. (facts : List Fact) (id : Id) → AreKeptArticles facts self.old → MayBeSaid (id, Tells (overviews_of block.now))
-            → IsArticleAdded facts (Some (id, Tells (overviews_of block.now))) self.old self.new (is_added added)) }
-        ensures text { IfOk result (λ added. (id : Id) → MayBeSaid (id, Tells (overviews_of block.now)) → IsTrue (is_added added) → text_of added ≡ Some id) }
+        ensures added { IfOk result (λ added. (facts : List Fact) (id : Id) → AreKeptArticles facts self.old → MayBeSaid (id, Describes (overviews_of block.now))
+            → IsArticleAdded facts (Some (id, Describes (overviews_of block.now))) self.old self.new (is_added added)) }
+        ensures text { IfOk result (λ added. (id : Id) → MayBeSaid (id, Describes (overviews_of block.now)) → IsTrue (is_added added) → text_of added ≡ Some id) }
     {
         match block.overviews().next() {
             Some(overview) => {
@@ -314,7 +314,7 @@ impl<A: Allocator + Copy> Articles<A> {
     }
 }
 
-/// Tells whether the octets are a key of the map. Octets that aren't text are none.
+/// Describes whether the octets are a key of the map. Octets that aren't text are none.
 fn has_key<V, A: Allocator>(map: &BTreeMap<RcStr<A>, V, A>, key: &[u8]) -> bool
     ensures { result ≡ is_some (get_by (λ k. slice_cmp nat_cmp key.now (rc_str_bytes k)) map.now) }
 {

@@ -109,7 +109,7 @@ pub(crate) enum ArticlePart<'s> {
         block: Option<&'s Block<'s>>,
     },
     /// A success that no range was asked of is the overview of the id's article.
-    Tells {
+    Describes {
         /// The message-id.
         id: &'s str,
         /// The line that is the overview.
@@ -242,7 +242,7 @@ impl<'s> Saying<'s> {
     {
         if let Some(overview) = block.overviews().next() {
             let id = overview.id.as_str();
-            self.article = Some(ArticlePart::Tells { id, block });
+            self.article = Some(ArticlePart::Describes { id, block });
         }
     }
 

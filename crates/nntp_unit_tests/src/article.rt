@@ -122,13 +122,7 @@ fn body(sent: &'static [u8]) -> Option<(MessageId<'static>, Block<'static>)> {
     let prompt = Prompt::To(Command::parse(b"BODY <z@x>"));
     let frame = frame(&prompt, sent)?;
     match Answer::parse(&prompt, &frame) {
-        Ok(
-            Answer::Sent {
-                id,
-                block: Some(block),
-                ..
-            },
-        ) => Some((id, block)),
+        Ok(Answer::Sent { id, block, .. }) => Some((id, block?)),
         _ => None,
     }
 }

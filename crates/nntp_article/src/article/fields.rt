@@ -1,5 +1,5 @@
 //! What heads and overviews tell of four headers (RFC 3977, section 8.3.2).
-ghost use Rattle.std.specs.Prelude.{◌≡◌, ◌≢◌, ◌↔◌, IsTrue, MatchOption, MatchBool, [], List, ℕ};
+ghost use Rattle.std.specs.Prelude.{◌≡◌, ◌≢◌, ◌↔◌, IsTrue, MatchOption};
 ghost use Rattle.std.specs.Iterator.{YieldsFirstRef, item_count};
 ghost use Rattle.nntp_wire.specs.Inner.View.{overview_value};
 ghost use Rattle.nntp_article.specs.Article.Parts.{headers};

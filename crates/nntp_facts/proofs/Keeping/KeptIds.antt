@@ -115,7 +115,7 @@ module _ {A : Type 0} (es : List (RcStr A × KnownArticle A)) (ks : List (Vec �
   part_known a e = found ∙ ap (λ o. option_or (option_map known_article o) (if_denied is_denied)) (sym e)
 
   -- nothing was sent of an id of which none is
-  pub no_part_known : (part : SaidOfArticle → Option (List Line)) → part said_nothing ≡ None → part (said_kept (Some denied)) ≡ None → None ≡ known → part (said_kept (get articles id)) ≡ None
+  pub no_part_known : {X : Type 0} (part : SaidOfArticle → Option X) → part said_nothing ≡ None → part (said_kept (Some denied)) ≡ None → None ≡ known → part (said_kept (get articles id)) ≡ None
   no_part_known part nothing none e = grind (arith, found)
 
   -- an article that is known is another from now on

@@ -8,7 +8,7 @@ use Rattle.nntp_said.specs.{Asks.{Ask, ListsIn}, Facts.{Fact}}
 use Rattle.nntp_theory.specs.{Given.{asks_of, is_shown_group, first_given, has_overview_of, fields_of_overview, fields_in}, Inner.Together.{AsksStand, SaidOfArticle, said_of}}
 use Rattle.nntp_theory.specs.{Inner.Together.{said_nothing, join_said, AreSame, JoinArticle}, Together.{denies_group, shows_article, denies_article}}
 use Rattle.nntp_numbers.specs.Inner.{Part.{Says, only_has}, Summary.{AddsNothing}}
-use Rattle.nntp_facts.specs.Inner.{Saying.{OfGroup, OfArticle, Lacks, Exists, Sends, Tells, Saying, asked_id}, Kept.{KeptGroup, Told, told, Agree, MayShow}}
+use Rattle.nntp_facts.specs.Inner.{Saying.{OfGroup, OfArticle, Lacks, Exists, Sends, Describes, Saying, asked_id}, Kept.{KeptGroup, Told, told, Agree, MayShow}}
 use Rattle.nntp_facts.specs.Inner.{Kept.{KeptArticle, said_kept, IsAddedIf}, ListedOverviews.{HaveOwn, id_listed, place_listed}, Articles.{head_sent}}
 use Rattle.nntp_facts.specs.Inner.Articles.{body_sent, denied, unsent, telling, with_sent}
 
@@ -75,7 +75,7 @@ IsThereAlready facts article = ⊤
 -- the lines are a head, where a head is sent; and the overview is the only one, and that of the id, where one is
 abbrev pub MayBeSaid : Id × OfArticle → Type 0
 MayBeSaid (id, Sends what lines) = IsTrue (head_fits what id lines)
-MayBeSaid (id, Tells overviews) = MatchOption (only overviews) ⊥ (λ o. o.id ≡ id)
+MayBeSaid (id, Describes overviews) = MatchOption (only overviews) ⊥ (λ o. o.id ≡ id)
 MayBeSaid a = ⊤
 
 -- what is kept of an id of which this alone is said
@@ -83,7 +83,7 @@ abbrev pub kept_by : OfArticle → KeptArticle
 kept_by Lacks = denied
 kept_by Exists = unsent
 kept_by (Sends what lines) = with_sent unsent (head_sent what lines) (body_sent what lines)
-kept_by (Tells overviews) = telling true (option_map fields_told (only overviews))
+kept_by (Describes overviews) = telling true (option_map fields_told (only overviews))
 
 -- what is said of each id, where of one alone this is
 abbrev pub said_alone : Id → KeptArticle → Id → SaidOfArticle

@@ -1,6 +1,6 @@
 -- What a bad answer and accepted ones say, each by itself, as points of conflict are looked for.
 use Rattle.std.specs.Prelude.{◌≡◌, true, false, ◌<◌, ◌||◌, ◌&&◌, ◌==◌, not, ℕ, Bool, List, [], ◌∷◌, ◌++◌, Option, None, Some, option_map, if◌then◌else◌}
-use Rattle.std.specs.{Prelude.{◌≢◌, Contains, MatchOption}, List.{AllByRecursion, flat_map}, Option.{option_map_or}, FinMap.{get}}
+use Rattle.std.specs.{Prelude.{◌≢◌, ◌⊎◌, MatchOption}, List.{AllByRecursion, flat_map}, Option.{option_map_or}, FinMap.{get}}
 use Rattle.nntp_article.specs.{Article.{Parts.{Id}, Fields.{Fields, fields_told, words_in}}, declared.article.field.Field.{Field}, Session.{Spool.{Name}, Machine.{is_same}}, declared.session.profile.Profile.{Profile}}
 use Rattle.nntp_article.specs.Inner.Misfit.{numbers_of}
 use Rattle.nntp_wire.specs.{Decided.{matches_name}, Listing.{ActiveValue, OverviewValue}}
@@ -108,11 +108,16 @@ IsOtherField k id told point =
 abbrev pub IsFieldOf : Kept → Id → Option Fields → Option Point → Type 0
 IsFieldOf k id told point = MatchOption point (AreSame told (said_kept (get k.articles id)).fields) (IsOtherField k id told)
 
--- of none of the overviews anything else is kept; or so of one of them
+-- the point is that of one of the overviews
+abbrev pub OneTellsOther : Kept → Point → List OverviewValue → Type 0
+OneTellsOther k point [] = ⊥
+OneTellsOther k point (o ∷ overviews) = IsOtherField k o.id (Some (fields_told o)) point ⊎ OneTellsOther k point overviews
+
+-- of none of the overviews anything else is kept; or the point is that of one of them
 abbrev pub IsFieldAmong : Kept → List OverviewValue → Option Point → Type 0
 IsFieldAmong k overviews point =
     MatchOption point (AllByRecursion (λ o. AreSame (Some (fields_told o)) (said_kept (get k.articles o.id)).fields) overviews)
-    (λ point. (o : OverviewValue) × Contains overviews o × IsOtherField k o.id (Some (fields_told o)) point)
+    (λ point. OneTellsOther k point overviews)
 
 -- ---- the last answer beside the others
 

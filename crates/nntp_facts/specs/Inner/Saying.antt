@@ -19,7 +19,7 @@ pub data OfArticle : Type 0 where
   Lacks : OfArticle
   Exists : OfArticle
   Sends : (what : What) → (lines : Option (List Line)) → OfArticle
-  Tells : (overviews : List OverviewValue) → OfArticle
+  Describes : (overviews : List OverviewValue) → OfArticle
 
 -- all that an answer says: that there is such a group, or none; what it says of the numbers of one group, and of an id; the
 -- overviews of those in a range; and the groups that match
@@ -41,7 +41,7 @@ asked_id (Some e) = Has e.0 ∷ []
 -- what is sent of an article, or told of it
 abbrev pub sent_facts : Option (Id × OfArticle) → List Fact
 sent_facts (Some (id, Sends what lines)) = TextIs what id lines ∷ []
-sent_facts (Some (id, Tells overviews)) = FieldsAre overviews ∷ []
+sent_facts (Some (id, Describes overviews)) = FieldsAre overviews ∷ []
 sent_facts article = []
 
 -- the id has no article
@@ -119,7 +119,7 @@ placed None id = (id, Exists)
 -- and what overviews tell of the article of the first, if there is one
 abbrev pub told_of : Option (Id × OfArticle) → List OverviewValue → Option (Id × OfArticle)
 told_of a [] = a
-told_of a (o ∷ overviews) = Some (o.id, Tells (o ∷ overviews))
+told_of a (o ∷ overviews) = Some (o.id, Describes (o ∷ overviews))
 
 -- one more fact is said; the numbers that the answer shows are given
 abbrev pub saying_with : List ℕ → Fact → Saying → Saying
@@ -155,7 +155,7 @@ abbrev pub MayBeOf : Option OfGroup → Id × OfArticle → Type 0
 MayBeOf group (id, Lacks) = ⊤
 MayBeOf group (id, Exists) = MatchOption group ⊥ (λ g. MatchOption g.id ⊥ (λ e. e.1 ≡ id))
 MayBeOf group (id, Sends what lines) = IsTrue (head_fits what id lines)
-MayBeOf group (id, Tells overviews) = MatchOption (only overviews) ⊥ (λ o. o.id ≡ id)
+MayBeOf group (id, Describes overviews) = MatchOption (only overviews) ⊥ (λ o. o.id ≡ id)
 
 -- nothing is said beside the groups that match
 pub record IsAlone (s : Saying) : Type 0 where

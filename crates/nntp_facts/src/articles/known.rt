@@ -5,7 +5,7 @@ ghost use Rattle.nntp_article.specs.Article.Fields.{fields_of_head, words_in};
 ghost use Rattle.nntp_article.specs.Inner.Fields.{AreWords};
 ghost use Rattle.nntp_article.specs.Session.Machine.{head_fits};
 ghost use Rattle.nntp_theory.specs.Inner.Together.{AreSame};
-ghost use Rattle.nntp_facts.specs.Inner.Articles.{head_sent, body_sent, MayBeSent, MayBeTold, with_sent, with_told};
+ghost use Rattle.nntp_facts.specs.Inner.Articles.{head_sent, body_sent, MayBeSent, MayBeTold, telling, with_sent, with_told};
 ghost use Rattle.nntp_facts.specs.Inner.Kept.{IsAddedIf};
 ghost use Rattle.nntp_facts.specs.Inner.ArticleView.{known_article, lines_held, lines_told, of_parts};
 
@@ -373,14 +373,26 @@ impl<A: Allocator + Copy> KnownArticle<A> {
     {
         let lines = Rc::new(alloc, field_lines(alloc, told)?)?;
         match self {
-            KnownArticle::Unsent if !is_sent => Ok(KnownArticle::Listed(lines)),
+            KnownArticle::Unsent => Ok(KnownArticle::first_told(lines, is_sent)),
+            KnownArticle::Named => Ok(KnownArticle::Told(lines)),
             KnownArticle::Body(body) => KnownArticle::of_parts(
                 alloc,
                 None,
                 Some(lines),
                 Some(body),
             ),
-            _ => Ok(KnownArticle::Told(lines)),
+            other => Ok(other),
+        }
+    }
+
+    /// Returns what is known of an article of which overviews alone tell what these lines do.
+    fn first_told(lines: Rc<OwnedBlock<A>, A>, is_sent: bool) -> KnownArticle<A>
+        ensures { known_article result ≡ telling is_sent (Some (fields_of_head lines.value)) }
+    {
+        if is_sent {
+            KnownArticle::Told(lines)
+        } else {
+            KnownArticle::Listed(lines)
         }
     }
 

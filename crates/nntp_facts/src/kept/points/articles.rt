@@ -37,7 +37,7 @@ impl<A: Allocator> Kept<A> {
             Some(ArticlePart::Lacks(id)) => self.shown_article(*id),
             Some(ArticlePart::Exists(id)) => self.lacked_article(*id),
             Some(ArticlePart::Sends { id, .. }) => self.lacked_article(*id),
-            Some(ArticlePart::Tells { id, .. }) => self.lacked_article(*id),
+            Some(ArticlePart::Describes { id, .. }) => self.lacked_article(*id),
         }
     }
 
@@ -99,7 +99,7 @@ impl<A: Allocator> Kept<A> {
             None => None,
             Some(ArticlePart::Lacks(_)) => None,
             Some(ArticlePart::Exists(_)) => None,
-            Some(ArticlePart::Tells { .. }) => None,
+            Some(ArticlePart::Describes { .. }) => None,
             Some(ArticlePart::Sends { id, what, block }) => {
                 self.other_head_sent(*id, &Sent::of(*what, *block))
             }
@@ -128,7 +128,7 @@ impl<A: Allocator> Kept<A> {
             None => None,
             Some(ArticlePart::Lacks(_)) => None,
             Some(ArticlePart::Exists(_)) => None,
-            Some(ArticlePart::Tells { .. }) => None,
+            Some(ArticlePart::Describes { .. }) => None,
             Some(ArticlePart::Sends { id, what, block }) => {
                 self.other_body_sent(*id, &Sent::of(*what, *block))
             }

@@ -35,7 +35,7 @@ impl<A: Allocator> Kept<A> {
             Some(ArticlePart::Sends { id, what, block }) => {
                 self.other_field_sent(*id, &Sent::of(*what, *block))
             }
-            Some(ArticlePart::Tells { block, .. }) => self.other_listed_field(*block),
+            Some(ArticlePart::Describes { block, .. }) => self.other_listed_field(*block),
         }
     }
 

@@ -1,4 +1,4 @@
-use Rattle.std.proofs.Common.{rules}
+use Rattle.std.proofs.Common.{rules, refl}
 use Rattle.nntp_article.proofs.ArticleLemmas.MadeHeadLemmas.{id_line_clean, told_words}
 use Rattle.nntp_article.proofs.article.made_heads.made_head.Goals as goal
 
