@@ -10,6 +10,8 @@ mod noted;
 #[cfg(test)]
 mod overviews;
 #[cfg(test)]
+mod random_fields;
+#[cfg(test)]
 mod random_lists;
 #[cfg(test)]
 mod short_sessions;

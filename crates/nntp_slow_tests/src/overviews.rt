@@ -137,7 +137,7 @@ fn compare_streams(
 }
 
 /// Puts these exchanges behind a greeting to all, and tells whether they are consistent.
-fn compare(alloc: Global, choice: Choice, said: &[Exchange]) -> Result<bool, Fail> {
+pub(crate) fn compare(alloc: Global, choice: Choice, said: &[(&str, &str)]) -> Result<bool, Fail> {
     let mut client = Vec::new(alloc);
     let mut server = Vec::from_slice(alloc, b"200 hi\r\n")?;
     for (command, answer) in said {
@@ -154,13 +154,20 @@ fn compare(alloc: Global, choice: Choice, said: &[Exchange]) -> Result<bool, Fai
 
 /// How many sessions are consistent, and how many aren't.
 #[derive(Clone, Copy)]
-struct Counts {
-    consistent: u64,
-    others: u64,
+pub(crate) struct Counts {
+    pub(crate) consistent: u64,
+    pub(crate) others: u64,
 }
 
 impl Counts {
-    fn add(&mut self, is_consistent: bool) {
+    pub(crate) fn new() -> Counts {
+        Counts {
+            consistent: 0,
+            others: 0,
+        }
+    }
+
+    pub(crate) fn add(&mut self, is_consistent: bool) {
         let count = if is_consistent {
             &mut self.consistent
         } else {
@@ -188,10 +195,7 @@ fn compare_pairs(
 
 /// Each two exchanges behind one that selects the group, and one more behind both: some are consistent, and some aren't.
 fn compare_all(rt: &impl Abort, alloc: Global, choice: Choice, last: Exchange) -> Result<(), Fail> {
-    let mut counts = Counts {
-        consistent: 0,
-        others: 0,
-    };
+    let mut counts = Counts::new();
     for selected in SELECTED {
         compare_pairs(alloc, choice, (selected, last), &EXCHANGES, &mut counts)?;
     }
@@ -222,10 +226,7 @@ fn overviews_and_strict_marks(rt: HostRuntime) -> Result<(), Fail> {
 /// show no number that they deny: so counted, 291 are.
 #[test]
 fn overviews_and_heads(rt: HostRuntime) -> Result<(), Fail> {
-    let mut counts = Counts {
-        consistent: 0,
-        others: 0,
-    };
+    let mut counts = Counts::new();
     let selected = ("GROUP g", "211 3 1 4 g");
     for last in FIELDS {
         compare_pairs(

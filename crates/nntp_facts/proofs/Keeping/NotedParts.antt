@@ -1,6 +1,6 @@
 -- What is kept in all, where the parts of an answer are noted.
-use Rattle.std.proofs.Common.{◌≡◌, ℕ, Bool, true, false, IsTrue, List, [], ◌∷◌, ◌++◌, Option, None, Some, sym, ap, subst, ◌∙◌, arith}
-use Rattle.std.{proofs.lemmas.Bool.{true≢false}, specs.{Prelude.{◌↔◌, IfSome}, List.{AllByRecursion}}}
+use Rattle.std.proofs.Common.{◌≡◌, ℕ, Bool, true, false, IsTrue, List, [], ◌∷◌, ◌++◌, Option, None, Some, refl, sym, ap, subst, ◌∙◌, arith}
+use Rattle.std.{proofs.lemmas.Bool.{true≢false}, specs.{Prelude.{◌↔◌, IfSome, option_map}, Option.{option_map_or}, List.{AllByRecursion}}}
 use Rattle.nntp_article.specs.{Article.Parts.{Id}, Inner.Listed.{Lists}}
 use Rattle.nntp_wire.specs.{Listing.{ActiveValue, OverviewValue}, declared.range.Range.{Range}}
 use Rattle.nntp_said.specs.{Asks.{Ask}, Facts.{Fact, OverviewsAre, GroupsAre}}
@@ -37,7 +37,15 @@ list_added facts more s wildmat lines lists old new does is listed t formed adds
 
 -- the saying lists these overviews of the group
 listing_is : (s : Saying) (g : OfGroup) (os : List OverviewValue) → listing s ≡ Some (g, os) → (range : Range) × (s.overviews ≡ Some (range, os)) × (s.group ≡ Some g)
-listing_is s g os e = grind arith
+listing_is s g os e = by s.overviews refl s.group refl e
+  where
+    by : (o : Option (Range × List OverviewValue)) → s.overviews ≡ o → (h : Option OfGroup) → s.group ≡ h → option_map_or (λ o. option_map {U = OfGroup × List OverviewValue} (λ g. (g, o.1)) h) o None ≡ Some (g, os)
+        → (range : Range) × (s.overviews ≡ Some (range, os)) × (s.group ≡ Some g)
+    by None p h q e = cc
+    by (Some o) p None q e = cc
+    by (Some (range, ps)) p (Some h) q e =
+        let same : (h, ps) ≡ (g, os) = cc in
+        (range, p ∙ ap (λ (l : OfGroup × List OverviewValue). Some (range, l.1)) same, q ∙ ap (λ (l : OfGroup × List OverviewValue). Some l.0) same)
 
 -- or none
 pub lists_none : (facts : List Fact) (s : Saying) (asks : List Ask) → MaySay facts s asks → listing s ≡ None → s.overviews ≡ None

@@ -66,7 +66,8 @@ module _ (facts : List Fact) (name : Name) (r : Range) (os : List OverviewValue)
   -- and back
   may_from : HaveOwn os → JoinIds facts more → (o : OverviewValue) → In o os → MayShow (told facts name) (Some (o.number, o.id))
   may_from own j o i =
-      let own : (id_listed os o.number ≡ Some o.id) × (place_listed os o.id ≡ Some o.number) = all_at _ o os (own_agree name r os own) i in
+      let all = all_at _ o os (own_agree name r os own) i in
+      let own : (id_listed os o.number ≡ Some o.id) × (place_listed os o.id ≡ Some o.number) = (all.0, all.1) in
       grind (arith, same_itself name, own.0, own.1, j.ids name o.number, j.ids_once name o.id)
 
   pub overviews_join : Together facts → AllByRecursion IsWellFormed more → HaveOwn os → Join facts more ↔ (AsksStand (asks_of name facts ++ asks) × AllByRecursion (OverviewJoins facts name) os)
@@ -198,7 +199,7 @@ module _ (facts : List Fact) (tells : Name → Told) (name : Name) (front : List
       ∙ ap (λ s. join_said s (said_alone o.id (telling false (Some (fields_told o))) id)) (sym (said_so_far id))
     where
       -- overviews of which some have the id and tell these fields of it
-      abbrev some_listed : Bool → Option Fields → SaidOfArticle
+      some_listed : Bool → Option Fields → SaidOfArticle
       some_listed has fields = record { is_mentioned = has; is_shown = has; is_denied = false; is_sent = false; head = None; fields = fields; body = None }
 
       by : (a b : Bool) {c : Bool} (x : Option Fields) {y : Option Fields} (before : SaidOfArticle) → c ≡ (a || (b || false)) → y ≡ option_or x (option_or (cond b (Some (fields_told o)) None) None)

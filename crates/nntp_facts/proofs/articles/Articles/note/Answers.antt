@@ -37,10 +37,10 @@ returns-in-Describes-clause-added g c =
     let s = c.in-Describes in
     if_ok c.note_told.result (λ added adds facts kept may already.
     subst (λ p. IsArticleAdded facts (Some (article_said p)) c.args.self.now c.note_told.new.self (is_added added)) (sym s.is)
-    (adds facts s.field-0.now kept (subst (λ p. MayBeSaid (article_said p)) s.is may))) c.note_told.ensures.added
+    (adds facts s.id.now kept (subst (λ p. MayBeSaid (article_said p)) s.is may))) c.note_told.ensures.added
 
 pub returns-in-Describes-clause-text : goal.returns-in-Describes-clause-text
 returns-in-Describes-clause-text g c =
     let s = c.in-Describes in
     if_ok c.note_told.result (λ added gives may other is id exists.
-    gives s.field-0.now (subst (λ p. MayBeSaid (article_said p)) s.is may) is ∙ ap (λ id. Some id) (subst (λ p. IsToExist (Some (article_said p)) id) s.is exists)) c.note_told.ensures.text
+    gives s.id.now (subst (λ p. MayBeSaid (article_said p)) s.is may) is ∙ ap (λ id. Some id) (subst (λ p. IsToExist (Some (article_said p)) id) s.is exists)) c.note_told.ensures.text
