@@ -1,6 +1,7 @@
 -- Points that are about headers, where what an answer tells of them conflicts with what is kept.
-use Rattle.std.proofs.Common.{◌≡◌, ℕ, cond, IsTrue, List, [], ◌∷◌, ◌++◌, Option, None, Some, MatchOption, inl, inr, refl, sym, ap, subst, ◌∙◌, arith}
-use Rattle.std.specs.{Prelude.{◌≢◌, IfSome, option_map}, List.{AllByRecursion}, Option.{option_map_or}, FinMap.{get}}
+use Rattle.std.proofs.Common.{◌≡◌, ℕ, true, false, cond, IsTrue, List, [], ◌∷◌, ◌++◌, Option, None, Some, MatchOption, inl, inr, refl, sym, ap, subst, ◌∙◌, arith}
+use Rattle.std.proofs.lemmas.Bool.{true≢false}
+use Rattle.std.specs.{Prelude.{◌≢◌, IfSome, option_map, is_some}, List.{AllByRecursion}, Option.{option_map_or}, FinMap.{get}}
 use Rattle.nntp_wire.specs.{Listing.{OverviewValue}, declared.{command.What.{What}, range.Range.{Range}}}
 use Rattle.nntp_article.specs.{Article.{Parts.{Id, Line}, Fields.{Fields, fields_told, fields_of_head, words_in}}, declared.{article.field.Field.{Field}, session.profile.Profile.{Profile}}}
 use Rattle.nntp_article.specs.Session.Machine.{head_fits, only}
@@ -138,10 +139,13 @@ module _ (profile : Profile) (facts : List Fact) (k : Kept) (t : Statement) (mor
 
 module _ (k : Kept) (o : OverviewValue) (os : List OverviewValue) where
   -- where nothing else is kept than the first tells, the point is that of another
-  pub past_first : IsFieldOf k o.id (Some (fields_told o)) None → (p : Option Point) → IsFieldAmong k os p → IsFieldAmong k (o ∷ os) p
-  past_first same None others = (same, others)
-  past_first same (Some point) other = inr other
+  pub past_found : {X : Type 0} (of : X → Point) (found : Option X) → is_some found ≡ false → IsFieldOf k o.id (Some (fields_told o)) (option_map of found) → (p : Option Point) → IsFieldAmong k os p
+      → IsFieldAmong k (o ∷ os) p
+  past_found of None none same None others = (same, others)
+  past_found of None none same (Some point) other = inr other
+  past_found of (Some x) none same p other = absurd (true≢false none)
 
   -- else it is its own
-  pub at_first : (point : Point) → IsFieldOf k o.id (Some (fields_told o)) (Some point) → IsFieldAmong k (o ∷ os) (Some point)
-  at_first point other = inl other
+  pub at_found : {X : Type 0} (of : X → Point) (found : Option X) → is_some found ≡ true → IsFieldOf k o.id (Some (fields_told o)) (option_map of found) → IsFieldAmong k (o ∷ os) (option_map of found)
+  at_found of None some other = absurd (true≢false (sym some))
+  at_found of (Some x) some other = inl other
