@@ -137,7 +137,7 @@ fn overview<'a>(alloc: Global) -> Arg<'a> {
     flag(
         alloc,
         OVERVIEW,
-        "Judge OVER and XOVER too: which articles a range has, and the id of each",
+        "Judge OVER and XOVER too: which articles a range has, and the id and four headers of each",
     )
 }
 
