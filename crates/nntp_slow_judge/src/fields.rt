@@ -2,6 +2,13 @@
 //! words, with one SP between them: no octets, where there is no word.
 use std::alloc::{AllocError, Global};
 
+/// The line that is the overview of an id.
+#[derive(Clone, Copy)]
+pub(crate) struct Overview<'a> {
+    pub(crate) id: &'a [u8],
+    pub(crate) line: &'a [u8],
+}
+
 /// The headers in the order in which they are told, and which field of an overview is that of each, counted from 0.
 const HEADERS: [(&str, usize); 4] = [("Subject", 1), ("From", 2), ("Date", 3), ("References", 5)];
 

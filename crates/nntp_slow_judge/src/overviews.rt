@@ -1,7 +1,7 @@
 //! OVER and XOVER, where they are judged: what fits what was asked for, what it says, and whether a spool has that.
 use crate::blocks::is_in;
-use crate::fields::{told_by_head, told_by_overview};
-use crate::said::{Overview, Said};
+use crate::fields::{Overview, told_by_head, told_by_overview};
+use crate::said::Said;
 use crate::spool::{Article, Group};
 use crate::standing::Standing;
 use crate::visible::Visible;

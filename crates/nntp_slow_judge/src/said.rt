@@ -1,4 +1,5 @@
 //! What the answers of a session say of every spool that gives them.
+use crate::fields::Overview;
 use crate::numbers::{Denied, gaps, outside};
 use nntp_pair::Exchange;
 use nntp_wire::{Answer, Block, Command, Prompt, Range, What, Which, active_line, listed_number};
@@ -42,13 +43,6 @@ pub(crate) struct Sent<'a> {
     pub(crate) id: &'a [u8],
     pub(crate) head: Option<Vec<&'a [u8]>>,
     pub(crate) body: Option<Vec<&'a [u8]>>,
-}
-
-/// An overview of an id.
-#[derive(Clone, Copy)]
-pub(crate) struct Overview<'a> {
-    pub(crate) id: &'a [u8],
-    pub(crate) line: &'a [u8],
 }
 
 /// What was said so far, in lists.
