@@ -27,15 +27,16 @@ ghost use Rattle.nntp_facts.specs.declared.joins.Joins.TheVariants.{Again};
 
 mod added;
 mod known;
+mod sent;
 mod shown_articles;
 
 use crate::joins::Joins;
 use crate::saying::ArticlePart;
 pub(crate) use added::Added;
 use known::KnownArticle;
-pub(crate) use known::Sent;
 use nntp_article::{Field, Fields};
 use nntp_wire::Block;
+pub(crate) use sent::Sent;
 pub use shown_articles::{ShownArticle, ShownArticles};
 use std::alloc::{AllocError, Allocator, Global};
 use std::collections::{BTreeMap, BTreeSet};
@@ -183,9 +184,11 @@ impl<A: Allocator + Copy> Articles<A> {
     /// Adds what the only overview of a block tells, if it may be so, and hands back the id's text. After an error the
     /// articles say nothing of use.
     fn note_told(&mut self, block: &Block<'_>) -> Result<Added<A>, AllocError>
-        ensures added { IfOk result (λ added. (facts : List Fact) (id : Id) → AreKeptArticles facts self.old → MayBeSaid (id, Describes (overviews_of block.now))
+        ensures added { IfOk result (λ added. (facts : List Fact) (id : Id) → AreKeptArticles facts self.old
+            → MayBeSaid (id, Describes (overviews_of block.now))
             → IsArticleAdded facts (Some (id, Describes (overviews_of block.now))) self.old self.new (is_added added)) }
-        ensures text { IfOk result (λ added. (id : Id) → MayBeSaid (id, Describes (overviews_of block.now)) → IsTrue (is_added added) → text_of added ≡ Some id) }
+        ensures text { IfOk result (λ added. (id : Id) → MayBeSaid (id, Describes (overviews_of block.now)) → IsTrue (is_added added)
+            → text_of added ≡ Some id) }
     {
         match block.overviews().next() {
             Some(overview) => {

@@ -40,7 +40,8 @@ module _ {M : Type 0} (read : List Fact → M) (both : M → M → M) (nothing :
   before : (xs ys : List Fact) → read ys ≡ nothing → read (xs ++ ys) ≡ read xs
   before xs ys silent = is.append xs ys ∙ ap (both (read xs)) silent ∙ is.right (read xs)
 
-  no_sent : ((what : What) (id : Id) (lines : Option (List Line)) → read (TextIs what id lines ∷ []) ≡ nothing) → ((os : List OverviewValue) → read (FieldsAre os ∷ []) ≡ nothing) → (a : Option (Id × OfArticle)) → read (sent_facts a) ≡ nothing
+  no_sent : ((what : What) (id : Id) (lines : Option (List Line)) → read (TextIs what id lines ∷ []) ≡ nothing) → ((os : List OverviewValue) → read (FieldsAre os ∷ []) ≡ nothing)
+      → (a : Option (Id × OfArticle)) → read (sent_facts a) ≡ nothing
   no_sent silent told a = grind arith
 
   no_lack : ((id : Id) → read (NoArticle id ∷ []) ≡ nothing) → (a : Option (Id × OfArticle)) → read (lack_facts a) ≡ nothing
@@ -66,7 +67,8 @@ module _ {M : Type 0} (read : List Fact → M) (both : M → M → M) (nothing :
   -- ---- of all that an answer says, where no groups are listed
   module _ (s : Saying) (asks : List Ask) (no_list : s.groups ≡ None) where
     -- what speaks of names alone
-    pub of_names : ((what : What) (id : Id) (lines : Option (List Line)) → read (TextIs what id lines ∷ []) ≡ nothing) → ((os : List OverviewValue) → read (FieldsAre os ∷ []) ≡ nothing) → ((id : Id) → read (NoArticle id ∷ []) ≡ nothing)
+    pub of_names : ((what : What) (id : Id) (lines : Option (List Line)) → read (TextIs what id lines ∷ []) ≡ nothing) → ((os : List OverviewValue) → read (FieldsAre os ∷ []) ≡ nothing)
+        → ((id : Id) → read (NoArticle id ∷ []) ≡ nothing)
         → ((name : Name) (ask : Ask) → read (Asks name ask ∷ []) ≡ nothing) → ((name : Name) (n : ℕ) (id : Id) → read (IdAt name n id ∷ []) ≡ nothing)
         → read (facts_in s asks) ≡ both (read (there_facts s.there_is)) (read (missing_facts s.there_is_no))
     of_names text told lack ask id = grind (arith, past, no_sent, only_ids, no_ids, before, no_lack)
@@ -77,7 +79,8 @@ module _ {M : Type 0} (read : List Fact → M) (both : M → M → M) (nothing :
     of_articles there missing ask = grind (arith, past, no_there, only_ids, no_missing, before)
 
     -- of a group alone
-    pub of_group : ((what : What) (id : Id) (lines : Option (List Line)) → read (TextIs what id lines ∷ []) ≡ nothing) → ((os : List OverviewValue) → read (FieldsAre os ∷ []) ≡ nothing) → ((id : Id) → read (NoArticle id ∷ []) ≡ nothing)
+    pub of_group : ((what : What) (id : Id) (lines : Option (List Line)) → read (TextIs what id lines ∷ []) ≡ nothing) → ((os : List OverviewValue) → read (FieldsAre os ∷ []) ≡ nothing)
+        → ((id : Id) → read (NoArticle id ∷ []) ≡ nothing)
         → ((name : Name) → read (ThereIs name ∷ []) ≡ nothing) → ((name : Name) → read (ThereIsNo name ∷ []) ≡ nothing)
         → read (facts_in s asks) ≡ read (group_facts s.group asks)
     of_group text told lack there missing = grind (arith, past, no_sent, no_there, before, no_missing, no_lack)

@@ -5,7 +5,7 @@ use Rattle.std.specs.{Option.{option_or, option_map_or}, Cmp.{eq_by_cmp_equiv, L
 use Rattle.std.specs.{Ordering.{eq_by_cmp}, FinMap.{FinMap, get, entries, IsAntisymmetric, insert, get-insert, slice_cmp-IsAntisymmetric}}
 use Rattle.std.specs.FinMap.{nat_cmp-IsAntisymmetric}
 use Rattle.nntp_wire.proofs.ShownMaps.{equal_is}
-use Rattle.nntp_article.specs.{Article.Parts.{Id, Line}, Session.Machine.{is_same}}
+use Rattle.nntp_article.specs.{Article.Parts.{Id}, Session.Machine.{is_same}}
 use Rattle.nntp_said.specs.Facts.{Fact}
 use Rattle.nntp_theory.specs.{Given.{is_mentioned}, Together.{shows_article, denies_article}, Inner.Together.{said_of, said_nothing, join_said, AreSame}}
 use Rattle.nntp_theory.{specs.Inner.Together.{JoinArticle}, proofs.{Maps.{get_in, in_get}, Members.{In}, Together.FactsOfASpoolStand.{same_itself}}}

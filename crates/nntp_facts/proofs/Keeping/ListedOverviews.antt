@@ -42,7 +42,8 @@ pub own_agree : (here : Name) (r : Range) (os : List OverviewValue) → HaveOwn 
 own_agree here r os own = apart_agree here r os own.numbers own.ids
 
 -- those in front of one give neither its number an id, nor its id a number, and tell nothing of its article
-pub none_in_front : (front : List OverviewValue) (o : OverviewValue) (rest : List OverviewValue) → HaveOwn (front ++ o ∷ rest) → (id_listed front o.number ≡ None) × (place_listed front o.id ≡ None) × (first_given (fields_of_overview o.id) front ≡ None)
+pub none_in_front : (front : List OverviewValue) (o : OverviewValue) (rest : List OverviewValue) → HaveOwn (front ++ o ∷ rest)
+    → (id_listed front o.number ≡ None) × (place_listed front o.id ≡ None) × (first_given (fields_of_overview o.id) front ≡ None)
 none_in_front [] o rest own = (refl, refl, refl)
 none_in_front (x ∷ front) o rest own =
     let numbers = and_parts _ (is_ascending (overview_numbers (front ++ o ∷ rest))) own.numbers in

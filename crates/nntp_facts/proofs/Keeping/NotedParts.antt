@@ -7,7 +7,7 @@ use Rattle.nntp_said.specs.{Asks.{Ask}, Facts.{Fact, OverviewsAre, GroupsAre}}
 use Rattle.nntp_theory.specs.Inner.Together.{IsWellFormed, said_of, join_said, Together, Join}
 use Rattle.nntp_facts.specs.Inner.{ListedGroups.{MayList}, Saying.{OfGroup, OfArticle, Saying, facts_in, AreListed, IsToExist, MayBeOf, Tells, MaySay}}
 use Rattle.nntp_facts.specs.Inner.{Saying.{listing, overviews_facts}, Kept.{Kept, IsKept, AreKeptNames, AreKeptGroups, AreAdded}}
-use Rattle.nntp_facts.specs.Inner.{ListedOverviews.{HaveOwn}, KeptSaying.{MayListOf, IsTextOf, JoinGroups, MayBeSaid, ArticleJoins, IsArticleAdded}}
+use Rattle.nntp_facts.specs.Inner.{KeptSaying.{MayListOf, IsTextOf, JoinGroups, MayBeSaid, ArticleJoins, IsArticleAdded}}
 use Rattle.nntp_facts.proofs.Keeping.OverviewsTold.{plain_told, plain_if, group_there, of_range, overviews_told, no_id_there, asks_there}
 use Rattle.nntp_facts.proofs.Keeping.{PartsJoin.{parts_join, said_of_parts}, SaidOfArticles.{said_append}, KeptArticles.{Articles}}
 
@@ -39,7 +39,8 @@ list_added facts more s wildmat lines lists old new does is listed t formed adds
 listing_is : (s : Saying) (g : OfGroup) (os : List OverviewValue) → listing s ≡ Some (g, os) → (range : Range) × (s.overviews ≡ Some (range, os)) × (s.group ≡ Some g)
 listing_is s g os e = by s.overviews refl s.group refl e
   where
-    by : (o : Option (Range × List OverviewValue)) → s.overviews ≡ o → (h : Option OfGroup) → s.group ≡ h → option_map_or (λ o. option_map {U = OfGroup × List OverviewValue} (λ g. (g, o.1)) h) o None ≡ Some (g, os)
+    by : (o : Option (Range × List OverviewValue)) → s.overviews ≡ o → (h : Option OfGroup) → s.group ≡ h
+        → option_map_or (λ o. option_map {U = OfGroup × List OverviewValue} (λ g. (g, o.1)) h) o None ≡ Some (g, os)
         → (range : Range) × (s.overviews ≡ Some (range, os)) × (s.group ≡ Some g)
     by None p h q e = cc
     by (Some o) p None q e = cc

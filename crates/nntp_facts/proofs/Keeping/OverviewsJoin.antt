@@ -6,7 +6,8 @@ use Rattle.std.specs.{Cmp.Lexicographic.{same_text}, FinMap.{get}}
 use Rattle.nntp_wire.specs.{Listing.{OverviewValue}, declared.range.Range.{Range}}
 use Rattle.nntp_article.specs.{Article.{Parts.{Id}, Fields.{Fields, fields_told}}, Session.{Spool.{Name}, Machine.{is_same, overview_numbers}}}
 use Rattle.nntp_said.specs.{Asks.{Ask, ListsIn}, Facts.{Fact, OverviewsAre}}
-use Rattle.nntp_theory.specs.{Given.{asks_of, shows_group, is_shown_group, first_given, id_of_overview, id_in, has_overview_of, fields_of_overview, fields_in}, Together.{number_of_overview, number_in}}
+use Rattle.nntp_theory.specs.{Given.{asks_of, shows_group, is_shown_group, first_given, id_of_overview, id_in}, Together.{number_of_overview, number_in}}
+use Rattle.nntp_theory.specs.Given.{has_overview_of, fields_of_overview, fields_in}
 use Rattle.nntp_theory.specs.{Together.{denies_article}, Inner.Together.{AsksStand, IsWellFormed, JoinNumbers, JoinIds, Together, Join, SaidOfArticle, said_of, AreSame}}
 use Rattle.nntp_theory.{specs.Inner.Together.{said_nothing, join_said}, proofs.Members.{In, all_at, all_from, all_back, any_in, found_in}}
 use Rattle.nntp_theory.proofs.Together.{FactsOfASpoolStand.{same_itself}, FactsJoin.{asks_append}, TwoListsOfFacts.{given_append, given_silent, or_none, any_silent}}
@@ -241,9 +242,10 @@ surely_added facts id fields old new false kept free same added = absurd (added.
 pub gives_joins : (facts : List Fact) (name : Name) (k : Kept) (o : OverviewValue) → IsKept facts k → MayBeGiven (told facts name) k.articles o ↔ OverviewJoins facts name o
 gives_joins facts name k o kept =
     let is = by _ _ _ _ (id ((told facts name).ids o.number)) (place ((told facts name).places o.id)) (denied_kept facts k.articles o.id kept.articles) in
-    let same = ap (λ (s : SaidOfArticle). s.fields) (kept.articles o.id) in
-    (λ t. record { id = (is.0 t.0).0; free = (is.0 t.0).1; fields = subst (AreSame (Some (fields_told o))) (sym same) t.1 },
-    λ j. (is.1 (j.id, j.free), subst (AreSame (Some (fields_told o))) same j.fields))
+    let same = ap (λ (s : SaidOfArticle). s.fields) (kept.articles o.id) in (
+      λ t. record { id = (is.0 t.0).0; free = (is.0 t.0).1; fields = subst (AreSame (Some (fields_told o))) (sym same) t.1 },
+      λ j. (is.1 (j.id, j.free), subst (AreSame (Some (fields_told o))) same j.fields),
+    )
   where
     id : (x : Option Id) → IsTrue (option_map_or (λ other. is_same other o.id) x true) ↔ IsOr x o.id
     id None = (λ t. tt, λ h. refl)

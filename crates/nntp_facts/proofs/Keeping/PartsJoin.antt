@@ -24,13 +24,15 @@ use Rattle.nntp_numbers.specs.Inner.{Summary.{AreBounded}, Part.{Says}}
 
 -- of each id the facts of the article's part, and the id at a number, say what that part does
 of_part : (a : Option (Id × OfArticle)) (name : Name) (e : Option (ℕ × Id)) → IfSome e (λ e. IsToExist a e.1) → ((other : Id) → a ≡ Some (other, Exists) → MatchOption e ⊥ (λ e. e.1 ≡ other))
-    → ((other : Id) (os : List OverviewValue) → a ≡ Some (other, Describes os) → MatchOption (only os) ⊥ (λ o. o.id ≡ other)) → (id : Id) → join_said (said_of (sent_facts a) id) (join_said (said_of (id_facts name e) id) (said_of (lack_facts a) id)) ≡ said_in a id
+    → ((other : Id) (os : List OverviewValue) → a ≡ Some (other, Describes os) → MatchOption (only os) ⊥ (λ o. o.id ≡ other)) → (id : Id)
+    → join_said (said_of (sent_facts a) id) (join_said (said_of (id_facts name e) id) (said_of (lack_facts a) id)) ≡ said_in a id
 of_part None name None placed may one id = refl
 of_part None name (Some e) placed may one id = absurd placed
 of_part (Some (other, Lacks)) name None placed may one id = lack_said other id
 of_part (Some (other, Lacks)) name (Some e) placed may one id = absurd placed
 of_part (Some (other, Exists)) name None placed may one id = absurd (may other refl)
-of_part (Some (other, Describes os)) name None placed may one id = ap (λ s. join_said s said_nothing) (overview_said other os (one other os refl) id) ∙ nothing_more (said_in (Some (other, Describes os)) id)
+of_part (Some (other, Describes os)) name None placed may one id =
+    ap (λ s. join_said s said_nothing) (overview_said other os (one other os refl) id) ∙ nothing_more (said_in (Some (other, Describes os)) id)
 of_part (Some (other, Describes os)) name (Some e) placed may one id = grind (arith, nothing_more, there_said, overview_said other os (one other os refl) id, overview_at)
 of_part s name d placed may one id = grind (arith, nothing_more, there_said, text_said, text_at)
 

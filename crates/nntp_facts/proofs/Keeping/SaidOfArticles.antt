@@ -87,5 +87,6 @@ text_at what other lines id = grind arith
 -- where only one overview tells, and it is that of the id, all that is said is what it tells
 pub first_said : (os : List OverviewValue) (o : OverviewValue) (rest : List OverviewValue) (id : Id) → os ≡ o ∷ rest → MatchOption (only os) ⊥ (λ o. o.id ≡ id)
     → said_alone o.id (telling true (Some (fields_told o))) ≡ said_in (Some (id, Describes os))
-first_said os o [] id is one = (λ i. said_alone (subst (λ os. MatchOption (only os) ⊥ (λ o. o.id ≡ id)) is one i) (telling true (Some (fields_told o)))) ∙ ap (λ os. said_in (Some (id, Describes os))) (sym is)
+first_said os o [] id is one =
+    (λ i. said_alone (subst (λ os. MatchOption (only os) ⊥ (λ o. o.id ≡ id)) is one i) (telling true (Some (fields_told o)))) ∙ ap (λ os. said_in (Some (id, Describes os))) (sym is)
 first_said os o (v ∷ rest) id is one = absurd (subst (λ os. MatchOption (only os) ⊥ (λ o. o.id ≡ id)) is one)

@@ -1,5 +1,6 @@
 -- What blocks of lines tell of headers are words.
-use Rattle.std.{proofs.{Common.{◌≡◌, IsTrue, true, false, List, [], ◌∷◌, ℕ, Option, None, Some, sym, arith}, lemmas.Bool.{and_parts, and_from, true≢false}}, specs.{Prelude.{option_map, is_some}, List.{AllByRecursion, list_all}}}
+use Rattle.std.proofs.{Common.{◌≡◌, IsTrue, false, List, [], ◌∷◌, Option, None, Some, sym, arith}, lemmas.Bool.{and_parts, and_from, true≢false}}
+use Rattle.std.specs.{Prelude.{option_map, is_some}, List.{AllByRecursion, list_all}}
 use Rattle.nntp_wire.specs.{Block.{AreClean}, Octets.{is_clean}, Inner.Octets.{are_octets}, Listing.{overviews_of}}
 use Rattle.nntp_article.specs.{Article.{Parts.{Line}, Fields.{fields_told, fields_of_head}}, Inner.Fields.{AreWords}, Session.Spool.{is_line}}
 use Rattle.nntp_facts.specs.{Inner.ArticleView.{known_article}, declared.articles.known.KnownArticle.{KnownArticle}}

@@ -1,13 +1,13 @@
 -- Points that are about headers, where what an answer tells of them conflicts with what is kept.
-use Rattle.std.proofs.Common.{◌≡◌, ℕ, true, false, cond, IsTrue, List, [], ◌∷◌, ◌++◌, Option, None, Some, MatchOption, inl, inr, refl, sym, ap, subst, ◌∙◌, arith}
+use Rattle.std.proofs.Common.{◌≡◌, true, false, IsTrue, List, [], ◌∷◌, ◌++◌, Option, None, Some, MatchOption, inl, inr, refl, sym, ap, subst, ◌∙◌, arith}
 use Rattle.std.proofs.lemmas.Bool.{true≢false}
 use Rattle.std.specs.{Prelude.{◌≢◌, IfSome, option_map, is_some}, List.{AllByRecursion}, Option.{option_map_or}, FinMap.{get}}
 use Rattle.nntp_wire.specs.{Listing.{OverviewValue}, declared.{command.What.{What}, range.Range.{Range}}}
 use Rattle.nntp_article.specs.{Article.{Parts.{Id, Line}, Fields.{Fields, fields_told, fields_of_head, words_in}}, declared.{article.field.Field.{Field}, session.profile.Profile.{Profile}}}
 use Rattle.nntp_article.specs.Session.Machine.{head_fits, only}
 use Rattle.nntp_said.specs.Facts.{Fact}
-use Rattle.nntp_theory.specs.{Given.{first_given, fields_in, fields_of_overview}, Together.{GiveOne}, Inner.Together.{SaidOfArticle, said_nothing, AreSame}}
-use Rattle.nntp_theory.{specs.Conflict.{Point, FieldOf, ConflictAt, words_told}, proofs.{Members.{In, all_at, all_from, part_first}, PointsByRank.{of_rank}}}
+use Rattle.nntp_theory.specs.{Given.{first_given, fields_in, fields_of_overview}, Together.{GiveOne}, Inner.Together.{SaidOfArticle, AreSame}}
+use Rattle.nntp_theory.{specs.Conflict.{Point, ConflictAt, words_told}, proofs.{Members.{In, all_at, all_from, part_first}, PointsByRank.{of_rank}}}
 use Rattle.nntp_theory.proofs.Together.{TwoListsOfFacts.{give_one_both, give_same_of_both}, ListedOverviews.{told_by}}
 use Rattle.nntp_facts.specs.Inner.{Kept.{Kept, said_kept}, Articles.{head_sent}, Saying.{OfArticle, Sends, Describes, MayBeOf}, KeptSaying.{said_in, said_listed, kept_by}}
 use Rattle.nntp_facts.specs.Inner.Points.{IsPointOf, IsBeside, IsFieldOf, IsFieldAmong, IsOtherField, OneTellsOther, Statement, said_by}

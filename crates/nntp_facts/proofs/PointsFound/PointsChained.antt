@@ -49,7 +49,9 @@ none_there all facts k i o same e is before found = none_given facts k i o e is 
 
 -- all kinds, in their order
 abbrev pub kinds : List Kind
-kinds = kind.Step ∷ kind.Group ∷ kind.Numbers numbers.Number ∷ kind.Numbers numbers.Count ∷ kind.Numbers numbers.First ∷ kind.IdOf ∷ kind.PlaceOf ∷ kind.Article ∷ kind.HeadOf ∷ kind.BodyOf ∷ kind.FieldOf ∷ []
+kinds =
+    kind.Step ∷ kind.Group ∷ kind.Numbers numbers.Number ∷ kind.Numbers numbers.Count ∷ kind.Numbers numbers.First
+    ∷ kind.IdOf ∷ kind.PlaceOf ∷ kind.Article ∷ kind.HeadOf ∷ kind.BodyOf ∷ kind.FieldOf ∷ []
 
 -- each stands at its rank
 pub kind_ranked : (i : ℕ) (d : Kind) → i < 11 → rank_of (get_or kinds i d) ≡ i

@@ -1,7 +1,8 @@
 -- What a bad answer and accepted ones say, each by itself, as points of conflict are looked for.
 use Rattle.std.specs.Prelude.{◌≡◌, true, false, ◌<◌, ◌||◌, ◌&&◌, ◌==◌, not, ℕ, Bool, List, [], ◌∷◌, ◌++◌, Option, None, Some, option_map, if◌then◌else◌}
 use Rattle.std.specs.{Prelude.{◌≢◌, ◌⊎◌, MatchOption}, List.{AllByRecursion, flat_map}, Option.{option_map_or}, FinMap.{get}}
-use Rattle.nntp_article.specs.{Article.{Parts.{Id}, Fields.{Fields, fields_told, words_in}}, declared.article.field.Field.{Field}, Session.{Spool.{Name}, Machine.{is_same}}, declared.session.profile.Profile.{Profile}}
+use Rattle.nntp_article.specs.{Article.{Parts.{Id}, Fields.{Fields, fields_told, words_in}}, Session.{Spool.{Name}, Machine.{is_same}}}
+use Rattle.nntp_article.specs.declared.{article.field.Field.{Field}, session.profile.Profile.{Profile}}
 use Rattle.nntp_article.specs.Inner.Misfit.{numbers_of}
 use Rattle.nntp_wire.specs.{Decided.{matches_name}, Listing.{ActiveValue, OverviewValue}}
 use Rattle.nntp_said.specs.{Asks.{Ask, Bounds}, Facts.{Fact, group_of}}

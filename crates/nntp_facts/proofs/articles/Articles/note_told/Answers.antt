@@ -1,4 +1,4 @@
-use Rattle.std.proofs.Common.{◌≡◌, true, Some, [], ◌∷◌, refl, sym, ap, subst, ◌∙◌}
+use Rattle.std.proofs.Common.{true, Some, sym, subst, ◌∙◌}
 use Rattle.std.specs.List.{AllByRecursion}
 use Rattle.nntp_wire.specs.{Listing.{OverviewValue, overviews_of}, Inner.View.{overview_value}}
 use Rattle.nntp_article.specs.{Article.Fields.{fields_told}, Inner.Fields.{AreWords}}
@@ -9,7 +9,8 @@ use Rattle.nntp_facts.proofs.articles.Articles.note_told.Goals as goal
 
 pub tell-requires : goal.tell-requires
 tell-requires g c =
-    let all = subst (AllByRecursion (λ o. AreWords (fields_told o))) (sym c.overviews.ensures.listed ∙ c.in-Some.ensures.steps) (overviews_words c.args.block.now c.overviews.ensures.clean c.overviews.ensures.octets) in
+    let all = subst (AllByRecursion (λ o. AreWords (fields_told o))) (sym c.overviews.ensures.listed ∙ c.in-Some.ensures.steps)
+    (overviews_words c.args.block.now c.overviews.ensures.clean c.overviews.ensures.octets) in
     subst AreWords (sym c.of_overview.ensures) all.0
 
 pub returns-in-Some-clause-added : goal.returns-in-Some-clause-added
@@ -19,4 +20,5 @@ returns-in-Some-clause-added g c = if_ok c.tell.result (λ added adds facts id k
     let is = first_said (overviews_of c.args.block.now) o _ id listed may in
     subst (λ said. IsSaidAdded facts said c.args.self.now c.tell.new.self (is_added added)) is
     (subst (λ told. IsSaidAdded facts (said_alone o.id (telling true (Some told))) c.args.self.now c.tell.new.self (is_added added)) c.of_overview.ensures
-    (subst (λ id. IsSaidAdded facts (said_alone id (telling true (Some c.of_overview.result))) c.args.self.now c.tell.new.self (is_added added)) c.as_str-id.ensures.value (adds facts kept)))) c.tell.ensures.added
+    (subst (λ id. IsSaidAdded facts (said_alone id (telling true (Some c.of_overview.result))) c.args.self.now c.tell.new.self (is_added added)) c.as_str-id.ensures.value
+    (adds facts kept)))) c.tell.ensures.added

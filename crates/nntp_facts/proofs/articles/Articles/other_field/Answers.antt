@@ -1,6 +1,6 @@
-use Rattle.std.{proofs.Common.{◌≡◌, Some, refl, sym, ap, subst}, specs.Prelude.{◌≢◌, MatchOption}}
+use Rattle.std.{proofs.Common.{Some, refl, sym, subst}, specs.Prelude.{◌≢◌, MatchOption}}
 use Rattle.nntp_article.specs.Article.Fields.{words_in}
-use Rattle.nntp_theory.specs.Inner.Together.{SaidOfArticle, AreSame}
+use Rattle.nntp_theory.specs.Inner.Together.{AreSame}
 use Rattle.nntp_facts.{specs.Inner.Kept.{said_kept}, proofs.Keeping.{KeptIds.{part_known, no_part_known}, KeptArticles.{same_as_none}}}
 use Rattle.nntp_facts.proofs.articles.Articles.other_field.Goals as goal
 

@@ -1,4 +1,4 @@
-use Rattle.std.{proofs.{Common.{◌≡◌, None, map, refl, sym, ap, subst, ◌∙◌}, lemmas.Bool.{true≢false}}, specs.List.{AllByRecursion}}
+use Rattle.std.{proofs.{Common.{◌≡◌, None, refl, sym, ap, subst, ◌∙◌}, lemmas.Bool.{true≢false}}, specs.List.{AllByRecursion}}
 use Rattle.nntp_wire.specs.Listing.{overviews_of}
 use Rattle.nntp_theory.proofs.OkResults.{on_ok}
 use Rattle.nntp_facts.specs.Inner.{Kept.{Kept as KeptValue, IsKept, Told, told, Agree, MayShow, with_part}, KeptSaying.{IsTextOf, MayGive}}

@@ -1,4 +1,4 @@
-use Rattle.std.proofs.{Common.{map, sym, subst, arith}, lemmas.Bool.{true≢false}}
+use Rattle.std.proofs.{Common.{sym, subst, arith}, lemmas.Bool.{true≢false}}
 use Rattle.nntp_wire.specs.Listing.{overviews_of}
 use Rattle.nntp_facts.{specs.Inner.{Kept.{IsKept, told}, SayingView.{of_group}}, proofs.Keeping.OverviewsJoin.{asks, overviews_join}}
 use Rattle.nntp_facts.proofs.kept.Kept.may_list_overviews.Goals as goal

@@ -1,9 +1,9 @@
-use Rattle.std.{proofs.{Common.{[], ◌∷◌, Some, sym, ap, subst, ◌∙◌}, lemmas.Result.{IfOk-weaker}}, specs.{Prelude.{option_map}, List.{AllByRecursion}}}
+use Rattle.std.{proofs.{Common.{[], ◌∷◌, sym, ap, subst, ◌∙◌}, lemmas.Result.{IfOk-weaker}}, specs.{Prelude.{option_map}, List.{AllByRecursion}}}
 use Rattle.nntp_wire.specs.Listing.{overviews_of}
 use Rattle.nntp_article.specs.Inner.Listed.{lists}
 use Rattle.nntp_said.specs.Facts.{GroupsAre}
 use Rattle.nntp_theory.specs.Inner.Together.{IsWellFormed}
-use Rattle.nntp_facts.specs.Inner.{ListedGroups.{MayList}, Kept.{AreAdded}, Saying.{overviews_facts}, KeptSaying.{MayListOf}, SayingView.{active_said}}
+use Rattle.nntp_facts.specs.Inner.{ListedGroups.{MayList}, Kept.{AreAdded}, SayingView.{active_said}}
 use Rattle.nntp_facts.{specs.Inner.SayingView.{of_group, saying_of}, proofs.Keeping.NotedParts.{list_added, lists_none, overviews_added}}
 use Rattle.nntp_facts.proofs.kept.Kept.note.Goals as goal
 

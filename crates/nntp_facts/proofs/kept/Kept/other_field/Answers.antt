@@ -40,4 +40,5 @@ returns-in-Some-Describes g c profile facts more h =
     let id = w.field-0-0.now in
     let os = overviews_of w.block.now in
     let said : option_map article_said c.args.told.now.saying.article ≡ Some (id, Describes os) = search rules in
-    overview_point profile facts c.args.self.now (statement_of c.args.told.now) more h id os said (option_map point_of c.other_listed_field-in-Some-Describes.result) c.other_listed_field-in-Some-Describes.ensures
+    overview_point profile facts c.args.self.now (statement_of c.args.told.now) more h id os said
+    (option_map point_of c.other_listed_field-in-Some-Describes.result) c.other_listed_field-in-Some-Describes.ensures

@@ -1,4 +1,4 @@
-use Rattle.std.{proofs.Common.{◌≡◌, Bool, true, false, ◌∷◌, Option, None, Some, sym, ap, subst, ◌∙◌, arith}, proofs.lemmas.Bool.{true≢false}, specs.Prelude.{option_map, is_some}}
+use Rattle.std.{proofs.Common.{None, Some, sym, subst, ◌∙◌}, specs.Prelude.{option_map}}
 use Rattle.nntp_wire.specs.Inner.View.{overview_value}
 use Rattle.nntp_facts.{specs.Inner.{PointView.{point_of}, Points.{IsFieldAmong, IsFieldOf}}, proofs.PointsFound.FieldsBeside.{past_found, at_found}}
 use Rattle.nntp_facts.proofs.kept.Kept.other_listed_field.Goals as goal

@@ -1,6 +1,5 @@
-use Rattle.std.{proofs.{Common.{◌≡◌, None, Some, sym, ap, ◌∙◌, arith, rules}, lemmas.Result.{IfOk-weaker}}, specs.Option.{option_or}}
+use Rattle.std.{proofs.{Common.{ap, ◌∙◌, arith}, lemmas.Result.{IfOk-weaker}}}
 use Rattle.nntp_article.{specs.Article.Fields.{fields_of_head}, proofs.ArticleLemmas.FieldLemmas.{lines_tell}}
-use Rattle.nntp_facts.specs.Inner.{Articles.{with_told}, ArticleView.{known_article}}
 use Rattle.nntp_facts.proofs.articles.known.KnownArticle.with_told.Goals as goal
 
 pub returns-in-Unsent : goal.returns-in-Unsent
