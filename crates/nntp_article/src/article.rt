@@ -19,7 +19,7 @@ pub use field::Field;
 pub use fields::{FieldWords, Fields};
 pub use head::Head;
 pub use header::{Header, Headers, content};
-pub use made_heads::made_head;
+pub use made_heads::{field_lines, made_head};
 pub use missing_headers::Missing;
 pub use parts::Parts;
 pub use required_headers::missing;

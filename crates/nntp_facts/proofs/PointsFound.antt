@@ -4,6 +4,7 @@ pub mod StatementsTold
 pub mod KindsOfPoints
 pub mod NumbersBeside
 pub mod ArticlesBeside
+pub mod FieldsBeside
 pub mod IdsBeside
 pub mod ListedBeside
 pub mod PointsChained

@@ -1,5 +1,5 @@
 //! What answers say of articles.
-ghost use Rattle.std.specs.Prelude.{◌≡◌, ◌≢◌, ◌↔◌, false, Some, IsTrue, List, Option, IfOk, OnOk, is_some};
+ghost use Rattle.std.specs.Prelude.{◌≡◌, ◌≢◌, ◌↔◌, false, Some, IsTrue, List, MatchOption, Option, IfOk, OnOk, is_some};
 ghost use Rattle.std.specs.List.{list_any};
 ghost use Rattle.std.specs.Option.{option_map_or};
 ghost use Rattle.std.specs.FinMap as map;
@@ -8,15 +8,18 @@ ghost use Rattle.std.specs.Ordering.{nat_cmp};
 ghost use Rattle.std.specs.Cmp.Lexicographic.{slice_cmp};
 ghost use Rattle.std.specs.Rc.{rc_str_bytes};
 ghost use Rattle.nntp_wire.specs.declared.command.What.{What};
+ghost use Rattle.nntp_wire.specs.Listing.{overviews_of};
 ghost use Rattle.nntp_article.specs.Article.Parts.{Id, Line};
+ghost use Rattle.nntp_article.specs.Article.Fields.{words_in};
+ghost use Rattle.nntp_article.specs.Inner.Fields.{AreWords};
 ghost use Rattle.nntp_said.specs.Facts.{Fact};
-ghost use Rattle.nntp_theory.specs.Given.{is_mentioned, first_given, head_in, body_in};
+ghost use Rattle.nntp_theory.specs.Given.{is_mentioned, first_given, head_in, fields_in, body_in};
 ghost use Rattle.nntp_theory.specs.Together.{shows_article};
 ghost use Rattle.nntp_theory.specs.Inner.Together.{AreSame};
-ghost use Rattle.nntp_facts.specs.Inner.Articles.{head_sent, body_sent, is_there, denied, with_new};
-ghost use Rattle.nntp_facts.specs.Inner.Kept.{AreKeptArticles};
-ghost use Rattle.nntp_facts.specs.Inner.KeptSaying.{IsThereAlready, MayBeSaid, IsArticleAdded};
-ghost use Rattle.nntp_facts.specs.Inner.Saying.{Lacks, Exists, Sends, IsToExist};
+ghost use Rattle.nntp_facts.specs.Inner.Articles.{head_sent, body_sent, is_there, denied, telling, with_new};
+ghost use Rattle.nntp_facts.specs.Inner.Kept.{AreKeptArticles, said_kept};
+ghost use Rattle.nntp_facts.specs.Inner.KeptSaying.{IsThereAlready, MayBeSaid, IsArticleAdded, IsSaidAdded, said_alone};
+ghost use Rattle.nntp_facts.specs.Inner.Saying.{Lacks, Exists, Sends, Describes, IsToExist};
 ghost use Rattle.nntp_facts.specs.Inner.SayingView.{article_said};
 ghost use Rattle.nntp_facts.specs.Inner.Readers.{shown_articles};
 ghost use Rattle.nntp_facts.specs.Inner.ArticleView.{is_added, text_of};
@@ -24,13 +27,16 @@ ghost use Rattle.nntp_facts.specs.declared.joins.Joins.TheVariants.{Again};
 
 mod added;
 mod known;
+mod sent;
 mod shown_articles;
 
 use crate::joins::Joins;
 use crate::saying::ArticlePart;
 pub(crate) use added::Added;
 use known::KnownArticle;
-pub(crate) use known::Sent;
+use nntp_article::{Field, Fields};
+use nntp_wire::Block;
+pub(crate) use sent::Sent;
 pub use shown_articles::{ShownArticle, ShownArticles};
 use std::alloc::{AllocError, Allocator, Global};
 use std::collections::{BTreeMap, BTreeSet};
@@ -67,7 +73,7 @@ impl<A: Allocator> Model for Articles<A> {
 }
 
 impl<A: Allocator> Articles<A> {
-    /// Tells whether an answer mentions the id.
+    /// Describes whether an answer mentions the id.
     pub(crate) fn mentions(&self, id: &[u8]) -> bool
         ensures is { result ≡ is_some (map.get self.now id.now) }
         ensures facts { (facts : List Fact) → AreKeptArticles facts self.now → result ≡ is_mentioned facts id.now }
@@ -75,21 +81,21 @@ impl<A: Allocator> Articles<A> {
         self.has_octets(id) || self.denied.contains(id)
     }
 
-    /// Tells whether the octets are an id that has an article.
+    /// Describes whether the octets are an id that has an article.
     pub(crate) fn has_octets(&self, id: &[u8]) -> bool
         ensures { result ≡ is_there (map.get self.now id.now) }
     {
         has_key(&self.known, id)
     }
 
-    /// Tells whether the id is said to have no article.
+    /// Describes whether the id is said to have no article.
     pub(crate) fn is_denied(&self, id: &str) -> bool
         ensures { result ≡ option_map_or (λ a. a.is_denied) (map.get self.now id.now) false }
     {
         self.denied.contains(id.as_bytes()) && !self.has(id)
     }
 
-    /// Tells whether the id has an article.
+    /// Describes whether the id has an article.
     fn has(&self, id: &str) -> bool
         ensures { result ≡ is_there (map.get self.now id.now) }
     {
@@ -98,7 +104,7 @@ impl<A: Allocator> Articles<A> {
 }
 
 impl<A: Allocator> Articles<A> {
-    /// Tells whether no other head of the article was sent than this, if it is one.
+    /// Describes whether no other head of the article was sent than this, if it is one.
     pub(crate) fn may_have_head(&self, id: &str, sent: &Sent<'_>) -> bool
         ensures { (facts : List Fact) → AreKeptArticles facts self.now → IsTrue result ↔ AreSame sent.now.head (first_given (head_in id.now) facts) }
     {
@@ -108,13 +114,24 @@ impl<A: Allocator> Articles<A> {
         }
     }
 
-    /// Tells whether no other body of the article was sent than this, if it is one.
+    /// Describes whether no other body of the article was sent than this, if it is one.
     pub(crate) fn may_have_body(&self, id: &str, sent: &Sent<'_>) -> bool
         ensures { (facts : List Fact) → AreKeptArticles facts self.now → IsTrue result ↔ AreSame sent.now.body (first_given (body_in id.now) facts) }
     {
         match self.known.get(id) {
             Some(article) => article.may_have_body(sent),
             None => true,
+        }
+    }
+
+    /// Returns the first of the four headers of the article of which other words were told than these.
+    pub(crate) fn other_field(&self, id: &str, told: Fields<'_>) -> Option<Field>
+        ensures { MatchOption result (AreSame (Some told.entry) (said_kept (map.get self.now id.now)).fields)
+            (λ field. MatchOption (said_kept (map.get self.now id.now)).fields ⊥ (λ before. words_in told.entry field ≢ words_in before field)) }
+    {
+        match self.known.get(id) {
+            Some(article) => article.other_field(told),
+            None => None,
         }
     }
 }
@@ -151,8 +168,8 @@ impl<A: Allocator + Copy> Articles<A> {
         ensures added { IfOk result (λ added. (facts : List Fact) → AreKeptArticles facts self.old → MayBeSaid (article_said part.now)
             → (joins ≡ Again → IsThereAlready facts (Some (article_said part.now)))
             → IsArticleAdded facts (Some (article_said part.now)) self.old self.new (is_added added)) }
-        ensures text { IfOk result (λ added. joins ≢ Again → IsTrue (is_added added) → (id : Id) → IsToExist (Some (article_said part.now)) id → text_of added
-            ≡ Some id) }
+        ensures text { IfOk result (λ added. MayBeSaid (article_said part.now) → joins ≢ Again → IsTrue (is_added added)
+            → (id : Id) → IsToExist (Some (article_said part.now)) id → text_of added ≡ Some id) }
     {
         match part {
             ArticlePart::Lacks(id) => Ok(Added::unnamed_if(self.note_lack(*id)?)),
@@ -160,7 +177,48 @@ impl<A: Allocator + Copy> Articles<A> {
             ArticlePart::Sends { id, what, block } => {
                 self.note_sent(joins, *id, &Sent::of(*what, *block))
             }
+            ArticlePart::Describes { block, .. } => self.note_told(*block),
         }
+    }
+
+    /// Adds what the only overview of a block tells, if it may be so, and hands back the id's text. After an error the
+    /// articles say nothing of use.
+    fn note_told(&mut self, block: &Block<'_>) -> Result<Added<A>, AllocError>
+        ensures added { IfOk result (λ added. (facts : List Fact) (id : Id) → AreKeptArticles facts self.old
+            → MayBeSaid (id, Describes (overviews_of block.now))
+            → IsArticleAdded facts (Some (id, Describes (overviews_of block.now))) self.old self.new (is_added added)) }
+        ensures text { IfOk result (λ added. (id : Id) → MayBeSaid (id, Describes (overviews_of block.now)) → IsTrue (is_added added)
+            → text_of added ≡ Some id) }
+    {
+        match block.overviews().next() {
+            Some(overview) => {
+                let id = overview.id.as_str();
+                self.tell(id, Fields::of_overview(overview), true)
+            }
+            None => Ok(Added::Never),
+        }
+    }
+
+    /// Adds that an overview tells this of the id's article, if it may be so, and hands back the id's text; `is_sent` where
+    /// no range was asked for. After an error the articles say nothing of use.
+    pub(crate) fn tell(
+        &mut self,
+        id: &str,
+        told: Fields<'_>,
+        is_sent: bool,
+    ) -> Result<Added<A>, AllocError>
+        requires { AreWords told }
+        ensures added { IfOk result (λ added. (facts : List Fact) → AreKeptArticles facts self.old
+            → IsSaidAdded facts (said_alone id.now (telling is_sent (Some told.entry))) self.old self.new (is_added added)) }
+        ensures text { IfOk result (λ added. IsTrue (is_added added) → text_of added ≡ Some id.now) }
+    {
+        if self.is_denied(id) {
+            return Ok(Added::Never);
+        }
+        let entry = self.known.entry(RcStr::from_str(self.alloc, id)?)?;
+        let text = entry.key().clone()?;
+        let article = entry.or_insert(KnownArticle::Unsent);
+        Ok(Added::named_if(article.note_told(self.alloc, told, is_sent)?, text))
     }
 
     /// Adds that the id at a number has an article, if it may be so. After an error the articles say
@@ -259,7 +317,7 @@ impl<A: Allocator + Copy> Articles<A> {
     }
 }
 
-/// Tells whether the octets are a key of the map. Octets that aren't text are none.
+/// Describes whether the octets are a key of the map. Octets that aren't text are none.
 fn has_key<V, A: Allocator>(map: &BTreeMap<RcStr<A>, V, A>, key: &[u8]) -> bool
     ensures { result ≡ is_some (get_by (λ k. slice_cmp nat_cmp key.now (rc_str_bytes k)) map.now) }
 {

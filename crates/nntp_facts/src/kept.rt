@@ -95,9 +95,9 @@ impl<A: Allocator + Copy> Kept<A> {
             → (facts more : List Fact) → IsKept facts self.old → Together facts → AllByRecursion IsWellFormed more
             → Tells facts (saying_of saying.now) more → AreAdded facts more self.old self.new does) }
     {
-        match (&saying.groups, saying.listing_group()) {
+        match (&saying.groups, saying.listing()) {
             (Some(list), _) => self.note_groups(list.wildmat, listed.groups()),
-            (None, Some(group)) => self.note_overviews(group, listed.overviews()),
+            (None, Some((group, block))) => self.note_overviews(group, block),
             (None, None) => self.note_parts(saying),
         }
     }
@@ -132,8 +132,8 @@ impl<A: Allocator + Copy> Kept<A> {
         ensures added { IfOk result (λ added. (facts : List Fact) → AreKeptArticles facts self.old.articles
             → IfSome (option_map article_said article.now) MayBeSaid → (joins ≡ Again → IsThereAlready facts (option_map article_said article.now))
             → IsArticleAdded facts (option_map article_said article.now) self.old.articles self.new.articles (is_added added)) }
-        ensures text { IfOk result (λ added. joins ≢ Again → IsTrue (is_added added) → (id : Id) → IsToExist (option_map article_said article.now) id
-            → text_of added ≡ Some id) }
+        ensures text { IfOk result (λ added. IfSome (option_map article_said article.now) MayBeSaid → joins ≢ Again → IsTrue (is_added added)
+            → (id : Id) → IsToExist (option_map article_said article.now) id → text_of added ≡ Some id) }
     {
         match article {
             Some(article) => self.articles.note(joins, article),

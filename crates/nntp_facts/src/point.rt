@@ -1,4 +1,5 @@
 //! What answers conflict about.
+use nntp_article::Field;
 use nntp_wire::GroupName;
 
 /// What a bad answer and those with which it conflicts disagree about. Names and message-ids are octets of the answers.
@@ -40,4 +41,11 @@ pub enum Point<'a> {
     HeadOf(&'a [u8]),
     /// Which body the article of the message-id has.
     BodyOf(&'a [u8]),
+    /// What a header of the article of the message-id tells.
+    FieldOf {
+        /// The message-id.
+        id: &'a [u8],
+        /// Which header it is.
+        field: Field,
+    },
 }

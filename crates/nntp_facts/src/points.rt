@@ -34,6 +34,7 @@ pub(crate) enum Kind {
     Article,
     HeadOf,
     BodyOf,
+    FieldOf,
 }
 
 /// A kind of points that are about the numbers of a group.
@@ -45,7 +46,7 @@ pub(crate) enum NumbersKind {
 }
 
 /// All kinds, in the order in which they are told.
-const KINDS: [Kind; 10] = [
+const KINDS: [Kind; 11] = [
     Kind::Step,
     Kind::Group,
     Kind::Numbers(NumbersKind::Number),
@@ -56,6 +57,7 @@ const KINDS: [Kind; 10] = [
     Kind::Article,
     Kind::HeadOf,
     Kind::BodyOf,
+    Kind::FieldOf,
 ];
 
 /// An answer, and what it lists.

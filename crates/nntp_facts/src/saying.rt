@@ -8,9 +8,9 @@ ghost use Rattle.nntp_article.specs.declared.session.profile.Profile.{Profile};
 ghost use Rattle.nntp_article.specs.Session.Machine.{Visible, fits};
 ghost use Rattle.nntp_article.specs.Inner.Misfit.{numbers_of};
 ghost use Rattle.nntp_article.specs.Inner.Listed.{Lists, lists_of};
-ghost use Rattle.nntp_said.specs.Facts.{Fact as FactValue, Asks, IdAt as IdIs, OverviewsAre, here, facts_of, group_of};
+ghost use Rattle.nntp_said.specs.Facts.{Fact as FactValue, Asks, FieldsAre, IdAt as IdIs, OverviewsAre, here, facts_of, group_of};
 ghost use Rattle.nntp_said.specs.Inner.FactView.{ask_of, fact_of};
-ghost use Rattle.nntp_facts.specs.Inner.Saying.{AreListed, IsSelectedShown, TellsHere, TellsThere, begun, listing_group, nothing, numbers_shown, saying_by};
+ghost use Rattle.nntp_facts.specs.Inner.Saying.{AreListed, IsSelectedShown, TellsHere, TellsThere, begun, listing, nothing, numbers_shown, saying_by};
 ghost use Rattle.nntp_facts.specs.Inner.Saying.{saying_with, with_ask};
 ghost use Rattle.nntp_said.specs.Asks.{Bounds, Has};
 ghost use Rattle.nntp_numbers.specs.Inner.Part.{Says};
@@ -20,9 +20,7 @@ ghost use Rattle.nntp_numbers.specs.Inner.Summary.{AreBounded};
 
 use nntp_numbers::NumbersPart;
 use nntp_said::{Ask, Fact, NumberLines, Position, SaidFacts, facts_of};
-use nntp_wire::{
-    ActiveLine, Answer, Block, GroupName, Marks, OverviewLine, Prompt, Range, What, Wildmat,
-};
+use nntp_wire::{ActiveLine, Answer, Block, GroupName, Marks, Prompt, Range, What, Wildmat};
 use std::slice;
 
 /// A number of a group, and the message-id that it has.
@@ -60,19 +58,16 @@ impl<'s> GroupPart<'s> {
         }
     }
 
-    /// Says what an overview says of the group of this name beside its number: the id that this has.
-    pub(crate) fn of_overview(name: &'s [u8], overview: &'s OverviewLine<'s>) -> GroupPart<'s>
+    /// Says of the group of this name that the number has the id, and nothing else.
+    pub(crate) fn of_id(name: &'s [u8], number: u64, id: &'s str) -> GroupPart<'s>
         ensures name { result.name.now ≡ name.now }
         ensures numbers { Says (said result.numbers) [] }
-        ensures id { id_at result.id ≡ Some (overview.now.number, overview.now.id) }
+        ensures id { id_at result.id ≡ Some (number, id.now) }
     {
         GroupPart {
             name,
             numbers: NumbersPart::nothing(),
-            id: Some(IdAt {
-                number: overview.number,
-                id: overview.id.as_str(),
-            }),
+            id: Some(IdAt { number, id }),
         }
     }
 
@@ -112,6 +107,13 @@ pub(crate) enum ArticlePart<'s> {
         what: What,
         /// The lines that are sent, if any are.
         block: Option<&'s Block<'s>>,
+    },
+    /// A success that no range was asked of is the overview of the id's article.
+    Describes {
+        /// The message-id.
+        id: &'s str,
+        /// The line that is the overview.
+        block: &'s Block<'s>,
     },
 }
 
@@ -213,6 +215,7 @@ impl<'s> Saying<'s> {
                 });
             }
             Fact::NoArticle(id) => self.article = Some(ArticlePart::Lacks(*id)),
+            Fact::FieldsAre { block } => self.add_fields(*block),
             Fact::OverviewsAre { name, range, block } => {
                 self.add_overviews(*name, *range, *block, shown);
             }
@@ -231,6 +234,16 @@ impl<'s> Saying<'s> {
     {
         let group = self.group.get_or_insert_with(|| GroupPart::nothing(name));
         group.numbers.say(ask, shown);
+    }
+
+    /// Says too that the overviews tell what their articles do. It looks at the first one, which is the only one.
+    fn add_fields(&mut self, block: &'s Block<'s>)
+        ensures { (shown : List ℕ) → saying_of self.new ≡ saying_with shown (FieldsAre (overviews_of block.now)) (saying_of self.old) }
+    {
+        if let Some(overview) = block.overviews().next() {
+            let id = overview.id.as_str();
+            self.article = Some(ArticlePart::Describes { id, block });
+        }
     }
 
     /// Says too that the overviews of the group's numbers in the range are these.
@@ -273,13 +286,13 @@ impl<'s> Saying<'s> {
         }
     }
 
-    /// Returns the group of whose numbers overviews are said, if any are.
-    pub(crate) fn listing_group(&self) -> Option<&GroupPart<'s>>
-        ensures { option_map (λ group. of_group group.now) result ≡ listing_group (saying_of self.now) }
+    /// Returns the group of whose numbers overviews are said, and the lines that are the overviews, if any are.
+    pub(crate) fn listing(&self) -> Option<(&GroupPart<'s>, &'s Block<'s>)>
+        ensures { option_map (λ l. (of_group l.0.now, overviews_of l.1.now)) result ≡ listing (saying_of self.now) }
     {
-        match &self.overviews {
-            Some(_) => self.group.as_ref(),
-            None => None,
+        match (&self.overviews, &self.group) {
+            (Some(list), Some(group)) => Some((group, list.block)),
+            _ => None,
         }
     }
 

@@ -1,8 +1,11 @@
 //! The overviews that the lines of OVER and XOVER are (RFC 3977, section 8.3).
-ghost use Rattle.std.specs.Prelude.{◌≡◌, ◌<◌, ◌^◌, length, List, ℕ, option_map, is_some};
+ghost use Rattle.std.specs.Prelude.{◌≡◌, ◌<◌, ◌^◌, length, List, ℕ, option_map, is_some, IsTrue};
+ghost use Rattle.std.specs.List.{list_all};
 ghost use Rattle.std.specs.Iterator.{YieldsFirstBy, item_count};
 ghost use Rattle.nntp_wire.specs.Listing.{id_alone, overview_of, overviews_of, are_overview_lines, number_in_front, id_in_place};
 ghost use Rattle.nntp_wire.specs.Words.{words_of};
+ghost use Rattle.nntp_wire.specs.Block.{AreClean};
+ghost use Rattle.nntp_wire.specs.Inner.Octets.{are_octets};
 ghost use Rattle.nntp_wire.specs.Inner.View.{overview_value};
 
 use crate::block::{Block, Lines};
@@ -10,6 +13,7 @@ use crate::laws::message_ids_are_decided;
 use crate::line::words;
 use crate::listed_numbers::listed_number;
 use crate::message_id::MessageId;
+use crate::owned_block::block_of;
 use crate::parts::Parts;
 use crate::word::Words;
 use std::marker::Model;
@@ -127,10 +131,12 @@ impl<'a> Block<'a> {
     /// [`Answer::Overviews`](crate::Answer::Overviews) has no such line.
     pub fn overviews(&self) -> OverviewLines<'a>
         ensures listed { result ≡ overviews_of self.now }
+        ensures clean { AreClean self.now }
+        ensures octets { IsTrue (list_all are_octets self.now) }
         ensures short { length result < 2 ^ 64 }
     {
         OverviewLines {
-            lines: self.lines(),
+            lines: block_of(self.sent).lines(),
         }
     }
 }

@@ -80,7 +80,7 @@ impl<A: Allocator + Copy> OwnedBlock<A> {
 }
 
 /// Lends the block whose lines these octets send.
-fn block_of(sent: &[u8]) -> Block<'_>
+pub(crate) fn block_of(sent: &[u8]) -> Block<'_>
     requires { Sends sent.now (received sent.now) }
     ensures lines { result ≡ received sent.now }
     ensures octets { IsTrue (list_all are_octets (received sent.now)) }

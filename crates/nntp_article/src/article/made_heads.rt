@@ -1,7 +1,7 @@
 //! Heads that are made of an id and of what is told of four headers.
 ghost use Rattle.std.specs.Prelude.{◌≡◌, ◌++◌, [], ◌∷◌, IsTrue, IfOk, IfSome};
 ghost use Rattle.std.specs.List.{list_all};
-ghost use Rattle.nntp_article.specs.Article.Fields.{name_of_field, field_line, made_head};
+ghost use Rattle.nntp_article.specs.Article.Fields.{name_of_field, field_line, field_lines, made_head};
 ghost use Rattle.nntp_article.specs.Inner.Fields.{is_word, AreWords};
 
 use crate::article::field::Field;
@@ -28,12 +28,43 @@ pub fn made_head<A: Allocator + Copy>(
     let mut head = OwnedBlock::new(alloc);
     head.push(&line)?;
     if let Some(told) = told {
-        push_field(&mut head, &mut line, Field::Subject, told.subject)?;
-        push_field(&mut head, &mut line, Field::From, told.from)?;
-        push_field(&mut head, &mut line, Field::Date, told.date)?;
-        push_field(&mut head, &mut line, Field::References, told.references)?;
+        push_fields(&mut head, &mut line, told)?;
     }
     head.as_block().to_owned(alloc)
+}
+
+/// Makes the lines of headers that tell this of the four, each that is told with a word on a line of its own, in as much
+/// memory as they need.
+///
+/// # Errors
+///
+/// If memory is refused.
+pub fn field_lines<A: Allocator + Copy>(
+    alloc: A,
+    told: Fields<'_>,
+) -> Result<OwnedBlock<A>, AllocError>
+    requires { AreWords told }
+    ensures { IfOk result (λ lines. lines ≡ field_lines told.entry) }
+{
+    let mut lines = OwnedBlock::new(alloc);
+    push_fields(&mut lines, &mut Vec::new(alloc), told)?;
+    lines.as_block().to_owned(alloc)
+}
+
+/// Puts the lines of headers that tell this of the four behind the others. Each is written in memory that an earlier one was
+/// written in.
+fn push_fields<A: Allocator + Copy>(
+    head: &mut OwnedBlock<A>,
+    line: &mut Vec<u8, A>,
+    told: Fields<'_>,
+) -> Result<(), AllocError>
+    requires { AreWords told }
+    ensures { IfOk result (λ _. head.new ≡ head.old ++ field_lines told.entry) }
+{
+    push_field(head, line, Field::Subject, told.subject)?;
+    push_field(head, line, Field::From, told.from)?;
+    push_field(head, line, Field::Date, told.date)?;
+    push_field(head, line, Field::References, told.references)
 }
 
 /// Puts the line of a header with these words behind the others, if there is a word. The line is

@@ -1,9 +1,9 @@
 -- What the parts of an answer say, read off their facts.
 use Rattle.std.proofs.Common.{◌≡◌, ℕ, Bool, false, ◌||◌, cond, List, [], ◌∷◌, ◌++◌, map, Option, None, Some, refl, ap, ◌∙◌, append-nil, arith}
 use Rattle.std.{proofs.lemmas.List.Folds.{list_any-append}, specs.{List.{list_any}, Option.{option_map_or, option_or}}}
-use Rattle.nntp_wire.specs.declared.command.What.{What}
+use Rattle.nntp_wire.specs.{Listing.{OverviewValue}, declared.command.What.{What}}
 use Rattle.nntp_article.specs.{Article.Parts.{Id, Line}, Session.{Spool.{Name}, Machine.{is_same}}}
-use Rattle.nntp_said.specs.{Asks.{Ask}, Facts.{Fact, ThereIs, ThereIsNo, Asks, IdAt, TextIs, NoArticle}}
+use Rattle.nntp_said.specs.{Asks.{Ask}, Facts.{Fact, ThereIs, ThereIsNo, Asks, IdAt, TextIs, NoArticle, FieldsAre}}
 use Rattle.nntp_theory.specs.{Given.{asks_of, shows_group, is_shown_group, first_given, id_in}, Together.{denies_group, number_in}}
 use Rattle.nntp_theory.proofs.Together.{TwoListsOfFacts.{given_append, or_none}, FactsJoin.{asks_append}}
 use Rattle.nntp_facts.specs.Inner.Saying.{OfGroup, OfArticle, Saying, asked_id, sent_facts, lack_facts, id_facts, group_facts, there_facts, missing_facts}
@@ -40,8 +40,9 @@ module _ {M : Type 0} (read : List Fact → M) (both : M → M → M) (nothing :
   before : (xs ys : List Fact) → read ys ≡ nothing → read (xs ++ ys) ≡ read xs
   before xs ys silent = is.append xs ys ∙ ap (both (read xs)) silent ∙ is.right (read xs)
 
-  no_sent : ((what : What) (id : Id) (lines : Option (List Line)) → read (TextIs what id lines ∷ []) ≡ nothing) → (a : Option (Id × OfArticle)) → read (sent_facts a) ≡ nothing
-  no_sent silent a = grind arith
+  no_sent : ((what : What) (id : Id) (lines : Option (List Line)) → read (TextIs what id lines ∷ []) ≡ nothing) → ((os : List OverviewValue) → read (FieldsAre os ∷ []) ≡ nothing)
+      → (a : Option (Id × OfArticle)) → read (sent_facts a) ≡ nothing
+  no_sent silent told a = grind arith
 
   no_lack : ((id : Id) → read (NoArticle id ∷ []) ≡ nothing) → (a : Option (Id × OfArticle)) → read (lack_facts a) ≡ nothing
   no_lack silent a = grind arith
@@ -66,10 +67,11 @@ module _ {M : Type 0} (read : List Fact → M) (both : M → M → M) (nothing :
   -- ---- of all that an answer says, where no groups are listed
   module _ (s : Saying) (asks : List Ask) (no_list : s.groups ≡ None) where
     -- what speaks of names alone
-    pub of_names : ((what : What) (id : Id) (lines : Option (List Line)) → read (TextIs what id lines ∷ []) ≡ nothing) → ((id : Id) → read (NoArticle id ∷ []) ≡ nothing)
+    pub of_names : ((what : What) (id : Id) (lines : Option (List Line)) → read (TextIs what id lines ∷ []) ≡ nothing) → ((os : List OverviewValue) → read (FieldsAre os ∷ []) ≡ nothing)
+        → ((id : Id) → read (NoArticle id ∷ []) ≡ nothing)
         → ((name : Name) (ask : Ask) → read (Asks name ask ∷ []) ≡ nothing) → ((name : Name) (n : ℕ) (id : Id) → read (IdAt name n id ∷ []) ≡ nothing)
         → read (facts_in s asks) ≡ both (read (there_facts s.there_is)) (read (missing_facts s.there_is_no))
-    of_names text lack ask id = grind (arith, past, no_sent, only_ids, no_ids, before, no_lack)
+    of_names text told lack ask id = grind (arith, past, no_sent, only_ids, no_ids, before, no_lack)
 
     -- of articles alone
     pub of_articles : ((name : Name) → read (ThereIs name ∷ []) ≡ nothing) → ((name : Name) → read (ThereIsNo name ∷ []) ≡ nothing) → ((name : Name) (ask : Ask) → read (Asks name ask ∷ []) ≡ nothing)
@@ -77,10 +79,11 @@ module _ {M : Type 0} (read : List Fact → M) (both : M → M → M) (nothing :
     of_articles there missing ask = grind (arith, past, no_there, only_ids, no_missing, before)
 
     -- of a group alone
-    pub of_group : ((what : What) (id : Id) (lines : Option (List Line)) → read (TextIs what id lines ∷ []) ≡ nothing) → ((id : Id) → read (NoArticle id ∷ []) ≡ nothing)
+    pub of_group : ((what : What) (id : Id) (lines : Option (List Line)) → read (TextIs what id lines ∷ []) ≡ nothing) → ((os : List OverviewValue) → read (FieldsAre os ∷ []) ≡ nothing)
+        → ((id : Id) → read (NoArticle id ∷ []) ≡ nothing)
         → ((name : Name) → read (ThereIs name ∷ []) ≡ nothing) → ((name : Name) → read (ThereIsNo name ∷ []) ≡ nothing)
         → read (facts_in s asks) ≡ read (group_facts s.group asks)
-    of_group text lack there missing = grind (arith, past, no_sent, no_there, before, no_missing, no_lack)
+    of_group text told lack there missing = grind (arith, past, no_sent, no_there, before, no_missing, no_lack)
 
 -- ---- what is asked of a group
 
@@ -127,7 +130,7 @@ module _ (s : Saying) (asks : List Ask) (no_list : s.groups ≡ None) where
   pub shown_group : (name : Name) → is_shown_group (facts_in s asks) name ≡ option_map_or (λ g. is_same g name) s.there_is false
   shown_group name =
       of_names (list_any (shows_group name)) (λ a b. a || b) false (any_is_read (shows_group name)) s asks no_list
-      (λ what id lines. refl) (λ id. refl) (λ g ask. refl) (λ g n id. refl) ∙ by s.there_is s.there_is_no
+      (λ what id lines. refl) (λ os. refl) (λ id. refl) (λ g ask. refl) (λ g n id. refl) ∙ by s.there_is s.there_is_no
     where
       by : (o m : Option Name) → (list_any (shows_group name) (there_facts o) || list_any (shows_group name) (missing_facts m)) ≡ option_map_or (λ g. is_same g name) o false
       by o m = grind (arith, any_is_read)
@@ -136,7 +139,7 @@ module _ (s : Saying) (asks : List Ask) (no_list : s.groups ≡ None) where
   pub denied_group : (name : Name) → list_any (denies_group name) (facts_in s asks) ≡ option_map_or (λ g. is_same g name) s.there_is_no false
   denied_group name =
       of_names (list_any (denies_group name)) (λ a b. a || b) false (any_is_read (denies_group name)) s asks no_list
-      (λ what id lines. refl) (λ id. refl) (λ g ask. refl) (λ g n id. refl) ∙ by s.there_is s.there_is_no
+      (λ what id lines. refl) (λ os. refl) (λ id. refl) (λ g ask. refl) (λ g n id. refl) ∙ by s.there_is s.there_is_no
     where
       by : (o m : Option Name) → (list_any (denies_group name) (there_facts o) || list_any (denies_group name) (missing_facts m)) ≡ option_map_or (λ g. is_same g name) m false
       by o m = grind (arith, any_is_read)

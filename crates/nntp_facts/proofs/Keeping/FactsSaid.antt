@@ -18,7 +18,7 @@ join_none facts together = record {
   names = record { groups = λ name t. absurd (true≢false (sym t)); no_groups = λ name t. absurd (true≢false (sym t)) };
   numbers = λ name. subst AsksStand (sym (append-nil (asks_of name facts))) (together.numbers name);
   ids = record { ids = λ name n. tt; ids_once = λ name id. tt };
-  articles = λ id. record { shown = λ t. absurd (true≢false (sym t)); denied = λ t. absurd (true≢false (sym t)); head = tt; body = tt };
+  articles = λ id. record { shown = λ t. absurd (true≢false (sym t)); denied = λ t. absurd (true≢false (sym t)); head = tt; fields = tt; body = tt };
 }
 
 -- so what is kept of all before is kept with them

@@ -5,12 +5,12 @@ use Rattle.std.specs.{Option.{option_or, option_map_or}, Cmp.{eq_by_cmp_equiv, L
 use Rattle.std.specs.{Ordering.{eq_by_cmp}, FinMap.{FinMap, get, entries, IsAntisymmetric, insert, get-insert, slice_cmp-IsAntisymmetric}}
 use Rattle.std.specs.FinMap.{nat_cmp-IsAntisymmetric}
 use Rattle.nntp_wire.proofs.ShownMaps.{equal_is}
-use Rattle.nntp_article.specs.{Article.Parts.{Id, Line}, Session.Machine.{is_same}}
+use Rattle.nntp_article.specs.{Article.Parts.{Id}, Session.Machine.{is_same}}
 use Rattle.nntp_said.specs.Facts.{Fact}
 use Rattle.nntp_theory.specs.{Given.{is_mentioned}, Together.{shows_article, denies_article}, Inner.Together.{said_of, said_nothing, join_said, AreSame}}
 use Rattle.nntp_theory.{specs.Inner.Together.{JoinArticle}, proofs.{Maps.{get_in, in_get}, Members.{In}, Together.FactsOfASpoolStand.{same_itself}}}
-use Rattle.nntp_facts.specs.Inner.{Kept.{KeptArticle, said_kept, AreKeptArticles}, Articles.{is_there, with_new, articles_in}, Saying.{OfArticle}}
-use Rattle.nntp_facts.{specs.Inner.KeptSaying.{kept_by, ArticleJoins, AreKeptThen}, proofs.Keeping.SaidOfArticles.{nothing_more, nothing_joins}}
+use Rattle.nntp_facts.specs.Inner.{Kept.{KeptArticle, said_kept, AreKeptArticles}, Articles.{is_there, with_new, articles_in}, KeptSaying.{said_alone}}
+use Rattle.nntp_facts.{specs.Inner.KeptSaying.{SaidJoins, IsSaidKept}, proofs.Keeping.SaidOfArticles.{nothing_more, nothing_joins}}
 
 abbrev pub Articles : Type 0
 Articles = FinMap (slice_cmp nat_cmp) KeptArticle
@@ -38,17 +38,23 @@ new_there articles id a = grind (arith, get_there)
 
 -- ---- more is kept of an id
 
--- more may be kept: it has an article as before, or none, and its head and its body are the same
+-- more may be kept: it has an article as before, or none, and its head, its body and what is told of headers are the same
 abbrev pub MayKeep : Option KeptArticle → KeptArticle → Type 0
-MayKeep o more = MatchOption o ⊤ (λ a. (a.is_denied ≡ more.is_denied) × AreSame more.head a.head × AreSame more.body a.body)
+MayKeep o more = MatchOption o ⊤ (λ a. (a.is_denied ≡ more.is_denied) × AreSame more.head a.head × AreSame more.fields a.fields × AreSame more.body a.body)
 
 -- what is kept then
 abbrev pub kept_with : Option KeptArticle → KeptArticle → KeptArticle
 kept_with None more = more
-kept_with (Some a) more = record { is_denied = a.is_denied; is_sent = a.is_sent || more.is_sent; head = option_or a.head more.head; body = option_or a.body more.body }
+kept_with (Some a) more = record {
+  is_denied = a.is_denied;
+  is_sent = a.is_sent || more.is_sent;
+  head = option_or a.head more.head;
+  fields = option_or a.fields more.fields;
+  body = option_or a.body more.body;
+}
 
-pub same_as_none : (lines : Option (List Line)) → AreSame lines None
-same_as_none lines = grind arith
+pub same_as_none : {A : Type 0} (more : Option A) → AreSame more None
+same_as_none more = grind arith
 
 -- it may exactly if it joins what is said
 kept_joins : (o : Option KeptArticle) (more : KeptArticle) → JoinArticle (said_kept o) (said_kept (Some more)) ↔ MayKeep o more
@@ -58,29 +64,29 @@ kept_joins o more = grind arith
 kept_said : (o : Option KeptArticle) (more : KeptArticle) → MayKeep o more → join_said (said_kept o) (said_kept (Some more)) ≡ said_kept (Some (kept_with o more))
 kept_said o more h = grind arith
 
-module _ (facts : List Fact) (old : Articles) (id : Id) (said : OfArticle) (kept : AreKeptArticles facts old) where
-  -- what is said of the id joins exactly if it may be kept
-  pub article_joins : ArticleJoins facts (Some (id, said)) ↔ MayKeep (get old id) (kept_by said)
+module _ (facts : List Fact) (old : Articles) (id : Id) (more : KeptArticle) (kept : AreKeptArticles facts old) where
+  -- what is said of the id alone joins exactly if it may be kept
+  pub article_joins : SaidJoins facts (said_alone id more) ↔ MayKeep (get old id) more
   article_joins = (
-    λ j. (kept_joins (get old id) (kept_by said)).0 (subst (λ s. JoinArticle s (said_kept (Some (kept_by said)))) (kept id) (here (j id))),
-    λ h q. by q (is_same id q) refl (subst (λ s. JoinArticle s (said_kept (Some (kept_by said)))) (sym (kept id)) ((kept_joins (get old id) (kept_by said)).1 h)),
+    λ j. (kept_joins (get old id) more).0 (subst (λ s. JoinArticle s (said_kept (Some more))) (kept id) (here (j id))),
+    λ h q. by q (is_same id q) refl (subst (λ s. JoinArticle s (said_kept (Some more))) (sym (kept id)) ((kept_joins (get old id) more).1 h)),
   )
     where
-      here : JoinArticle (said_of facts id) (cond (is_same id id) (said_kept (Some (kept_by said))) said_nothing) → JoinArticle (said_of facts id) (said_kept (Some (kept_by said)))
-      here = subst (λ b. JoinArticle (said_of facts id) (cond b (said_kept (Some (kept_by said))) said_nothing)) (same_itself id)
+      here : JoinArticle (said_of facts id) (cond (is_same id id) (said_kept (Some more)) said_nothing) → JoinArticle (said_of facts id) (said_kept (Some more))
+      here = subst (λ b. JoinArticle (said_of facts id) (cond b (said_kept (Some more)) said_nothing)) (same_itself id)
 
-      by : (q : Id) (b : Bool) → is_same id q ≡ b → JoinArticle (said_of facts id) (said_kept (Some (kept_by said)))
-          → JoinArticle (said_of facts q) (cond b (said_kept (Some (kept_by said))) said_nothing)
-      by q true e h = subst (λ q. JoinArticle (said_of facts q) (said_kept (Some (kept_by said)))) (same_text id q (sym e)) h
+      by : (q : Id) (b : Bool) → is_same id q ≡ b → JoinArticle (said_of facts id) (said_kept (Some more))
+          → JoinArticle (said_of facts q) (cond b (said_kept (Some more)) said_nothing)
+      by q true e h = subst (λ q. JoinArticle (said_of facts q) (said_kept (Some more))) (same_text id q (sym e)) h
       by q false e h = nothing_joins (said_of facts q)
 
   -- and is kept with the others
-  pub article_kept : (new : Articles) → MayKeep (get old id) (kept_by said) → get new id ≡ Some (kept_with (get old id) (kept_by said))
-      → ((q : Id) → is_same id q ≡ false → get new q ≡ get old q) → AreKeptThen facts (Some (id, said)) new
-  article_kept new may here others q = ap (λ s. join_said s (cond (is_same id q) (said_kept (Some (kept_by said))) said_nothing)) (kept q) ∙ by (is_same id q) refl
+  pub article_kept : (new : Articles) → MayKeep (get old id) more → get new id ≡ Some (kept_with (get old id) more)
+      → ((q : Id) → is_same id q ≡ false → get new q ≡ get old q) → IsSaidKept facts (said_alone id more) new
+  article_kept new may here others q = ap (λ s. join_said s (cond (is_same id q) (said_kept (Some more)) said_nothing)) (kept q) ∙ by (is_same id q) refl
     where
-      by : (b : Bool) → is_same id q ≡ b → join_said (said_kept (get old q)) (cond b (said_kept (Some (kept_by said))) said_nothing) ≡ said_kept (get new q)
-      by true e = grind (arith, same_text id q (sym e), kept_said (get old id) (kept_by said) may)
+      by : (b : Bool) → is_same id q ≡ b → join_said (said_kept (get old q)) (cond b (said_kept (Some more)) said_nothing) ≡ said_kept (get new q)
+      by true e = grind (arith, same_text id q (sym e), kept_said (get old id) more may)
       by false e = nothing_more (said_kept (get old q)) ∙ ap said_kept (sym (others q e))
 
 -- ---- what is said of an id, read off what is kept

@@ -6,7 +6,7 @@ use Rattle.std.specs.{declared.rc.RcStr.{RcStr}, Ordering.{nat_cmp, is_eq}, Cmp.
 use Rattle.std.specs.FinMap.{entries, find, put, from_entries, get-insert, get-entries, entries-insert, same_map, slice_cmp-IsAntisymmetric}
 use Rattle.std.specs.{FinMap.{nat_cmp-IsAntisymmetric, Entries.{by_order}}, BTreeSet.{insert_key}, Map.{lookup, set_value}, Str.{IsUtf8}, Rc.{rc_str_bytes}}
 use Rattle.nntp_wire.proofs.ShownMaps.{get-shown, replaced}
-use Rattle.nntp_article.specs.{Article.Parts.{Id, Line}, Session.Machine.{is_same}}
+use Rattle.nntp_article.specs.{Article.Parts.{Id}, Session.Machine.{is_same}}
 use Rattle.nntp_theory.{specs.Inner.Together.{SaidOfArticle, said_nothing}, proofs.Together.TwoListsOfFacts.{or_none}}
 use Rattle.nntp_facts.specs.Inner.{Kept.{KeptArticle, said_kept}, Articles.{denied, is_there, with_new, with_denied, articles_in}, ArticleView.{known_article}}
 use Rattle.nntp_facts.{specs.{Inner.ArticleView.{entries_value}, declared.articles.known.KnownArticle.{KnownArticle}}, proofs.Keeping.KeptArticles.{Articles}}
@@ -115,7 +115,7 @@ module _ {A : Type 0} (es : List (RcStr A × KnownArticle A)) (ks : List (Vec �
   part_known a e = found ∙ ap (λ o. option_or (option_map known_article o) (if_denied is_denied)) (sym e)
 
   -- nothing was sent of an id of which none is
-  pub no_part_known : (part : SaidOfArticle → Option (List Line)) → part said_nothing ≡ None → part (said_kept (Some denied)) ≡ None → None ≡ known → part (said_kept (get articles id)) ≡ None
+  pub no_part_known : {X : Type 0} (part : SaidOfArticle → Option X) → part said_nothing ≡ None → part (said_kept (Some denied)) ≡ None → None ≡ known → part (said_kept (get articles id)) ≡ None
   no_part_known part nothing none e = grind (arith, found)
 
   -- an article that is known is another from now on

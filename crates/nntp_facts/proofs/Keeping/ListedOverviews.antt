@@ -1,9 +1,9 @@
 -- What overviews of a range say of the numbers and ids of their group.
-use Rattle.std.proofs.{Common.{◌≡◌, ℕ, cond, List, [], ◌∷◌, ◌++◌, Option, None, inl, refl, arith}, lemmas.Bool.{and_parts}}
+use Rattle.std.proofs.{Math.Bool.{or-false}, Common.{◌≡◌, ℕ, false, cond, List, [], ◌∷◌, ◌++◌, Option, None, inl, refl, arith}, lemmas.Bool.{and_parts}}
 use Rattle.nntp_wire.specs.{Listing.{OverviewValue}, declared.range.Range.{Range}}
 use Rattle.nntp_article.specs.{Article.Parts.{Id}, Session.{Spool.{Name}, Machine.{is_same, is_ascending, all_differ, overview_numbers, overview_ids}}}
 use Rattle.nntp_said.specs.{Asks.{ListsIn}, Facts.{OverviewsAre}}
-use Rattle.nntp_theory.{specs.{Given.{asks_of, first_given, id_in}, Together.{number_in}, Inner.Together.{said_of, AgreesWithItself}}, proofs.Members.{In}}
+use Rattle.nntp_theory.{specs.{Given.{asks_of, first_given, id_in, has_overview_of, fields_of_overview}, Together.{number_in}, Inner.Together.{said_of, AgreesWithItself}}, proofs.Members.{In}}
 use Rattle.nntp_theory.proofs.{Members.{each_of, first_there, in_map, in_back}, Together.{ListedOverviews.{apart_agree}, TwoListsOfFacts.{or_none}}}
 use Rattle.nntp_facts.specs.Inner.{ListedOverviews.{HaveOwn, id_listed, place_listed}, KeptSaying.{said_listed}}
 
@@ -27,15 +27,24 @@ module _ (here : Name) (r : Range) (os : List OverviewValue) where
   listed_places name id = or_none (number_in name id (OverviewsAre here r os))
 
   pub listed_said : (id : Id) → said_of (OverviewsAre here r os ∷ []) id ≡ said_listed os id
-  listed_said id = grind arith
+  listed_said id = λ i. record {
+    is_mentioned = or-false (has_overview_of id os) i;
+    is_shown = or-false (has_overview_of id os) i;
+    is_denied = false;
+    is_sent = false;
+    head = None;
+    fields = or_none (first_given (fields_of_overview id) os) i;
+    body = None;
+  }
 
 -- where each has a number and an id of its own, they agree with one another
 pub own_agree : (here : Name) (r : Range) (os : List OverviewValue) → HaveOwn os → AgreesWithItself (OverviewsAre here r os)
 own_agree here r os own = apart_agree here r os own.numbers own.ids
 
--- those in front of one give neither its number an id, nor its id a number
-pub none_in_front : (front : List OverviewValue) (o : OverviewValue) (rest : List OverviewValue) → HaveOwn (front ++ o ∷ rest) → (id_listed front o.number ≡ None) × (place_listed front o.id ≡ None)
-none_in_front [] o rest own = (refl, refl)
+-- those in front of one give neither its number an id, nor its id a number, and tell nothing of its article
+pub none_in_front : (front : List OverviewValue) (o : OverviewValue) (rest : List OverviewValue) → HaveOwn (front ++ o ∷ rest)
+    → (id_listed front o.number ≡ None) × (place_listed front o.id ≡ None) × (first_given (fields_of_overview o.id) front ≡ None)
+none_in_front [] o rest own = (refl, refl, refl)
 none_in_front (x ∷ front) o rest own =
     let numbers = and_parts _ (is_ascending (overview_numbers (front ++ o ∷ rest))) own.numbers in
     let ids = and_parts _ (all_differ (overview_ids (front ++ o ∷ rest))) own.ids in

@@ -1,48 +1,66 @@
 -- What is added of articles, once an id is noted.
-use Rattle.std.proofs.Common.{◌≡◌, ◌↔◌, Bool, true, false, cond, IsTrue, List, Option, None, Some, is_some, refl, sym, ap, subst, ◌∙◌, arith}
-use Rattle.std.{proofs.lemmas.Bool.{true≢false, not-true, not-false}, specs.{Prelude.{unwrap_or}, List.{list_any}, Option.{option_map_or}}}
+use Rattle.std.proofs.Common.{◌≡◌, ◌↔◌, ◌||◌, Bool, true, false, cond, IsTrue, List, Option, None, Some, is_some, refl, sym, ap, subst, ◌∙◌, arith}
+use Rattle.std.{proofs.lemmas.Bool.{true≢false, not-true, not-false}, specs.{Prelude.{unwrap_or}, List.{list_any}, Option.{option_map_or, option_or}}}
 use Rattle.std.specs.{Cmp.Lexicographic.{nat_list_cmp_total}, FinMap.{get, insert, slice_cmp-IsAntisymmetric, nat_cmp-IsAntisymmetric}}
 use Rattle.nntp_wire.{specs.declared.command.What.{What}, proofs.ShownMaps.{insert-same}}
-use Rattle.nntp_article.specs.Article.Parts.{Id, Line}
+use Rattle.nntp_article.specs.Article.{Parts.{Id, Line}, Fields.{Fields}}
 use Rattle.nntp_said.specs.Facts.{Fact}
-use Rattle.nntp_theory.specs.Together.{shows_article}
-use Rattle.nntp_facts.specs.Inner.{Kept.{KeptArticle, AreKeptArticles, IsAddedIf}, Articles.{head_sent, body_sent, MayBeSent, denied, unsent, with_sent}}
-use Rattle.nntp_facts.specs.Inner.{Articles.{is_there, with_new}, Saying.{OfArticle, Lacks, Exists, Sends}, KeptSaying.{kept_by, IsArticleAdded}}
+use Rattle.nntp_theory.{specs.Together.{shows_article}, proofs.Together.TwoListsOfFacts.{or_none}}
+use Rattle.nntp_facts.specs.Inner.{Kept.{KeptArticle, AreKeptArticles, IsAddedIf}, Articles.{head_sent, body_sent, MayBeSent, MayBeTold, denied, unsent, telling, with_sent}}
+use Rattle.nntp_facts.specs.Inner.{Articles.{with_told, is_there, with_new}, Saying.{Lacks, Exists, Sends}, KeptSaying.{kept_by, said_alone, IsSaidAdded, IsArticleAdded}}
 use Rattle.nntp_facts.proofs.Keeping.KeptArticles.{Articles, get_elsewhere, get_there, new_elsewhere, new_there, MayKeep, kept_with, article_joins}
 use Rattle.nntp_facts.proofs.Keeping.KeptArticles.{article_kept, shown_kept}
 
 -- what is kept of an id of which nothing was sent
 abbrev bare : Bool → KeptArticle
-bare is_denied = record { is_denied = is_denied; is_sent = false; head = None; body = None }
+bare is_denied = record { is_denied = is_denied; is_sent = false; head = None; fields = None; body = None }
 
 -- with it is kept what was, if anything was
 bare_with : (o : Option KeptArticle) (b : Bool) → unwrap_or o (bare b) ≡ kept_with o (bare b)
 bare_with o b = grind arith
 
-module _ (facts : List Fact) (old : Articles) (id : Id) (said : OfArticle) (kept : AreKeptArticles facts old) where
+module _ (facts : List Fact) (old : Articles) (id : Id) (more : KeptArticle) (kept : AreKeptArticles facts old) where
   -- what may be kept of an id is kept, if nothing was
-  new_kept : (b : Bool) → kept_by said ≡ bare b → (new : Articles) → new ≡ with_new old id (bare b) → MayKeep (get old id) (kept_by said) → IsArticleAdded facts (Some (id, said)) old new true
+  new_kept : (b : Bool) → more ≡ bare b → (new : Articles) → new ≡ with_new old id (bare b) → MayKeep (get old id) more → IsSaidAdded facts (said_alone id more) old new true
   new_kept b plain new is may = (
-    (article_joins facts old id said kept).1 may,
-    article_kept facts old id said kept new may
+    (article_joins facts old id more kept).1 may,
+    article_kept facts old id more kept new may
         (ap (λ m. get m id) is ∙ new_there old id (bare b) ∙ ap Some (bare_with (get old id) b ∙ ap (kept_with (get old id)) (sym plain)))
         (λ q e. ap (λ m. get m q) is ∙ new_elsewhere old id q (bare b) e),
   )
 
   -- what may not changes nothing
-  refused : (MayKeep (get old id) (kept_by said) → ⊥) → IsArticleAdded facts (Some (id, said)) old old false
-  refused never = (λ j. never ((article_joins facts old id said kept).0 j), refl)
+  refused : (MayKeep (get old id) more → ⊥) → IsSaidAdded facts (said_alone id more) old old false
+  refused never = (λ j. never ((article_joins facts old id more kept).0 j), refl)
 
   -- so an article of an id that is denied
-  pub of_denied : (kept_by said).is_denied ≡ false → option_map_or (λ a. a.is_denied) (get old id) false ≡ true → IsArticleAdded facts (Some (id, said)) old old false
+  pub of_denied : more.is_denied ≡ false → option_map_or (λ a. a.is_denied) (get old id) false ≡ true → IsSaidAdded facts (said_alone id more) old old false
   of_denied has is_denied = grind (arith, refused, true≢false)
+
+  -- what is said of an article is added to what is known of it, if anything is
+  added_to : (May : Type 0) (with a b : KeptArticle) (new : Articles) → a ≡ unwrap_or (get old id) unsent → new ≡ insert old id b → May ↔ MayKeep (get old id) more
+      → with ≡ kept_with (get old id) more → (does : Bool) → IsAddedIf May (λ k. k ≡ with) a b does → IsSaidAdded facts (said_alone id more) old new does
+  added_to May with a b new was is may then does = by does
+    where
+      -- where it may not be added, something was known of the id, and is still
+      as_before : b ≡ a → (May → ⊥) → new ≡ old
+      as_before same never = grind (arith, may.1, insert-same, nat_list_cmp_total, slice_cmp-IsAntisymmetric, nat_cmp-IsAntisymmetric)
+
+      by : (does : Bool) → IsAddedIf May (λ k. k ≡ with) a b does → IsSaidAdded facts (said_alone id more) old new does
+      by true added = (
+        (article_joins facts old id more kept).1 (may.0 added.0),
+        article_kept facts old id more kept new (may.0 added.0)
+            (ap (λ m. get m id) is ∙ get_there old id b ∙ ap Some (added.1 ∙ then))
+            (λ q e. ap (λ m. get m q) is ∙ get_elsewhere old id q b e),
+      )
+      by false added = (λ j. added.0 (may.1 ((article_joins facts old id more kept).0 j)), as_before added.1 added.0)
 
 -- ---- an id has an article
 
 -- one that isn't denied is kept, if it wasn't before
 pub there_noted : (facts : List Fact) (old new : Articles) (id : Id) → AreKeptArticles facts old → option_map_or (λ a. a.is_denied) (get old id) false ≡ false
     → new ≡ with_new old id unsent → IsArticleAdded facts (Some (id, Exists)) old new true
-there_noted facts old new id kept free is = new_kept facts old id Exists kept false refl new is (by (get old id) free)
+there_noted facts old new id kept free is = new_kept facts old id unsent kept false refl new is (by (get old id) free)
   where
     by : (o : Option KeptArticle) → option_map_or (λ a. a.is_denied) o false ≡ false → MayKeep o unsent
     by o e = grind arith
@@ -62,7 +80,7 @@ there_already facts articles id kept shown =
 -- of an id that has one, nothing changes
 pub lack_there : (facts : List Fact) (articles : Articles) (id : Id) → AreKeptArticles facts articles → is_there (get articles id) ≡ true
     → IsArticleAdded facts (Some (id, Lacks)) articles articles false
-lack_there facts articles id kept there = refused facts articles id Lacks kept (by (get articles id) there)
+lack_there facts articles id kept there = refused facts articles id denied kept (by (get articles id) there)
   where
     by : (o : Option KeptArticle) → is_there o ≡ true → MayKeep o denied → ⊥
     by o t m = grind (arith, true≢false)
@@ -70,7 +88,7 @@ lack_there facts articles id kept there = refused facts articles id Lacks kept (
 -- another one is kept, if it wasn't before
 pub lack_new : (facts : List Fact) (old new : Articles) (id : Id) → AreKeptArticles facts old → is_there (get old id) ≡ false → new ≡ with_new old id denied
     → IsArticleAdded facts (Some (id, Lacks)) old new true
-lack_new facts old new id kept unshown is = new_kept facts old id Lacks kept true refl new is (by (get old id) unshown)
+lack_new facts old new id kept unshown is = new_kept facts old id denied kept true refl new is (by (get old id) unshown)
   where
     by : (o : Option KeptArticle) → is_there o ≡ false → MayKeep o denied
     by o e = grind (arith, not-false)
@@ -90,29 +108,37 @@ module _ (what : What) (lines : Option (List Line)) where
 pub sent_noted : (facts : List Fact) (old new : Articles) (what : What) (id : Id) (lines : Option (List Line)) (head body : Option (List Line)) (a b : KeptArticle) (does : Bool)
     → AreKeptArticles facts old → a ≡ unwrap_or (get old id) unsent → new ≡ insert old id b → head ≡ head_sent what lines → body ≡ body_sent what lines
     → IsAddedIf (MayBeSent a head body) (λ k. k ≡ with_sent a head body) a b does → IsArticleAdded facts (Some (id, Sends what lines)) old new does
-sent_noted facts old new what id lines head body a b does kept was is heads bodies = by does
+sent_noted facts old new what id lines head body a b does kept was is heads bodies =
+    added_to facts old id (kept_by (Sends what lines)) kept (MayBeSent a head body) (with_sent a head body) a b new was is
+    (subst (λ T. T ↔ MayKeep (get old id) (kept_by (Sends what lines))) (sym same_parts) (may_keep what lines (get old id)))
+    ((λ i. with_sent (was i) (heads i) (bodies i)) ∙ sent_with what lines (get old id)) does
   where
     same_parts : MayBeSent a head body ≡ MayBeSent (unwrap_or (get old id) unsent) (head_sent what lines) (body_sent what lines)
     same_parts = λ i. MayBeSent (was i) (heads i) (bodies i)
 
-    joins : MayBeSent a head body → MayKeep (get old id) (kept_by (Sends what lines))
-    joins m = (may_keep what lines (get old id)).0 (subst (λ T. T) same_parts m)
+-- ---- an overview tells something of an article
 
-    back : MayKeep (get old id) (kept_by (Sends what lines)) → MayBeSent a head body
-    back h = subst (λ T. T) (sym same_parts) ((may_keep what lines (get old id)).1 h)
+module _ (is_sent : Bool) (fields : Fields) where
+  -- it may be kept exactly if it may be told of what is kept, or of an article of which nothing was
+  may_be_told : (o : Option KeptArticle) → MayBeTold (unwrap_or o unsent) fields ↔ MayKeep o (telling is_sent (Some fields))
+  may_be_told o = grind arith
 
-    now : with_sent a head body ≡ with_sent (unwrap_or (get old id) unsent) (head_sent what lines) (body_sent what lines)
-    now = λ i. with_sent (was i) (heads i) (bodies i)
+  -- and then is kept with it
+  told_with : (o : Option KeptArticle) → with_told (unwrap_or o unsent) is_sent fields ≡ kept_with o (telling is_sent (Some fields))
+  told_with None = refl
+  told_with (Some a) = λ i. record {
+    is_denied = a.is_denied;
+    is_sent = a.is_sent || is_sent;
+    head = sym (or_none a.head) i;
+    fields = option_or a.fields (Some fields);
+    body = sym (or_none a.body) i;
+  }
 
-    -- where it may not be sent, something was known of the id, and is still
-    as_before : b ≡ a → (MayBeSent a head body → ⊥) → new ≡ old
-    as_before same never = grind (arith, back, insert-same, nat_list_cmp_total, slice_cmp-IsAntisymmetric, nat_cmp-IsAntisymmetric)
-
-    by : (does : Bool) → IsAddedIf (MayBeSent a head body) (λ k. k ≡ with_sent a head body) a b does → IsArticleAdded facts (Some (id, Sends what lines)) old new does
-    by true added = (
-      (article_joins facts old id (Sends what lines) kept).1 (joins added.0),
-      article_kept facts old id (Sends what lines) kept new (joins added.0)
-          (ap (λ m. get m id) is ∙ get_there old id b ∙ ap Some (added.1 ∙ now ∙ sent_with what lines (get old id)))
-          (λ q e. ap (λ m. get m q) is ∙ get_elsewhere old id q b e),
-    )
-    by false added = (λ j. added.0 (back ((article_joins facts old id (Sends what lines) kept).0 j)), as_before added.1 added.0)
+-- what an overview tells is added to what is known of the article, if anything is
+pub told_noted : (facts : List Fact) (old new : Articles) (id : Id) (is_sent : Bool) (fields : Fields) (a b : KeptArticle) (does : Bool)
+    → AreKeptArticles facts old → a ≡ unwrap_or (get old id) unsent → new ≡ insert old id b
+    → IsAddedIf (MayBeTold a fields) (λ k. k ≡ with_told a is_sent fields) a b does → IsSaidAdded facts (said_alone id (telling is_sent (Some fields))) old new does
+told_noted facts old new id is_sent fields a b does kept was is =
+    added_to facts old id (telling is_sent (Some fields)) kept (MayBeTold a fields) (with_told a is_sent fields) a b new was is
+    (subst (λ a. MayBeTold a fields ↔ MayKeep (get old id) (telling is_sent (Some fields))) (sym was) (may_be_told is_sent fields (get old id)))
+    (ap (λ a. with_told a is_sent fields) was ∙ told_with is_sent fields (get old id)) does

@@ -1,13 +1,13 @@
 -- What is kept in all, where the parts of an answer are noted.
-use Rattle.std.proofs.Common.{◌≡◌, ℕ, Bool, true, false, IsTrue, List, [], ◌∷◌, ◌++◌, Option, None, Some, sym, ap, subst, ◌∙◌, arith}
-use Rattle.std.{proofs.lemmas.Bool.{true≢false}, specs.{Prelude.{◌↔◌, IfSome}, List.{AllByRecursion}}}
+use Rattle.std.proofs.Common.{◌≡◌, ℕ, Bool, true, false, IsTrue, List, [], ◌∷◌, ◌++◌, Option, None, Some, refl, sym, ap, subst, ◌∙◌, arith}
+use Rattle.std.{proofs.lemmas.Bool.{true≢false}, specs.{Prelude.{◌↔◌, IfSome, option_map}, Option.{option_map_or}, List.{AllByRecursion}}}
 use Rattle.nntp_article.specs.{Article.Parts.{Id}, Inner.Listed.{Lists}}
 use Rattle.nntp_wire.specs.{Listing.{ActiveValue, OverviewValue}, declared.range.Range.{Range}}
 use Rattle.nntp_said.specs.{Asks.{Ask}, Facts.{Fact, OverviewsAre, GroupsAre}}
 use Rattle.nntp_theory.specs.Inner.Together.{IsWellFormed, said_of, join_said, Together, Join}
 use Rattle.nntp_facts.specs.Inner.{ListedGroups.{MayList}, Saying.{OfGroup, OfArticle, Saying, facts_in, AreListed, IsToExist, MayBeOf, Tells, MaySay}}
-use Rattle.nntp_facts.specs.Inner.{Saying.{listing_group, overviews_facts}, Kept.{Kept, IsKept, AreKeptNames, AreKeptGroups, AreAdded}}
-use Rattle.nntp_facts.specs.Inner.{ListedOverviews.{HaveOwn}, KeptSaying.{MayListOf, IsTextOf, JoinGroups, MayBeSaid, ArticleJoins, IsArticleAdded}}
+use Rattle.nntp_facts.specs.Inner.{Saying.{listing, overviews_facts}, Kept.{Kept, IsKept, AreKeptNames, AreKeptGroups, AreAdded}}
+use Rattle.nntp_facts.specs.Inner.{KeptSaying.{MayListOf, IsTextOf, JoinGroups, MayBeSaid, ArticleJoins, IsArticleAdded}}
 use Rattle.nntp_facts.proofs.Keeping.OverviewsTold.{plain_told, plain_if, group_there, of_range, overviews_told, no_id_there, asks_there}
 use Rattle.nntp_facts.proofs.Keeping.{PartsJoin.{parts_join, said_of_parts}, SaidOfArticles.{said_append}, KeptArticles.{Articles}}
 
@@ -35,34 +35,41 @@ list_added facts more s wildmat lines lists old new does is listed t formed adds
 
 -- ---- where overviews are
 
--- the saying lists overviews of the group
-listing_is : (s : Saying) (g : OfGroup) → listing_group s ≡ Some g → (o : Range × List OverviewValue) × (s.overviews ≡ Some o) × (s.group ≡ Some g)
-listing_is s g e = grind arith
+-- the saying lists these overviews of the group
+listing_is : (s : Saying) (g : OfGroup) (os : List OverviewValue) → listing s ≡ Some (g, os) → (range : Range) × (s.overviews ≡ Some (range, os)) × (s.group ≡ Some g)
+listing_is s g os e = by s.overviews refl s.group refl e
+  where
+    by : (o : Option (Range × List OverviewValue)) → s.overviews ≡ o → (h : Option OfGroup) → s.group ≡ h
+        → option_map_or (λ o. option_map {U = OfGroup × List OverviewValue} (λ g. (g, o.1)) h) o None ≡ Some (g, os)
+        → (range : Range) × (s.overviews ≡ Some (range, os)) × (s.group ≡ Some g)
+    by None p h q e = cc
+    by (Some o) p None q e = cc
+    by (Some (range, ps)) p (Some h) q e =
+        let same : (h, ps) ≡ (g, os) = cc in
+        (range, p ∙ ap (λ (l : OfGroup × List OverviewValue). Some (range, l.1)) same, q ∙ ap (λ (l : OfGroup × List OverviewValue). Some l.0) same)
 
 -- or none
-pub lists_none : (facts : List Fact) (s : Saying) (asks : List Ask) → MaySay facts s asks → listing_group s ≡ None → s.overviews ≡ None
+pub lists_none : (facts : List Fact) (s : Saying) (asks : List Ask) → MaySay facts s asks → listing s ≡ None → s.overviews ≡ None
 lists_none facts s asks may e = plain_if facts s asks may (λ o is. let g = group_there facts s asks may o is in grind (arith, e, is, g.1))
 
 -- so what is added of them is added
-pub overviews_added : (facts more : List Fact) (s : Saying) (g : OfGroup) (lists : Lists) (old new : Kept) (does : Bool) → listing_group s ≡ Some g
-    → AreListed s lists → Tells facts s more → AllByRecursion IsWellFormed more
-    → ((range : Range) → AllByRecursion IsWellFormed (overviews_facts (Some g) (range, lists.overviews)) → MayListOf facts g range lists.overviews
-    → AreAdded facts (overviews_facts (Some g) (range, lists.overviews)) old new does)
+pub overviews_added : (facts more : List Fact) (s : Saying) (g : OfGroup) (os : List OverviewValue) (old new : Kept) (does : Bool) → listing s ≡ Some (g, os)
+    → Tells facts s more → AllByRecursion IsWellFormed more
+    → ((range : Range) → AllByRecursion IsWellFormed (overviews_facts (Some g) (range, os)) → MayListOf facts g range os
+    → AreAdded facts (overviews_facts (Some g) (range, os)) old new does)
     → AreAdded facts more old new does
-overviews_added facts more s g lists old new does e listed t formed adds = by (listing_is s g e)
+overviews_added facts more s g os old new does e t formed adds = by (listing_is s g os e)
   where
-    by : (o : Range × List OverviewValue) × (s.overviews ≡ Some o) × (s.group ≡ Some g) → AreAdded facts more old new does
-    by (o, is, named) =
-        let of = of_range facts s t.asks t.may o is in
-        let asked = asks_there facts s t.asks t.may o is g named in
-        let same : lists.overviews ≡ o.1 = subst (λ o. IfSome o (λ o. lists.overviews ≡ o.1)) is listed.1 in
-        let whole : OverviewsAre g.name o.0 lists.overviews ∷ [] ≡ more =
-        ap (λ os. OverviewsAre g.name o.0 os ∷ []) same ∙ sym (overviews_told facts s t.asks t.may o is g named) ∙ t.same in
-        subst (λ more. AreAdded facts more old new does) whole (adds o.0 (subst (AllByRecursion IsWellFormed) (sym whole) formed) (record {
+    by : (range : Range) × (s.overviews ≡ Some (range, os)) × (s.group ≡ Some g) → AreAdded facts more old new does
+    by (range, is, named) =
+        let of = of_range facts s t.asks t.may (range, os) is in
+        let asked = asks_there facts s t.asks t.may (range, os) is g named in
+        let whole : OverviewsAre g.name range os ∷ [] ≡ more = sym (overviews_told facts s t.asks t.may (range, os) is g named) ∙ t.same in
+        subst (λ more. AreAdded facts more old new does) whole (adds range (subst (AllByRecursion IsWellFormed) (sym whole) formed) (record {
           shown = grind (arith, t.may.shown, of.there_is, named);
-          numbers = grind (arith, t.may.numbers, asked, same, named);
-          id = no_id_there facts s t.asks t.may o is g named;
-          own = subst HaveOwn (sym same) of.own;
+          numbers = grind (arith, t.may.numbers, asked, named);
+          id = no_id_there facts s t.asks t.may (range, os) is g named;
+          own = of.own;
         }))
 
 -- ---- where nothing is listed

@@ -4,17 +4,18 @@ use Rattle.std.proofs.{Common.{◌∙◌, append-nil, arith}, lemmas.{Bool.{true
 use Rattle.std.{proofs.Math.Bool.{or-false}, specs.{Prelude.{◌↔◌, IfSome, IsFalse}, List.{AllByRecursion, list_any}, Option.{option_or, option_map_or}}}
 use Rattle.std.specs.{Cmp.Lexicographic.{same_text}, FinMap.{get}}
 use Rattle.nntp_wire.specs.{Listing.{OverviewValue}, declared.range.Range.{Range}}
-use Rattle.nntp_article.specs.{Article.Parts.{Id}, Session.{Spool.{Name}, Machine.{is_same, overview_numbers}}}
+use Rattle.nntp_article.specs.{Article.{Parts.{Id}, Fields.{Fields, fields_told}}, Session.{Spool.{Name}, Machine.{is_same, overview_numbers}}}
 use Rattle.nntp_said.specs.{Asks.{Ask, ListsIn}, Facts.{Fact, OverviewsAre}}
 use Rattle.nntp_theory.specs.{Given.{asks_of, shows_group, is_shown_group, first_given, id_of_overview, id_in}, Together.{number_of_overview, number_in}}
-use Rattle.nntp_theory.specs.{Together.{denies_article}, Inner.Together.{AsksStand, IsWellFormed, JoinNumbers, JoinIds, Together, Join, SaidOfArticle, said_of}}
+use Rattle.nntp_theory.specs.Given.{has_overview_of, fields_of_overview, fields_in}
+use Rattle.nntp_theory.specs.{Together.{denies_article}, Inner.Together.{AsksStand, IsWellFormed, JoinNumbers, JoinIds, Together, Join, SaidOfArticle, said_of, AreSame}}
 use Rattle.nntp_theory.{specs.Inner.Together.{said_nothing, join_said}, proofs.Members.{In, all_at, all_from, all_back, any_in, found_in}}
-use Rattle.nntp_theory.proofs.Together.{FactsOfASpoolStand.{same_itself}, FactsJoin.{asks_append}, TwoListsOfFacts.{given_append, or_none, any_silent}}
-use Rattle.nntp_theory.proofs.Together.ListedOverviews.{overview_at, overview_of}
-use Rattle.nntp_facts.specs.Inner.Kept.{Kept, IsKept, Told, told, AreKept, AreKeptNames, AreKeptArticles, with_part, Changes, MayShow, said_kept}
-use Rattle.nntp_facts.specs.Inner.{Saying.{Exists}, KeptSaying.{AreKeptThen, IsArticleAdded, MayGive, may_give, with_overviews, said_in, said_listed}}
-use Rattle.nntp_facts.specs.Inner.{ListedOverviews.{HaveOwn, OverviewJoins, id_listed, place_listed}, Articles.{unsent}}
-use Rattle.nntp_facts.proofs.Keeping.{KeptNamesAndGroups.{names_kept}, KeptArticles.{Articles, article_joins, denied_kept}, ListedOverviews.{listed_asks}}
+use Rattle.nntp_theory.proofs.Together.{FactsOfASpoolStand.{same_itself}, FactsJoin.{asks_append}, TwoListsOfFacts.{given_append, given_silent, or_none, any_silent}}
+use Rattle.nntp_theory.proofs.Together.ListedOverviews.{overview_at, overview_of, told_by}
+use Rattle.nntp_facts.specs.Inner.Kept.{Kept, KeptArticle, IsKept, Told, told, AreKept, AreKeptNames, AreKeptArticles, with_part, Changes, MayShow, said_kept}
+use Rattle.nntp_facts.specs.Inner.KeptSaying.{IsSaidKept, IsSaidAdded, MayGive, MayBeGiven, with_overviews, said_alone, said_listed}
+use Rattle.nntp_facts.specs.Inner.{ListedOverviews.{HaveOwn, OverviewJoins, id_listed, place_listed}, Articles.{telling}}
+use Rattle.nntp_facts.proofs.Keeping.{KeptNamesAndGroups.{names_kept}, KeptArticles.{Articles, MayKeep, article_joins, denied_kept}, ListedOverviews.{listed_asks}}
 use Rattle.nntp_facts.proofs.Keeping.{ListedOverviews.{listed_ids, listed_places, listed_said, own_agree, none_in_front}, FactsOfOneGroup.{IsOr, asked_here}}
 use Rattle.nntp_facts.proofs.Keeping.{FactsOfOneGroup.{asked_elsewhere}, PartsJoin.{agree_told}, SaidOfArticles.{said_append}, SilentFacts.{numbers_join}}
 use Rattle.nntp_facts.proofs.Keeping.SilentFacts.{told_same}
@@ -66,7 +67,8 @@ module _ (facts : List Fact) (name : Name) (r : Range) (os : List OverviewValue)
   -- and back
   may_from : HaveOwn os → JoinIds facts more → (o : OverviewValue) → In o os → MayShow (told facts name) (Some (o.number, o.id))
   may_from own j o i =
-      let own : (id_listed os o.number ≡ Some o.id) × (place_listed os o.id ≡ Some o.number) = all_at _ o os (own_agree name r os own) i in
+      let all = all_at _ o os (own_agree name r os own) i in
+      let own : (id_listed os o.number ≡ Some o.id) × (place_listed os o.id ≡ Some o.number) = (all.0, all.1) in
       grind (arith, same_itself name, own.0, own.1, j.ids name o.number, j.ids_once name o.id)
 
   pub overviews_join : Together facts → AllByRecursion IsWellFormed more → HaveOwn os → Join facts more ↔ (AsksStand (asks_of name facts ++ asks) × AllByRecursion (OverviewJoins facts name) os)
@@ -76,6 +78,7 @@ module _ (facts : List Fact) (name : Name) (r : Range) (os : List OverviewValue)
       all_from (OverviewJoins facts name) os (λ o i. record {
         id = may_from own j.ids o i;
         free = (j.articles o.id).shown (or_left _ false (any_in (λ (v : OverviewValue). is_same v.id o.id) o os i (same_itself o.id)));
+        fields = subst (λ more. AreSame more (first_given (fields_in o.id) facts)) (or_none _ ∙ own_fields o i) (j.articles o.id).fields;
       }),
     ),
     λ h. record {
@@ -84,12 +87,27 @@ module _ (facts : List Fact) (name : Name) (r : Range) (os : List OverviewValue)
       names = record { groups = λ other s. absurd (true≢false (sym s)); no_groups = λ other d. absurd (true≢false (sym d)) };
       numbers = numbers.1 h.0;
       ids = ids_from (λ o i. (all_at (OverviewJoins facts name) o os h.1 i).id);
-      articles = λ id. record { shown = λ t. free h.1 id (sym (or-false _) ∙ t); denied = λ t. absurd (true≢false (sym t)); head = tt; body = tt };
+      articles = λ id. record { shown = λ t. free h.1 id (sym (or-false _) ∙ t); denied = λ t. absurd (true≢false (sym t)); head = tt; fields = told h.1 id; body = tt };
     },
   )
     where
       numbers : JoinNumbers facts more ↔ AsksStand (asks_of name facts ++ asks)
       numbers = numbers_join facts more name asks t (asked_here name asks more (listed_asks name r os)) (asked_elsewhere name asks more (listed_asks name r os))
+
+      own_fields : (o : OverviewValue) → In o os → first_given (fields_of_overview o.id) os ≡ Some (fields_told o)
+      own_fields o i = (all_at _ o os (own_agree name r os own) i).2
+
+      -- what they tell of an id is what one of them tells
+      told : AllByRecursion (OverviewJoins facts name) os → (id : Id) → AreSame (option_or (first_given (fields_of_overview id) os) None) (first_given (fields_in id) facts)
+      told all id = subst (λ more. AreSame more (first_given (fields_in id) facts)) (sym (or_none (first_given (fields_of_overview id) os))) (by (first_given (fields_of_overview id) os) refl)
+        where
+          by : (o : Option Fields) → first_given (fields_of_overview id) os ≡ o → AreSame o (first_given (fields_in id) facts)
+          by None e = tt
+          by (Some fields) e =
+              let f = told_by os id fields e in
+              let j = all_at (OverviewJoins facts name) f.overview os all f.there in
+              subst (λ fields. AreSame (Some fields) (first_given (fields_in id) facts)) f.told
+              (subst (λ id. AreSame (Some (fields_told f.overview)) (first_given (fields_in id) facts)) f.same_id j.fields)
 
       free : AllByRecursion (OverviewJoins facts name) os → (id : Id) → IsTrue (list_any (λ o. is_same o.id id) os) → IsFalse (list_any (denies_article id) facts)
       free all id e =
@@ -107,7 +125,7 @@ module _ (facts : List Fact) (name : Name) (r : Range) (os : List OverviewValue)
   all_given t own j = all_from (MayGive facts asked_told) os (λ o i.
       let h = all_at (OverviewJoins facts name) o os ((overviews_join t j.well_formed own).0 j).1 i in
       let agree = agree_told facts t name (Some (o.number, o.id)) in
-      record { shown = refl; agree = grind (arith, or_none, agree); may = grind (arith, or_none, h.id); free = h.free })
+      record { shown = refl; agree = grind (arith, or_none, agree); may = grind (arith, or_none, h.id); free = h.free; fields = h.fields })
 
   -- with the ids this is all that is told then
   all_told : is_shown_group facts name ≡ true → (other : Name) → with_overviews (put (told facts) name asked_told) name os other ≡ told (facts ++ more) other
@@ -175,13 +193,19 @@ module _ (facts : List Fact) (tells : Name → Told) (name : Name) (front : List
   said_so_far id = said_append facts (OverviewsAre name all_numbers front ∷ []) id ∙ ap (join_said (said_of facts id)) (listed_said name all_numbers front id)
 
   -- the article of one more is said
-  pub said_next : (id : Id) → join_said (said_of facts id) (said_listed (front ++ o ∷ []) id) ≡ join_said (said_of so_far id) (said_in (Some (o.id, Exists)) id)
-  said_next id = by (list_any (λ v. is_same v.id id) front) (is_same o.id id) (said_of facts id) (said_of so_far id) (said_so_far id)
-      (list_any-append (λ (v : OverviewValue). is_same v.id id) front (o ∷ []))
+  pub said_next : (id : Id) → join_said (said_of facts id) (said_listed (front ++ o ∷ []) id) ≡ join_said (said_of so_far id) (said_alone o.id (telling false (Some (fields_told o))) id)
+  said_next id =
+      by (has_overview_of id front) (is_same o.id id) (first_given (fields_of_overview id) front) (said_of facts id)
+      (list_any-append (λ (v : OverviewValue). is_same v.id id) front (o ∷ [])) (given_append (fields_of_overview id) front (o ∷ []))
+      ∙ ap (λ s. join_said s (said_alone o.id (telling false (Some (fields_told o))) id)) (sym (said_so_far id))
     where
-      by : (a b : Bool) {c : Bool} (before then : SaidOfArticle) → then ≡ join_said before (cond a (said_kept (Some unsent)) said_nothing) → c ≡ (a || (b || false))
-          → join_said before (cond c (said_kept (Some unsent)) said_nothing) ≡ join_said then (cond b (said_kept (Some unsent)) said_nothing)
-      by a b before then is e = grind (arith, or-false, or_none)
+      -- overviews of which some have the id and tell these fields of it
+      some_listed : Bool → Option Fields → SaidOfArticle
+      some_listed has fields = record { is_mentioned = has; is_shown = has; is_denied = false; is_sent = false; head = None; fields = fields; body = None }
+
+      by : (a b : Bool) {c : Bool} (x : Option Fields) {y : Option Fields} (before : SaidOfArticle) → c ≡ (a || (b || false)) → y ≡ option_or x (option_or (cond b (Some (fields_told o)) None) None)
+          → join_said before (some_listed c y) ≡ join_said (join_said before (some_listed a x)) (cond b (said_kept (Some (telling false (Some (fields_told o))))) said_nothing)
+      by a b x before e f = grind (arith, or-false, or_none)
 
   -- what may be given of the next one beside what was told before, may be given beside those in front too
   pub may_give_next : (rest : List OverviewValue) → HaveOwn (front ++ o ∷ rest) → AllByRecursion (MayGive facts (tells name)) (front ++ o ∷ rest)
@@ -194,18 +218,34 @@ module _ (facts : List Fact) (tells : Name → Told) (name : Name) (front : List
         agree = grind (arith, or_none, none.0, none.1, g.agree);
         may = grind (arith, or_none, none.0, none.1, g.may);
         free = any_silent (denies_article o.id) facts _ refl ∙ g.free;
+        fields = subst (AreSame (Some (fields_told o))) (sym (given_silent (fields_in o.id) facts _ (or_none _ ∙ none.2))) g.fields;
       })
 
--- an id that isn't denied is added
-pub surely_added : (facts : List Fact) (id : Id) (old new : Articles) (does : Bool) → AreKeptArticles facts old → IsFalse (list_any (denies_article id) facts)
-    → IsArticleAdded facts (Some (id, Exists)) old new does → (does ≡ true) × AreKeptThen facts (Some (id, Exists)) new
-surely_added facts id old new does kept free added = grind (arith, article_joins facts old id Exists kept, denied_kept facts old id kept)
+-- an id that isn't denied is added, with what an overview tells of it, if nothing else was told
+pub surely_added : (facts : List Fact) (id : Id) (fields : Fields) (old new : Articles) (does : Bool) → AreKeptArticles facts old → IsFalse (list_any (denies_article id) facts)
+    → AreSame (Some fields) (first_given (fields_in id) facts) → IsSaidAdded facts (said_alone id (telling false (Some fields))) old new does
+    → (does ≡ true) × IsSaidKept facts (said_alone id (telling false (Some fields))) new
+surely_added facts id fields old new true kept free same added = (refl, added.1)
+surely_added facts id fields old new false kept free same added = absurd (added.0 ((article_joins facts old id (telling false (Some fields)) kept).1 (may (get old id) denied told)))
+  where
+    denied : option_map_or (λ a. a.is_denied) (get old id) false ≡ false
+    denied = sym (denied_kept facts old id kept) ∙ free
+
+    told : AreSame (Some fields) (said_kept (get old id)).fields
+    told = subst (AreSame (Some fields)) (ap (λ (s : SaidOfArticle). s.fields) (kept id)) same
+
+    may : (o : Option KeptArticle) → option_map_or (λ a. a.is_denied) o false ≡ false → AreSame (Some fields) (said_kept o).fields → MayKeep o (telling false (Some fields))
+    may None d t = tt
+    may (Some a) d t = (d, tt, t, tt)
 
 -- an overview joins where it may be given
-pub gives_joins : (facts : List Fact) (name : Name) (k : Kept) (o : OverviewValue) → IsKept facts k → IsTrue (may_give (told facts name) k.articles o) ↔ OverviewJoins facts name o
+pub gives_joins : (facts : List Fact) (name : Name) (k : Kept) (o : OverviewValue) → IsKept facts k → MayBeGiven (told facts name) k.articles o ↔ OverviewJoins facts name o
 gives_joins facts name k o kept =
     let is = by _ _ _ _ (id ((told facts name).ids o.number)) (place ((told facts name).places o.id)) (denied_kept facts k.articles o.id kept.articles) in
-    (λ t. record { id = (is.0 t).0; free = (is.0 t).1 }, λ j. is.1 (j.id, j.free))
+    let same = ap (λ (s : SaidOfArticle). s.fields) (kept.articles o.id) in (
+      λ t. record { id = (is.0 t.0).0; free = (is.0 t.0).1; fields = subst (AreSame (Some (fields_told o))) (sym same) t.1 },
+      λ j. (is.1 (j.id, j.free), subst (AreSame (Some (fields_told o))) same j.fields),
+    )
   where
     id : (x : Option Id) → IsTrue (option_map_or (λ other. is_same other o.id) x true) ↔ IsOr x o.id
     id None = (λ t. tt, λ h. refl)

@@ -2,20 +2,21 @@
 use Rattle.std.proofs.Common.{◌≡◌, ℕ, true, false, cond, List, [], ◌∷◌, ◌++◌, Option, None, Some, is_some, MatchOption, refl, sym, ap, subst, ◌∙◌, arith}
 use Rattle.std.{proofs.lemmas.{Bool.{true≢false, or_left, or_right}, List.Folds.{list_any-append}}, specs.Prelude.{◌↔◌, IsFalse, IfSome}}
 use Rattle.std.specs.{Option.{option_map_or, option_or}, List.{AllByRecursion, list_any}, Cmp.Lexicographic.{same_text}}
-use Rattle.nntp_article.specs.{Article.Parts.{Id}, Session.{Spool.{Name}, Machine.{is_same}}}
-use Rattle.nntp_wire.specs.Listing.{ActiveValue}
+use Rattle.nntp_article.specs.{Article.Parts.{Id}, Session.{Spool.{Name}, Machine.{is_same, only}}}
+use Rattle.nntp_wire.specs.Listing.{ActiveValue, OverviewValue}
 use Rattle.nntp_said.specs.{Asks.{Ask}, Facts.{Fact}}
 use Rattle.nntp_theory.specs.{Given.{asks_of, is_shown_group, first_given, id_in}, Inner.Together.{IsWellFormed, AgreesWithItself, said_of, said_nothing}}
 use Rattle.nntp_theory.specs.{Inner.Together.{join_said, Together, JoinNames, JoinNumbers, JoinIds, JoinArticle, Join}, Together.{denies_group, number_in}}
 use Rattle.nntp_theory.proofs.Together.{TwoListsOfFacts.{given_append}, FactsJoin.{asks_append}, FactsOfASpoolStand.{same_itself}}
+use Rattle.nntp_theory.proofs.{Members.{all_both}, Together.ListedOverviews.{alone_agrees}}
 use Rattle.nntp_theory.proofs.Ids.OnePlaceOfAnId.{agree_together, shown_with_id}
-use Rattle.nntp_facts.specs.Inner.Saying.{OfGroup, OfArticle, Lacks, Exists, Saying, asked_id, sent_facts, lack_facts, there_facts, missing_facts, groups_facts}
+use Rattle.nntp_facts.specs.Inner.Saying.{OfGroup, OfArticle, Lacks, Exists, Describes, Saying, asked_id, sent_facts, lack_facts, there_facts, missing_facts, groups_facts}
 use Rattle.nntp_facts.specs.Inner.{Saying.{id_facts, group_facts, facts_in, MaySay, IsToExist, MayBeOf, IsShownThen}, Kept.{told, Told, IsUntold, AreKept}}
 use Rattle.nntp_facts.specs.Inner.{Kept.{AreKeptGroups, with_part, Changes, Agree, IsShownAt, MayShow, AreKeptWith, id_of, place_of}, KeptSaying.{GroupJoins}}
 use Rattle.nntp_facts.{specs.Inner.KeptSaying.{JoinGroups, said_in, ArticleJoins}, proofs.Keeping.{KeptNamesAndGroups.{groups_kept}, KeptGroups.{Groups}}}
 use Rattle.nntp_facts.proofs.Keeping.{FactsOfOneGroup.{AskOf, asked_here, asked_elsewhere, GivesId, gives_joins}, FactsOfParts.{given_is_read, asks_are_read}}
 use Rattle.nntp_facts.proofs.Keeping.FactsOfParts.{ids_in, of_articles, of_group, group_asks, group_ids, group_places, shown_group, denied_group}
-use Rattle.nntp_facts.proofs.Keeping.{SaidOfArticles.{nothing_more, said_is_read, lack_said, there_said, text_said, text_at}, SilentFacts.{numbers_join}}
+use Rattle.nntp_facts.proofs.Keeping.{SaidOfArticles.{nothing_more, said_is_read, lack_said, there_said, text_said, text_at, overview_said, overview_at}, SilentFacts.{numbers_join}}
 use Rattle.nntp_facts.proofs.Keeping.SilentFacts.{no_numbers_join, GiveNoIds, ids_join, told_same}
 use Rattle.nntp_numbers.specs.Inner.{Summary.{AreBounded}, Part.{Says}}
 
@@ -23,20 +24,33 @@ use Rattle.nntp_numbers.specs.Inner.{Summary.{AreBounded}, Part.{Says}}
 
 -- of each id the facts of the article's part, and the id at a number, say what that part does
 of_part : (a : Option (Id × OfArticle)) (name : Name) (e : Option (ℕ × Id)) → IfSome e (λ e. IsToExist a e.1) → ((other : Id) → a ≡ Some (other, Exists) → MatchOption e ⊥ (λ e. e.1 ≡ other))
-    → (id : Id) → join_said (said_of (sent_facts a) id) (join_said (said_of (id_facts name e) id) (said_of (lack_facts a) id)) ≡ said_in a id
-of_part None name None placed may id = refl
-of_part None name (Some e) placed may id = absurd placed
-of_part (Some (other, Lacks)) name None placed may id = lack_said other id
-of_part (Some (other, Lacks)) name (Some e) placed may id = absurd placed
-of_part (Some (other, Exists)) name None placed may id = absurd (may other refl)
-of_part s name d placed may id = grind (arith, nothing_more, there_said, text_said, text_at)
+    → ((other : Id) (os : List OverviewValue) → a ≡ Some (other, Describes os) → MatchOption (only os) ⊥ (λ o. o.id ≡ other)) → (id : Id)
+    → join_said (said_of (sent_facts a) id) (join_said (said_of (id_facts name e) id) (said_of (lack_facts a) id)) ≡ said_in a id
+of_part None name None placed may one id = refl
+of_part None name (Some e) placed may one id = absurd placed
+of_part (Some (other, Lacks)) name None placed may one id = lack_said other id
+of_part (Some (other, Lacks)) name (Some e) placed may one id = absurd placed
+of_part (Some (other, Exists)) name None placed may one id = absurd (may other refl)
+of_part (Some (other, Describes os)) name None placed may one id =
+    ap (λ s. join_said s said_nothing) (overview_said other os (one other os refl) id) ∙ nothing_more (said_in (Some (other, Describes os)) id)
+of_part (Some (other, Describes os)) name (Some e) placed may one id = grind (arith, nothing_more, there_said, overview_said other os (one other os refl) id, overview_at)
+of_part s name d placed may one id = grind (arith, nothing_more, there_said, text_said, text_at)
 
--- of the parts none is a list of overviews
-parts_agree : (s : Saying) (asks : List Ask) → AllByRecursion AgreesWithItself (facts_in s asks)
-parts_agree s asks = front s.article s.there_is _ (of s.group asks _ (back s.article s.there_is_no s.groups))
+-- an overview agrees with itself, as it is the only one
+part_agrees : (group : Option OfGroup) (a : Option (Id × OfArticle)) → IfSome a (MayBeOf group) → AllByRecursion AgreesWithItself (sent_facts a)
+part_agrees group (Some (id, Describes (o ∷ []))) may = (alone_agrees o, tt)
+part_agrees group a may = grind arith
+
+-- of the parts none is a list of overviews of a range
+parts_agree : (s : Saying) (asks : List Ask) → IfSome s.article (MayBeOf s.group) → AllByRecursion AgreesWithItself (facts_in s asks)
+parts_agree s asks may = front s.article s.there_is _ (part_agrees s.group s.article may) (of s.group asks _ (back s.article s.there_is_no s.groups))
   where
-    front : (a : Option (Id × OfArticle)) (o : Option Name) (more : List Fact) → AllByRecursion AgreesWithItself more → AllByRecursion AgreesWithItself (sent_facts a ++ (there_facts o ++ more))
-    front a o more h = grind arith
+    front : (a : Option (Id × OfArticle)) (o : Option Name) (more : List Fact) → AllByRecursion AgreesWithItself (sent_facts a) → AllByRecursion AgreesWithItself more
+        → AllByRecursion AgreesWithItself (sent_facts a ++ (there_facts o ++ more))
+    front a o more own h = all_both AgreesWithItself (sent_facts a) (there_facts o ++ more) own (there o)
+      where
+        there : (o : Option Name) → AllByRecursion AgreesWithItself (there_facts o ++ more)
+        there o = grind arith
 
     of : (g : Option OfGroup) (asks : List Ask) (more : List Fact) → AllByRecursion AgreesWithItself more → AllByRecursion AgreesWithItself (group_facts g asks ++ more)
     of None asks more h = h
@@ -69,6 +83,9 @@ module _ (facts : List Fact) (s : Saying) (asks : List Ask) (no_list : s.groups 
   exists_at : (other : Id) → s.article ≡ Some (other, Exists) → MatchOption s.group ⊥ (λ g. MatchOption g.id ⊥ (λ e. e.1 ≡ other))
   exists_at other is = subst (λ a. IfSome a (MayBeOf s.group)) is may.article
 
+  only_told : (other : Id) (os : List OverviewValue) → s.article ≡ Some (other, Describes os) → MatchOption (only os) ⊥ (λ o. o.id ≡ other)
+  only_told other os is = subst (λ a. IfSome a (MayBeOf s.group)) is may.article
+
   -- of each id all facts say what the article's part does
   pub said_of_parts : (id : Id) → said_of (facts_in s asks) id ≡ said_in s.article id
   said_of_parts id =
@@ -78,8 +95,8 @@ module _ (facts : List Fact) (s : Saying) (asks : List Ask) (no_list : s.groups 
       by : (g : Option OfGroup) → IfSome g (λ g. IfSome g.id (λ e. IsToExist s.article e.1))
           → ((other : Id) → s.article ≡ Some (other, Exists) → MatchOption g ⊥ (λ g. MatchOption g.id ⊥ (λ e. e.1 ≡ other)))
           → join_said (said_of (sent_facts s.article) id) (join_said (said_of (ids_in g) id) (said_of (lack_facts s.article) id)) ≡ said_in s.article id
-      by None placed at = of_part s.article [] None tt at id
-      by (Some g) placed at = of_part s.article g.name g.id placed at id
+      by None placed at = of_part s.article [] None tt at only_told id
+      by (Some g) placed at = of_part s.article g.name g.id placed at only_told id
 
   -- ---- groups
 
@@ -87,13 +104,13 @@ module _ (facts : List Fact) (s : Saying) (asks : List Ask) (no_list : s.groups 
   pub group_is : (g : OfGroup) → s.group ≡ Some g → AskOf g.name (asks ++ asked_id g.id) (facts_in s asks) × GivesId g.name g.id (facts_in s asks)
   group_is g is = (
     λ name. of_group (asks_of name) (λ xs ys. xs ++ ys) [] (asks_are_read name) s asks no_list (λ what id lines. refl)
-        (λ id. refl) (λ n. refl) (λ n. refl) ∙ ap (λ g. asks_of name (group_facts g asks)) is ∙ group_asks name g asks,
+        (λ os. refl) (λ id. refl) (λ n. refl) (λ n. refl) ∙ ap (λ g. asks_of name (group_facts g asks)) is ∙ group_asks name g asks,
     record {
       ids = λ name n. of_group (first_given (id_in name n)) option_or None (given_is_read (id_in name n)) s asks no_list
-          (λ what id lines. refl) (λ id. refl) (λ n. refl) (λ n. refl)
+          (λ what id lines. refl) (λ os. refl) (λ id. refl) (λ n. refl) (λ n. refl)
           ∙ ap (λ g. first_given (id_in name n) (group_facts g asks)) is ∙ group_ids g asks name n;
       places = λ name id. of_group (first_given (number_in name id)) option_or None
-          (given_is_read (number_in name id)) s asks no_list (λ what id lines. refl) (λ id. refl) (λ n. refl) (λ n. refl)
+          (given_is_read (number_in name id)) s asks no_list (λ what id lines. refl) (λ os. refl) (λ id. refl) (λ n. refl) (λ n. refl)
           ∙ ap (λ g. first_given (number_in name id) (group_facts g asks)) is ∙ group_places g asks name id;
     },
   )
@@ -144,7 +161,7 @@ module _ (facts : List Fact) (s : Saying) (asks : List Ask) (no_list : s.groups 
     ),
     λ h. record {
       well_formed = formed;
-      lists = parts_agree s asks;
+      lists = parts_agree s asks may.article;
       names = names_join.1 (h.0.there_is, h.0.there_is_no);
       numbers = ((group_join t).1 h.0.group).0;
       ids = ((group_join t).1 h.0.group).1;

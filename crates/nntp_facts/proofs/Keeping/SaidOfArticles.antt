@@ -1,12 +1,12 @@
 -- What facts say of ids: of two lists, one behind the other, and of single facts.
-use Rattle.std.proofs.{Common.{◌≡◌, ℕ, cond, List, [], ◌∷◌, ◌++◌, Option, None, Some, refl, sym, ap, subst, ◌∙◌, arith}, lemmas.Bool.{true≢false}}
-use Rattle.std.{proofs.{lemmas.List.Folds.{list_any-append}, Math.Bool.{or-false}}, specs.{Cmp.Lexicographic.{slice_cmp}, Ordering.{nat_cmp}, FinMap.{FinMap}}}
-use Rattle.nntp_wire.specs.declared.command.What.{What}
-use Rattle.nntp_article.specs.{Article.Parts.{Id, Line}, Session.{Spool.{Name}, Machine.{is_same}}}
-use Rattle.nntp_said.specs.Facts.{Fact, IdAt, TextIs, NoArticle}
+use Rattle.std.proofs.{Common.{◌≡◌, ℕ, Bool, true, false, ◌||◌, cond, MatchOption, List, [], ◌∷◌, ◌++◌, Option, None, Some, refl, sym, ap, subst, ◌∙◌, arith}, lemmas.Bool.{true≢false}}
+use Rattle.std.{proofs.{lemmas.List.Folds.{list_any-append}, Math.Bool.{or-false}}, specs.{Option.{option_or}, Cmp.Lexicographic.{slice_cmp}, Ordering.{nat_cmp}, FinMap.{FinMap}}}
+use Rattle.nntp_wire.specs.{Listing.{OverviewValue}, declared.command.What.{What}}
+use Rattle.nntp_article.specs.{Article.{Parts.{Id, Line}, Fields.{fields_told}}, Session.{Spool.{Name}, Machine.{is_same, only}}}
+use Rattle.nntp_said.specs.Facts.{Fact, IdAt, TextIs, NoArticle, FieldsAre}
 use Rattle.nntp_theory.specs.{Given.{head_in, body_in}, Inner.Together.{SaidOfArticle, said_of, said_nothing, join_said, JoinArticle, JoinArticles}}
 use Rattle.nntp_theory.proofs.Together.TwoListsOfFacts.{given_append, or_none}
-use Rattle.nntp_facts.specs.Inner.{Kept.{KeptArticle, AreKeptArticles}, Articles.{head_sent, body_sent}, Saying.{Lacks, Exists, Sends}, KeptSaying.{said_in}}
+use Rattle.nntp_facts.specs.Inner.{Kept.{KeptArticle, said_kept, AreKeptArticles}, Articles.{head_sent, body_sent, telling}, Saying.{Lacks, Exists, Sends, Describes}, KeptSaying.{said_in, said_alone}}
 use Rattle.nntp_facts.proofs.Keeping.FactsOfParts.{IsRead}
 
 -- ---- one list behind the other
@@ -25,7 +25,7 @@ said_is_read id = record { none = refl; append = λ facts more. said_append fact
 
 -- nothing joins whatever was said
 pub nothing_joins : (s : SaidOfArticle) → JoinArticle s said_nothing
-nothing_joins s = record { shown = λ t. absurd (true≢false (sym t)); denied = λ t. absurd (true≢false (sym t)); head = tt; body = tt }
+nothing_joins s = record { shown = λ t. absurd (true≢false (sym t)); denied = λ t. absurd (true≢false (sym t)); head = tt; fields = tt; body = tt }
 
 pub articles_join : (facts more : List Fact) → ((id : Id) → said_of more id ≡ said_nothing) → JoinArticles facts more
 articles_join facts more silent id = subst (JoinArticle (said_of facts id)) (sym (silent id)) (nothing_joins (said_of facts id))
@@ -56,7 +56,37 @@ there_said name n other id = grind arith
 pub text_said : (what : What) (other : Id) (lines : Option (List Line)) (id : Id) → said_of (TextIs what other lines ∷ []) id ≡ said_in (Some (other, Sends what lines)) id
 text_said what other lines id = grind arith
 
+-- an overview that was asked for alone tells of an article
+pub overview_said : (other : Id) (os : List OverviewValue) → MatchOption (only os) ⊥ (λ o. o.id ≡ other) → (id : Id) → said_of (FieldsAre os ∷ []) id ≡ said_in (Some (other, Describes os)) id
+overview_said other [] is id = absurd is
+overview_said other (o ∷ []) is id = subst (λ other. said_of (FieldsAre (o ∷ []) ∷ []) id ≡ said_in (Some (other, Describes (o ∷ []))) id) is (by (is_same o.id id))
+  where
+    by : (b : Bool) → record {
+      is_mentioned = (b || false) || false;
+      is_shown = (b || false) || false;
+      is_denied = false;
+      is_sent = (b || false) || false;
+      head = None;
+      fields = option_or (option_or (cond b (Some (fields_told o)) None) None) None;
+      body = None;
+    } ≡ cond {A = SaidOfArticle} b (said_kept (Some (telling true (Some (fields_told o))))) said_nothing
+    by true = refl
+    by false = refl
+overview_said other (o ∷ p ∷ os) is id = absurd is
+
+-- who tells of an article needn't say that its id stands at a number
+pub overview_at : (other : Id) (os : List OverviewValue) (id : Id)
+    → join_said (said_in (Some (other, Describes os)) id) (said_in (Some (other, Exists)) id) ≡ said_in (Some (other, Describes os)) id
+overview_at other os id = grind (arith, or_none)
+
 -- who sends something of an article needn't say that its id stands at a number
 pub text_at : (what : What) (other : Id) (lines : Option (List Line)) (id : Id)
     → join_said (said_in (Some (other, Sends what lines)) id) (said_in (Some (other, Exists)) id) ≡ said_in (Some (other, Sends what lines)) id
 text_at what other lines id = grind arith
+
+-- where only one overview tells, and it is that of the id, all that is said is what it tells
+pub first_said : (os : List OverviewValue) (o : OverviewValue) (rest : List OverviewValue) (id : Id) → os ≡ o ∷ rest → MatchOption (only os) ⊥ (λ o. o.id ≡ id)
+    → said_alone o.id (telling true (Some (fields_told o))) ≡ said_in (Some (id, Describes os))
+first_said os o [] id is one =
+    (λ i. said_alone (subst (λ os. MatchOption (only os) ⊥ (λ o. o.id ≡ id)) is one i) (telling true (Some (fields_told o)))) ∙ ap (λ os. said_in (Some (id, Describes os))) (sym is)
+first_said os o (v ∷ rest) id is one = absurd (subst (λ os. MatchOption (only os) ⊥ (λ o. o.id ≡ id)) is one)

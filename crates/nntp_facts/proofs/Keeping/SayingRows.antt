@@ -3,10 +3,10 @@ use Rattle.std.proofs.Common.{◌≡◌, ℕ, ◌<◌, ◌^◌, get_or, true, Is
 use Rattle.std.{proofs.lemmas.Bool.{true≢false}, specs.Prelude.{IfSome, option_map, unwrap_or}}
 use Rattle.nntp_article.specs.{Article.Parts.{Id}, Session.{Spool.{Name}, Machine.{Visible, fits, overview_numbers, only}}}
 use Rattle.nntp_article.specs.{declared.session.profile.Profile.{Profile}, Inner.{Misfit.{numbers_of}, Listed.{Lists, lists_of}}}
-use Rattle.nntp_wire.specs.{Answer.{Asked, Response, Success}, declared.{marks.Marks.{Marks}, range.Range.{Range}, water_marks.WaterMarks.{WaterMarks}}}
+use Rattle.nntp_wire.specs.{Answer.{Asked, Response, overviews_are}, declared.{marks.Marks.{Marks}, range.Range.{Range}, water_marks.WaterMarks.{WaterMarks}}}
 use Rattle.nntp_wire.specs.Listing.{OverviewValue, active_groups, listed_numbers, overviews_of}
 use Rattle.nntp_said.specs.{declared.position.Position.{Position}, Asks.{Ask, Estimates, ListsIn, Has, Lacks, StandsAt, StandsNowhere, StepsUp, StepsDown}}
-use Rattle.nntp_said.specs.{Asks.{IsTop, IsBottom}, Facts.{Fact, ThereIs, Asks, IdAt, TextIs, here, facts_of, group_of}}
+use Rattle.nntp_said.specs.{Asks.{IsTop, IsBottom}, Facts.{Fact, ThereIs, Asks, IdAt, FieldsAre, here, facts_of, group_of}}
 use Rattle.nntp_theory.specs.Given.{is_shown_group}
 use Rattle.nntp_numbers.specs.Inner.{Part.{Said, Says, AreListable}, PartOf.{IsSmall, nothing_said, part_with}, Summary.{AreBounded}}
 use Rattle.nntp_numbers.proofs.{SaidInARange.{says_range, says_listed}, SaidOfAsks.{said_small, says_marks, marks_bounded, says_has, says_lacks, says_stands}}
@@ -58,10 +58,9 @@ lists_said profile v at asked response shown lists e = grind (arith, rows.row)
 only_is : (os : List OverviewValue) (o : OverviewValue) → only os ≡ Some o → os ≡ o ∷ []
 only_is os o e = grind arith
 
--- the number that an answer shows which gives an article is that of the article
-number_given : {a : Response} {s : Success} → rows.Gives a s → numbers_shown (numbers_of a) a ≡ s.number ∷ []
-number_given (rows.sends_it s) = refl
-number_given (rows.lists_it lines o e) = ap overview_numbers (only_is (overviews_of lines) o e)
+-- the number that the only overview shows is its own
+number_told : (lines : List (List ℕ)) (o : OverviewValue) → only (overviews_of lines) ≡ Some o → numbers_shown (numbers_of (overviews_are lines)) (overviews_are lines) ≡ o.number ∷ []
+number_told lines o e = ap overview_numbers (only_is (overviews_of lines) o e)
 
 module _ (v : Visible) (facts : List Fact) (is_shown : IsSelectedShown v facts) where
   -- what is said by facts of an answer that shows these numbers, if all numbers are below 2^64, tells them
@@ -121,15 +120,23 @@ module _ (v : Visible) (facts : List Fact) (is_shown : IsSelectedShown v facts) 
       step_row (StepsUp at s.number) s.number s.id (known f).0 (λ small. says_up at s.number small (numbered profile s.number (known f).1)) small
   said_row {profile} {at} fit (rows.down s known) f small =
       step_row (StepsDown at s.number) s.number s.id (known f).0 (λ small. says_down at s.number small (numbered profile s.number (known f).1)) small
-  said_row fit (rows.text a what s gives known) f small = record { tells = record { asks = []; same = refl; may = assumption (known f) }; group = refl; there = tt }
-  said_row {profile} fit (rows.text_at a what s gives known) f small =
-      subst (λ shown. Row shown (TextIs what s.id s.block ∷ IdAt (here v) s.number s.id ∷ [])) (sym (number_given gives))
-      (λ small. let says = says_has s.number small.last (numbered profile s.number (known f).1.1) in
-      record { tells = record { asks = []; same = refl; may = assumption (says, here_shown [] (known f).1.0, (known f).0) }; group = refl; there = inr refl }) small
-  said_row {profile} {at} fit (rows.text_here a what s gives known) f small =
-      subst (λ shown. Row shown (TextIs what s.id s.block ∷ Asks (here v) (StandsAt at s.number) ∷ IdAt (here v) s.number s.id ∷ [])) (sym (number_given gives))
-      (λ small. let asks = StandsAt at s.number ∷ [] in let stands = says_stands at s.number small (numbered profile s.number (known f).1.1) in
-      record { tells = record { asks = asks; same = refl; may = assumption (stands, here_shown asks (known f).1.0, (known f).0) }; group = refl; there = inr refl }) small
+  said_row fit (rows.text what s known) f small = record { tells = record { asks = []; same = refl; may = assumption (known f) }; group = refl; there = tt }
+  said_row {profile} fit (rows.text_at what s known) f small =
+      let says = says_has s.number small.last (numbered profile s.number (known f).1.1) in
+      record { tells = record { asks = []; same = refl; may = assumption (says, here_shown [] (known f).1.0, (known f).0) }; group = refl; there = inr refl }
+  said_row {profile} {at} fit (rows.text_here what s known) f small =
+      let asks = StandsAt at s.number ∷ [] in
+      let stands = says_stands at s.number small (numbered profile s.number (known f).1.1) in
+      record { tells = record { asks = asks; same = refl; may = assumption (stands, here_shown asks (known f).1.0, (known f).0) }; group = refl; there = inr refl }
+  said_row fit (rows.overview lines o e) f small = record { tells = record { asks = []; same = refl; may = assumption }; group = refl; there = tt }
+  said_row {profile} fit (rows.overview_at lines o e known) f small =
+      subst (λ shown. Row shown (FieldsAre (o ∷ []) ∷ IdAt (here v) o.number o.id ∷ [])) (sym (number_told lines o e))
+      (λ small. let says = says_has o.number small.last (numbered profile o.number (known f).1) in
+      record { tells = record { asks = []; same = refl; may = assumption (says, here_shown [] (known f).0) }; group = refl; there = inr refl }) small
+  said_row {profile} {at} fit (rows.overview_here lines o e known) f small =
+      subst (λ shown. Row shown (FieldsAre (o ∷ []) ∷ Asks (here v) (StandsAt at o.number) ∷ IdAt (here v) o.number o.id ∷ [])) (sym (number_told lines o e))
+      (λ small. let asks = StandsAt at o.number ∷ [] in let stands = says_stands at o.number small (numbered profile o.number (known f).1) in
+      record { tells = record { asks = asks; same = refl; may = assumption (stands, here_shown asks (known f).0) }; group = refl; there = inr refl }) small
   said_row {profile} fit (rows.active p lines known) f small =
       record { tells = record { asks = []; same = refl; may = assumption (may_list profile p (active_groups lines) (known f).0 (known f).1) }; group = refl; there = tt }
   said_row fit r f small = record { tells = record { asks = []; same = refl; may = assumption }; group = refl; there = tt }

@@ -99,7 +99,7 @@ module _ (profile : Profile) (facts : List Fact) (k : Kept) (t : Statement) (mor
       (λ s. denied_told id ∙ said_apart t.saying.overviews t.saying.article id (sym (shown_told id) ∙ s)) (λ s. shown id (sym (shown_told id) ∙ s)) (λ d. denied id (sym (denied_told id) ∙ d)) c.0))
 
   -- where no overviews are said
-  said_plain : (id : Id) → t.saying.overviews ≡ None → said_by t.saying id ≡ said_in t.saying.article id
+  pub said_plain : (id : Id) → t.saying.overviews ≡ None → said_by t.saying id ≡ said_in t.saying.article id
   said_plain id plain = ap (λ (o : Overviews). option_map_or (λ o. said_listed o.1 id) o (said_in t.saying.article id)) plain
 
   pub no_article : t.saying.overviews ≡ None → t.saying.article ≡ None → IsFree 7
@@ -129,11 +129,11 @@ module _ (profile : Profile) (facts : List Fact) (k : Kept) (t : Statement) (mor
     plain : t.saying.overviews ≡ None
     plain = plain_by_article h.tells.before t.saying h.tells.tells.asks h.tells.tells.may (λ none some. let n : None ≡ Some (id, a) = sym none ∙ some in cc) e
 
-    own : said_by t.saying id ≡ said_kept (Some (kept_by a))
+    pub own : said_by t.saying id ≡ said_kept (Some (kept_by a))
     own = said_plain id plain ∙ ap (λ o. said_in o id) e ∙ ap (λ b. cond b (said_kept (Some (kept_by a))) said_nothing) (same_itself id)
 
     -- of others nothing is
-    others : (q : Id) → (id ≡ q) ⊎ (said_by t.saying q ≡ said_nothing)
+    pub others : (q : Id) → (id ≡ q) ⊎ (said_by t.saying q ≡ said_nothing)
     others q = grind (arith, cases_Bool, same_text, said_plain q plain)
 
     own_free : (IsTrue (not (kept_by a).is_denied) → IsFalse (list_any (denies_article id) facts)) → (IsTrue (kept_by a).is_denied → IsFalse (list_any (shows_article id) facts)) → IsFree 7

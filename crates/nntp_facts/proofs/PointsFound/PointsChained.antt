@@ -13,7 +13,7 @@ use Rattle.nntp_facts.specs.declared.points.Kind.TheVariants as kind
 use Rattle.nntp_facts.specs.declared.points.NumbersKind.TheVariants as numbers
 
 -- where they conflict at no point of all kinds, they do nowhere
-pub nowhere : (facts : List Fact) (i : ℕ) → 10 ≤ i → NoneBefore facts i → (point : Point) → ConflictAt facts point → ⊥
+pub nowhere : (facts : List Fact) (i : ℕ) → 11 ≤ i → NoneBefore facts i → (point : Point) → ConflictAt facts point → ⊥
 nowhere facts i end none point c = grind arith
 
 -- where facts that answers tell conflict nowhere they stand together
@@ -49,10 +49,12 @@ none_there all facts k i o same e is before found = none_given facts k i o e is 
 
 -- all kinds, in their order
 abbrev pub kinds : List Kind
-kinds = kind.Step ∷ kind.Group ∷ kind.Numbers numbers.Number ∷ kind.Numbers numbers.Count ∷ kind.Numbers numbers.First ∷ kind.IdOf ∷ kind.PlaceOf ∷ kind.Article ∷ kind.HeadOf ∷ kind.BodyOf ∷ []
+kinds =
+    kind.Step ∷ kind.Group ∷ kind.Numbers numbers.Number ∷ kind.Numbers numbers.Count ∷ kind.Numbers numbers.First
+    ∷ kind.IdOf ∷ kind.PlaceOf ∷ kind.Article ∷ kind.HeadOf ∷ kind.BodyOf ∷ kind.FieldOf ∷ []
 
 -- each stands at its rank
-pub kind_ranked : (i : ℕ) (d : Kind) → i < 10 → rank_of (get_or kinds i d) ≡ i
+pub kind_ranked : (i : ℕ) (d : Kind) → i < 11 → rank_of (get_or kinds i d) ≡ i
 kind_ranked i d l = grind arith
 
 module _ (profile : Profile) (all : List Fact) (held : Answers) (h : AreHeld profile all held) (t : Statement) (tells : TellsAlone profile t (told profile h.last)) where

@@ -1,22 +1,36 @@
 -- What the code's values keep of articles.
-use Rattle.std.specs.{Prelude.{Bool, true, false, List, Option, None, Some, option_map, map, refl}, Coded.{Coded, code_by, coded×, coded_ℕ, coded_list}}
+use Rattle.std.specs.{Prelude.{Bool, true, false, List, Option, None, Some, option_map, map, refl}, Option.{option_or}, Coded.{Coded, code_by, coded×, coded_ℕ, coded_list}}
 use Rattle.std.specs.{Coded.{coded_option, coded_bool}, declared.rc.{Rc.{Rc}, RcStr.{RcStr}}, Rc.{rc_str_bytes}}
-use Rattle.nntp_article.specs.Article.Parts.{Id, Line}
-use Rattle.nntp_facts.specs.{Inner.{Kept.{KeptArticle}, Articles.{unsent}}, declared.articles.known.KnownArticle.{KnownArticle, TheVariants.{Unsent, Named}}}
-use Rattle.nntp_facts.specs.declared.articles.{known.KnownArticle.TheVariants.{Head, Body, Whole}, added.Added.{Added, TheVariants.{Never}}}
+use Rattle.nntp_article.specs.Article.{Parts.{Id, Line}, Fields.{Fields, fields_of_head}}
+use Rattle.nntp_facts.specs.{Inner.{Kept.{KeptArticle}, Articles.{unsent, telling}}, declared.articles.known.KnownArticle.{KnownArticle, TheVariants.{Unsent, Listed}}}
+use Rattle.nntp_facts.specs.declared.articles.{known.KnownArticle.TheVariants.{Named, Told, Head, Body, ToldBody, Whole}, added.Added.{Added, TheVariants.{Never}}}
 use Rattle.nntp_facts.specs.declared.articles.added.Added.TheVariants as adds
 
 -- the lines of a block that is held, if there is one
 abbrev pub lines_held : {A : Type 0} → Option (Rc (List Line) A) → Option (List Line)
 lines_held held = option_map (λ block. block.value) held
 
+-- what is kept of an article that a success named: these lines of its head were sent, or else these tell what overviews told, and these of its body were sent
+abbrev pub of_parts : Option (List Line) → Option (List Line) → Option (List Line) → KeptArticle
+of_parts head told body = record { is_denied = false; is_sent = true; head = head; fields = option_map fields_of_head (option_or head told); body = body }
+
 -- what is kept of an article
 abbrev pub known_article : {A : Type 0} → KnownArticle A → KeptArticle
 known_article Unsent = unsent
-known_article Named = record { is_denied = false; is_sent = true; head = None; body = None }
-known_article (Head head) = record { is_denied = false; is_sent = true; head = Some head.value; body = None }
-known_article (Body body) = record { is_denied = false; is_sent = true; head = None; body = Some body.value }
-known_article (Whole lines) = record { is_denied = false; is_sent = true; head = Some lines.value.head.value; body = Some lines.value.body.value }
+known_article (Listed told) = telling false (Some (fields_of_head told.value))
+known_article Named = telling true None
+known_article (Told told) = telling true (Some (fields_of_head told.value))
+known_article (Head head) = of_parts (Some head.value) None None
+known_article (Body body) = of_parts None None (Some body.value)
+known_article (ToldBody lines) = of_parts None (Some lines.value.head.value) (Some lines.value.body.value)
+known_article (Whole lines) = of_parts (Some lines.value.head.value) None (Some lines.value.body.value)
+
+-- the lines that stand for what overviews told, where no head was sent
+abbrev pub lines_told : {A : Type 0} → KnownArticle A → Option (List Line)
+lines_told (Listed told) = Some told.value
+lines_told (Told told) = Some told.value
+lines_told (ToldBody lines) = Some lines.value.head.value
+lines_told article = None
 
 -- what is kept of articles, one after the other
 abbrev pub entries_value : {A : Type 0} → List (RcStr A × KnownArticle A) → List (Id × KeptArticle)
@@ -32,8 +46,18 @@ abbrev pub text_of : {A : Type 0} → Added A → Option Id
 text_of (adds.Named text) = Some (rc_str_bytes text)
 text_of added = None
 
+-- lines, if there are such
+abbrev pub coded_lines : Coded (Option (List Line))
+coded_lines = coded_option (coded_list (coded_list coded_ℕ))
+
+abbrev pub coded_fields : Coded Fields
+coded_fields =
+    code_by _ (coded× (coded× (coded_list (coded_list coded_ℕ)) (coded_list (coded_list coded_ℕ))) (coded× (coded_list (coded_list coded_ℕ)) (coded_list (coded_list coded_ℕ))))
+    (λ f. ((f.subject, f.from), (f.date, f.references)))
+    (λ p. record { subject = p.0.0; from = p.0.1; date = p.1.0; references = p.1.1 }) (λ _. refl)
+
 abbrev pub coded_kept : Coded KeptArticle
 coded_kept =
-    code_by _ (coded× (coded× coded_bool coded_bool) (coded× (coded_option (coded_list (coded_list coded_ℕ))) (coded_option (coded_list (coded_list coded_ℕ)))))
-    (λ a. ((a.is_denied, a.is_sent), (a.head, a.body)))
-    (λ p. record { is_denied = p.0.0; is_sent = p.0.1; head = p.1.0; body = p.1.1 }) (λ _. refl)
+    code_by _ (coded× (coded× coded_bool coded_bool) (coded× coded_lines (coded× (coded_option coded_fields) coded_lines)))
+    (λ a. ((a.is_denied, a.is_sent), (a.head, (a.fields, a.body))))
+    (λ p. record { is_denied = p.0.0; is_sent = p.0.1; head = p.1.0; fields = p.1.1.0; body = p.1.1.1 }) (λ _. refl)

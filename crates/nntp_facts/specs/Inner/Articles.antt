@@ -1,8 +1,8 @@
 -- How one more fact fits in with what is kept of articles.
-use Rattle.std.specs.{Prelude.{◌≡◌, Bool, true, false, not, if◌then◌else◌, List, [], ◌∷◌, Option, None, Some, is_some}, List.{filter}, Option.{option_or}}
-use Rattle.std.specs.{Option.{option_map_or}, Ordering.{nat_cmp}, Cmp.Lexicographic.{slice_cmp}, FinMap.{FinMap, get, insert}}
+use Rattle.std.specs.{Prelude.{◌≡◌, ◌||◌, Bool, true, false, not, if◌then◌else◌, List, [], ◌∷◌, Option, None, Some, is_some, option_map}, List.{filter}}
+use Rattle.std.specs.{Option.{option_or, option_map_or}, Ordering.{nat_cmp}, Cmp.Lexicographic.{slice_cmp}, FinMap.{FinMap, get, insert}}
 use Rattle.nntp_wire.specs.declared.command.What.{What, TheVariants.{Article, Head, Body}}
-use Rattle.nntp_article.specs.Article.Parts.{head_part, body_part, Id, Line}
+use Rattle.nntp_article.specs.Article.{Parts.{head_part, body_part, Id, Line}, Fields.{Fields, fields_of_head}}
 use Rattle.nntp_theory.specs.Inner.Together.{AreSame}
 use Rattle.nntp_facts.specs.Inner.Kept.{KeptArticle}
 
@@ -22,21 +22,39 @@ body_sent what lines = None
 
 -- a head and a body may be sent of an article of which a is kept
 abbrev pub MayBeSent : KeptArticle → Option (List Line) → Option (List Line) → Type 0
-MayBeSent a head body = (a.is_denied ≡ false) × AreSame head a.head × AreSame body a.body
+MayBeSent a head body = (a.is_denied ≡ false) × AreSame head a.head × AreSame (option_map fields_of_head head) a.fields × AreSame body a.body
+
+-- fields may be told of it by an overview
+abbrev pub MayBeTold : KeptArticle → Fields → Type 0
+MayBeTold a fields = (a.is_denied ≡ false) × AreSame (Some fields) a.fields
 
 -- ---- what is kept then
 
 -- what is kept of an id that has no article
 abbrev pub denied : KeptArticle
-denied = record { is_denied = true; is_sent = false; head = None; body = None }
+denied = record { is_denied = true; is_sent = false; head = None; fields = None; body = None }
 
--- what is kept of an id that has an article, of which nothing was sent
+-- what is kept of an id that has an article, of which nothing was sent and nothing told
 abbrev pub unsent : KeptArticle
-unsent = record { is_denied = false; is_sent = false; head = None; body = None }
+unsent = record { is_denied = false; is_sent = false; head = None; fields = None; body = None }
+
+-- what is kept of an id of which an overview alone tells this: one that was asked for by itself, or of a range
+abbrev pub telling : Bool → Option Fields → KeptArticle
+telling is_sent fields = record { is_denied = false; is_sent = is_sent; head = None; fields = fields; body = None }
 
 -- what is kept of an article after a success: of each part what was sent first
 abbrev pub with_sent : KeptArticle → Option (List Line) → Option (List Line) → KeptArticle
-with_sent a head body = record { is_denied = a.is_denied; is_sent = true; head = option_or a.head head; body = option_or a.body body }
+with_sent a head body = record {
+  is_denied = a.is_denied;
+  is_sent = true;
+  head = option_or a.head head;
+  fields = option_or a.fields (option_map fields_of_head head);
+  body = option_or a.body body;
+}
+
+-- what is kept of an article after an overview tells this
+abbrev pub with_told : KeptArticle → Bool → Fields → KeptArticle
+with_told a is_sent fields = record a { is_sent = a.is_sent || is_sent; fields = option_or a.fields (Some fields) }
 
 -- an id of which o is kept has an article
 abbrev pub is_there : Option KeptArticle → Bool

@@ -3,7 +3,7 @@ use Rattle.std.specs.Prelude.{◌≡◌, ℕ, Bool, true, false, not, ◌||◌, 
 use Rattle.std.specs.{Prelude.{is_some}, Option.{option_or}, List.{list_any, count_by, AllByRecursion}, Ordering.{nat_cmp}, Cmp.Lexicographic.{slice_cmp}}
 use Rattle.std.specs.FinMap.{FinMap, get, insert, entries}
 use Rattle.nntp_wire.specs.{Inner.Decided.{is_asked}, Decided.{matches_name}, Wildmat.{is_wildmat}}
-use Rattle.nntp_article.specs.{Article.Parts.{Id, Line}, Session.{Spool.{Name}, Machine.{is_same}}}
+use Rattle.nntp_article.specs.{Article.{Parts.{Id, Line}, Fields.{Fields}}, Session.{Spool.{Name}, Machine.{is_same}}}
 use Rattle.nntp_said.specs.{Asks.{Ask}, Facts.{Fact}}
 use Rattle.nntp_theory.specs.{Given.{is_shown, asks_of, is_shown_group, first_given, id_in}, Together.{number_in, denies_group}, Inner.Together.{SaidOfArticle}}
 use Rattle.nntp_theory.specs.Inner.Together.{said_of, said_nothing, Join}
@@ -151,17 +151,26 @@ pub record AreKeptNames (facts : List Fact) (k : KeptNames) : Type 0 where
 
 -- ---- ids
 
--- what is kept of an id: whether it is denied, whether a success names it, and what was sent of its article
+-- what is kept of an id: whether it is denied, whether a success names it, what was sent of its article, and what was told of four headers
 pub record KeptArticle : Type 0 where
   pub is_denied : Bool
   pub is_sent : Bool
   pub head : Option (List Line)
+  pub fields : Option Fields
   pub body : Option (List Line)
 
 -- what facts say of an id of which this is kept, or nothing
 abbrev pub said_kept : Option KeptArticle → SaidOfArticle
 said_kept None = said_nothing
-said_kept (Some a) = record { is_mentioned = true; is_shown = not a.is_denied; is_denied = a.is_denied; is_sent = a.is_sent; head = a.head; body = a.body }
+said_kept (Some a) = record {
+  is_mentioned = true;
+  is_shown = not a.is_denied;
+  is_denied = a.is_denied;
+  is_sent = a.is_sent;
+  head = a.head;
+  fields = a.fields;
+  body = a.body;
+}
 
 -- what is said of each id is kept
 abbrev pub AreKeptArticles : List Fact → FinMap (slice_cmp nat_cmp) KeptArticle → Type 0

@@ -1,16 +1,16 @@
 -- What each part of an answer has to join, and what is kept then.
 use Rattle.std.specs.Prelude.{◌≡◌, ◌&&◌, ◌==◌, not, ℕ, Bool, true, false, if◌then◌else◌, List, [], ◌∷◌, ◌++◌, Option, None, Some, MatchOption, IfSome, IsTrue}
-use Rattle.std.specs.{Prelude.{IsFalse, ⊤}, List.{list_any}, Option.{option_or, option_map_or}, Ordering.{nat_cmp}, Cmp.Lexicographic.{slice_cmp}}
+use Rattle.std.specs.{Prelude.{IsFalse, ⊤, option_map}, List.{list_any}, Option.{option_or, option_map_or}, Ordering.{nat_cmp}, Cmp.Lexicographic.{slice_cmp}}
 use Rattle.std.specs.FinMap.{FinMap, get}
 use Rattle.nntp_wire.specs.{Listing.{OverviewValue}, declared.range.Range.{Range}}
-use Rattle.nntp_article.specs.{Article.Parts.{Id}, Session.{Spool.{Name}, Machine.{is_same, head_fits, overview_numbers}}}
+use Rattle.nntp_article.specs.{Article.{Parts.{Id}, Fields.{fields_told}}, Session.{Spool.{Name}, Machine.{is_same, head_fits, overview_numbers, only}}}
 use Rattle.nntp_said.specs.{Asks.{Ask, ListsIn}, Facts.{Fact}}
-use Rattle.nntp_theory.specs.{Given.{asks_of, is_shown_group}, Inner.Together.{AsksStand, SaidOfArticle, said_of, said_nothing, join_said, JoinArticle}}
-use Rattle.nntp_theory.specs.Together.{denies_group, shows_article, denies_article}
+use Rattle.nntp_theory.specs.{Given.{asks_of, is_shown_group, first_given, has_overview_of, fields_of_overview, fields_in}, Inner.Together.{AsksStand, SaidOfArticle, said_of}}
+use Rattle.nntp_theory.specs.{Inner.Together.{said_nothing, join_said, AreSame, JoinArticle}, Together.{denies_group, shows_article, denies_article}}
 use Rattle.nntp_numbers.specs.Inner.{Part.{Says, only_has}, Summary.{AddsNothing}}
-use Rattle.nntp_facts.specs.Inner.{Saying.{OfGroup, OfArticle, Lacks, Exists, Sends, Saying, asked_id}, Kept.{KeptGroup, Told, told, Agree, MayShow}}
+use Rattle.nntp_facts.specs.Inner.{Saying.{OfGroup, OfArticle, Lacks, Exists, Sends, Describes, Saying, asked_id}, Kept.{KeptGroup, Told, told, Agree, MayShow}}
 use Rattle.nntp_facts.specs.Inner.{Kept.{KeptArticle, said_kept, IsAddedIf}, ListedOverviews.{HaveOwn, id_listed, place_listed}, Articles.{head_sent}}
-use Rattle.nntp_facts.specs.Inner.Articles.{body_sent, denied, unsent, with_sent}
+use Rattle.nntp_facts.specs.Inner.Articles.{body_sent, denied, unsent, telling, with_sent}
 
 -- ---- of a group
 
@@ -49,12 +49,17 @@ abbrev pub may_give : Told → FinMap (slice_cmp nat_cmp) KeptArticle → Overvi
 may_give t articles o = option_map_or (λ other. is_same other o.id) (t.ids o.number) true && option_map_or (λ other. other == o.number) (t.places o.id) true && not
     (option_map_or (λ a. a.is_denied) (get articles o.id) false)
 
--- the number of an overview may have its id beside what is told of the group, which is shown, and the id isn't denied
+-- it passes, and nothing else is kept of what is told of the article
+abbrev pub MayBeGiven : Told → FinMap (slice_cmp nat_cmp) KeptArticle → OverviewValue → Type 0
+MayBeGiven t articles o = IsTrue (may_give t articles o) × AreSame (Some (fields_told o)) (said_kept (get articles o.id)).fields
+
+-- the number of an overview may have its id beside what is told of the group, which is shown, the id isn't denied, and nothing else was told of its article
 pub record MayGive (facts : List Fact) (t : Told) (o : OverviewValue) : Type 0 where
   pub shown : t.is_shown ≡ true
   pub agree : Agree t.ids t.places (Some (o.number, o.id))
   pub may : MayShow t (Some (o.number, o.id))
   pub free : IsFalse (list_any (denies_article o.id) facts)
+  pub fields : AreSame (Some (fields_told o)) (first_given (fields_in o.id) facts)
 
 -- ---- of an id
 
@@ -67,9 +72,10 @@ abbrev pub IsThereAlready : List Fact → Option (Id × OfArticle) → Type 0
 IsThereAlready facts (Some (id, Exists)) = IsTrue (list_any (shows_article id) facts)
 IsThereAlready facts article = ⊤
 
--- the lines are a head, where a head is sent
+-- the lines are a head, where a head is sent; and the overview is the only one, and that of the id, where one is
 abbrev pub MayBeSaid : Id × OfArticle → Type 0
 MayBeSaid (id, Sends what lines) = IsTrue (head_fits what id lines)
+MayBeSaid (id, Describes overviews) = MatchOption (only overviews) ⊥ (λ o. o.id ≡ id)
 MayBeSaid a = ⊤
 
 -- what is kept of an id of which this alone is said
@@ -77,24 +83,47 @@ abbrev pub kept_by : OfArticle → KeptArticle
 kept_by Lacks = denied
 kept_by Exists = unsent
 kept_by (Sends what lines) = with_sent unsent (head_sent what lines) (body_sent what lines)
+kept_by (Describes overviews) = telling true (option_map fields_told (only overviews))
+
+-- what is said of each id, where of one alone this is
+abbrev pub said_alone : Id → KeptArticle → Id → SaidOfArticle
+said_alone other a id = if is_same other id then said_kept (Some a) else said_nothing
 
 -- what is said of each id, where this is said of one
 abbrev pub said_in : Option (Id × OfArticle) → Id → SaidOfArticle
 said_in None id = said_nothing
-said_in (Some a) id = if is_same a.0 id then said_kept (Some (kept_by a.1)) else said_nothing
+said_in (Some a) id = said_alone a.0 (kept_by a.1) id
 
--- what overviews say of each id: those have an article that they have
+-- what overviews of a range say of each id: those have an article that they have, which tells the same
 abbrev pub said_listed : List OverviewValue → Id → SaidOfArticle
-said_listed overviews id = if list_any (λ o. is_same o.id id) overviews then said_kept (Some unsent) else said_nothing
+said_listed overviews id = record {
+  is_mentioned = has_overview_of id overviews;
+  is_shown = has_overview_of id overviews;
+  is_denied = false;
+  is_sent = false;
+  head = None;
+  fields = first_given (fields_of_overview id) overviews;
+  body = None;
+}
 
--- what is said of an id joins what was said
-abbrev pub ArticleJoins : List Fact → Option (Id × OfArticle) → Type 0
-ArticleJoins facts article = (id : Id) → JoinArticle (said_of facts id) (said_in article id)
+-- what is said of ids joins what was said
+abbrev pub SaidJoins : List Fact → (Id → SaidOfArticle) → Type 0
+SaidJoins facts said = (id : Id) → JoinArticle (said_of facts id) (said id)
 
 -- once it is said too, this is kept
-abbrev pub AreKeptThen : List Fact → Option (Id × OfArticle) → FinMap (slice_cmp nat_cmp) KeptArticle → Type 0
-AreKeptThen facts article articles = (id : Id) → join_said (said_of facts id) (said_in article id) ≡ said_kept (get articles id)
+abbrev pub IsSaidKept : List Fact → (Id → SaidOfArticle) → FinMap (slice_cmp nat_cmp) KeptArticle → Type 0
+IsSaidKept facts said articles = (id : Id) → join_said (said_of facts id) (said id) ≡ said_kept (get articles id)
 
 -- it is added, if it joins
+abbrev pub IsSaidAdded : List Fact → (Id → SaidOfArticle) → FinMap (slice_cmp nat_cmp) KeptArticle → FinMap (slice_cmp nat_cmp) KeptArticle → Bool → Type 0
+IsSaidAdded facts said old new does = IsAddedIf (SaidJoins facts said) (IsSaidKept facts said) old new does
+
+-- the same of what is said of one id
+abbrev pub ArticleJoins : List Fact → Option (Id × OfArticle) → Type 0
+ArticleJoins facts article = SaidJoins facts (said_in article)
+
+abbrev pub AreKeptThen : List Fact → Option (Id × OfArticle) → FinMap (slice_cmp nat_cmp) KeptArticle → Type 0
+AreKeptThen facts article articles = IsSaidKept facts (said_in article) articles
+
 abbrev pub IsArticleAdded : List Fact → Option (Id × OfArticle) → FinMap (slice_cmp nat_cmp) KeptArticle → FinMap (slice_cmp nat_cmp) KeptArticle → Bool → Type 0
-IsArticleAdded facts article old new does = IsAddedIf (ArticleJoins facts article) (AreKeptThen facts article) old new does
+IsArticleAdded facts article old new does = IsSaidAdded facts (said_in article) old new does

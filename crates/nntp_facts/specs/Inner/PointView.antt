@@ -1,5 +1,5 @@
 -- What a point means that code gives.
-use Rattle.nntp_facts.specs.declared.point.Point.{Point, TheVariants.{Step, Group, Number, Count, First, IdOf, PlaceOf, Article, HeadOf, BodyOf}}
+use Rattle.nntp_facts.specs.declared.point.Point.{Point, TheVariants.{Step, Group, Number, Count, First, IdOf, PlaceOf, Article, HeadOf, BodyOf, FieldOf}}
 use Rattle.nntp_theory.specs.Conflict as points
 
 -- the point, without where its octets lie in memory
@@ -14,3 +14,4 @@ point_of (PlaceOf name id) = points.PlaceOf name.now id.now
 point_of (Article id) = points.Article id.now
 point_of (HeadOf id) = points.HeadOf id.now
 point_of (BodyOf id) = points.BodyOf id.now
+point_of (FieldOf id field) = points.FieldOf id.now field

@@ -1,13 +1,14 @@
 -- What a bad answer and accepted ones say, each by itself, as points of conflict are looked for.
 use Rattle.std.specs.Prelude.{◌≡◌, true, false, ◌<◌, ◌||◌, ◌&&◌, ◌==◌, not, ℕ, Bool, List, [], ◌∷◌, ◌++◌, Option, None, Some, option_map, if◌then◌else◌}
-use Rattle.std.specs.{Prelude.{MatchOption}, List.{AllByRecursion, flat_map}, Option.{option_map_or}}
-use Rattle.nntp_article.specs.{Article.Parts.{Id}, Session.{Spool.{Name}, Machine.{is_same}}, declared.session.profile.Profile.{Profile}}
+use Rattle.std.specs.{Prelude.{◌≢◌, ◌⊎◌, MatchOption}, List.{AllByRecursion, flat_map}, Option.{option_map_or}, FinMap.{get}}
+use Rattle.nntp_article.specs.{Article.{Parts.{Id}, Fields.{Fields, fields_told, words_in}}, Session.{Spool.{Name}, Machine.{is_same}}}
+use Rattle.nntp_article.specs.declared.{article.field.Field.{Field}, session.profile.Profile.{Profile}}
 use Rattle.nntp_article.specs.Inner.Misfit.{numbers_of}
-use Rattle.nntp_wire.specs.{Decided.{matches_name}, Listing.{ActiveValue}}
+use Rattle.nntp_wire.specs.{Decided.{matches_name}, Listing.{ActiveValue, OverviewValue}}
 use Rattle.nntp_said.specs.{Asks.{Ask, Bounds}, Facts.{Fact, group_of}}
-use Rattle.nntp_theory.specs.{Inner.{Together.{IsWellFormed, AgreeWithin, Together, SaidOfArticle}, Conflict.{FitsThere}}, Conflict.{Placed, told, with_group}}
-use Rattle.nntp_theory.specs.Conflict.{Point, Number, Count, First, IdOf, PlaceOf, rank, ConflictAt}
-use Rattle.nntp_facts.specs.Inner.{Kept.{id_of, place_of, Kept, IsKept}, ListedGroups.{is_listed}, ListedOverviews.{id_listed, place_listed}, Noted.{FactsKept}}
+use Rattle.nntp_theory.specs.{Inner.{Together.{IsWellFormed, AgreeWithin, Together, SaidOfArticle, AreSame}, Conflict.{FitsThere}}, Conflict.{Placed, told, with_group}}
+use Rattle.nntp_theory.specs.Conflict.{Point, Number, Count, First, IdOf, PlaceOf, FieldOf, rank, ConflictAt}
+use Rattle.nntp_facts.specs.Inner.{Kept.{id_of, place_of, Kept, IsKept, said_kept}, ListedGroups.{is_listed}, ListedOverviews.{id_listed, place_listed}, Noted.{FactsKept}}
 use Rattle.nntp_facts.specs.Inner.{Noted.{profile_kept}, KeptSaying.{said_in, said_listed}, Saying.{Saying, Tells}}
 
 -- ---- what the last answer of a conflict says
@@ -95,6 +96,29 @@ IsAbout name point = ⊥
 -- at no point of the rank that is about the numbers of the group the facts conflict, or they conflict at this one
 abbrev pub IsPointIn : List Fact → Name → ℕ → Option Point → Type 0
 IsPointIn facts name k point = MatchOption point ((other : Point) → rank other ≡ k → IsAbout name other → ¬ (ConflictAt facts other)) (λ point. ConflictAt facts point × (rank point ≡ k))
+
+-- ---- what is told of headers
+
+-- the point is the id, and a header of which other words are told than are kept
+abbrev pub IsOtherField : Kept → Id → Option Fields → Point → Type 0
+IsOtherField k id told point =
+    (field : Field) × (point ≡ FieldOf id field)
+    × MatchOption told ⊥ (λ fields. MatchOption (said_kept (get k.articles id)).fields ⊥ (λ before. words_in fields field ≢ words_in before field))
+
+-- where fields are told of the id, nothing else is kept of it; or the point is the id, and a header of which other words are told than are kept
+abbrev pub IsFieldOf : Kept → Id → Option Fields → Option Point → Type 0
+IsFieldOf k id told point = MatchOption point (AreSame told (said_kept (get k.articles id)).fields) (IsOtherField k id told)
+
+-- the point is that of one of the overviews
+abbrev pub OneTellsOther : Kept → Point → List OverviewValue → Type 0
+OneTellsOther k point [] = ⊥
+OneTellsOther k point (o ∷ overviews) = IsOtherField k o.id (Some (fields_told o)) point ⊎ OneTellsOther k point overviews
+
+-- of none of the overviews anything else is kept; or the point is that of one of them
+abbrev pub IsFieldAmong : Kept → List OverviewValue → Option Point → Type 0
+IsFieldAmong k overviews point =
+    MatchOption point (AllByRecursion (λ o. AreSame (Some (fields_told o)) (said_kept (get k.articles o.id)).fields) overviews)
+    (λ point. OneTellsOther k point overviews)
 
 -- ---- the last answer beside the others
 

@@ -1,9 +1,9 @@
 -- What the readers of the facts show: the groups with their numbers, and the articles.
 use Rattle.std.specs.{Prelude.{◌≡◌, ℕ, Bool, ◌==◌, List, map, Option}, List.{list_any, AllByRecursion, Sorted.{IsStrictlySortedBy}}, Ordering.{nat_cmp}}
 use Rattle.std.specs.{Cmp.Lexicographic.{slice_cmp}, FinMap.{FinMap, get, entries}}
-use Rattle.nntp_article.specs.{Article.Parts.{Id, Line}, Session.{Spool.{Name}, Machine.{is_same}}}
+use Rattle.nntp_article.specs.{Article.{Parts.{Id, Line}, Fields.{Fields}}, Session.{Spool.{Name}, Machine.{is_same}}}
 use Rattle.nntp_said.specs.Facts.{Fact}
-use Rattle.nntp_theory.specs.{Given.{asks_of, is_shown, is_shown_group, id_shown, is_sent, first_given, head_in, body_in}, Together.{shows_article}}
+use Rattle.nntp_theory.specs.{Given.{asks_of, is_shown, is_shown_group, id_shown, is_sent, first_given, head_in, fields_in, body_in}, Together.{shows_article}}
 use Rattle.nntp_theory.specs.Inner.Unseen.{AreUnseen}
 use Rattle.nntp_numbers.specs.Inner.Unseen.{unseen_in, unseen_high_in}
 use Rattle.nntp_facts.specs.Inner.{Kept.{KeptGroup, KeptArticle}, Articles.{articles_in}}
@@ -17,11 +17,12 @@ pub record ShownGroup : Type 0 where
   pub unseen : Option ℕ
   pub unseen_high : Option ℕ
 
--- what is shown of an article: whether a success names it, and its head and its body, where they were sent
+-- what is shown of an article: whether a success names it, its head and its body, where they were sent, and what is told of four headers, by a head or an overview
 pub record ShownArticle : Type 0 where
   pub id : Id
   pub is_sent : Bool
   pub head : Option (List Line)
+  pub fields : Option Fields
   pub body : Option (List Line)
 
 -- ---- that it is what the facts say
@@ -43,10 +44,11 @@ pub record AreShownGroups (facts : List Fact) (groups : List ShownGroup) : Type 
   pub all : (name : Name) → list_any (λ g. is_same g.name name) groups ≡ is_shown_group facts name
   pub each : AllByRecursion (HasShownNumbers facts) groups
 
--- what is sent of an article is what the facts say of its id
+-- what is sent and told of an article is what the facts say of its id
 pub record IsShownArticle (facts : List Fact) (a : ShownArticle) : Type 0 where
   pub sent : a.is_sent ≡ is_sent facts a.id
   pub head : a.head ≡ first_given (head_in a.id) facts
+  pub fields : a.fields ≡ first_given (fields_in a.id) facts
   pub body : a.body ≡ first_given (body_in a.id) facts
 
 -- the articles are those of the ids that are shown to have one, in byte order of the ids
@@ -75,7 +77,7 @@ shown_groups groups = shown_in (entries groups)
 
 -- what is shown of an article that is kept
 abbrev pub shown_article : Id → KeptArticle → ShownArticle
-shown_article id a = record { id = id; is_sent = a.is_sent; head = a.head; body = a.body }
+shown_article id a = record { id = id; is_sent = a.is_sent; head = a.head; fields = a.fields; body = a.body }
 
 -- what is shown of the articles that are kept, one after the other
 abbrev pub articles_shown_in : List (Id × KeptArticle) → List ShownArticle

@@ -2,7 +2,7 @@
 use Rattle.std.specs.{Prelude.{ℕ, List, Vec, Option, option_map, map, refl}, Rc.{rc_str_bytes}, Coded.{Coded, code_by, coded×, coded_ℕ, coded_list}}
 use Rattle.std.specs.Coded.{coded_option, coded_bool}
 use Rattle.nntp_article.specs.{Article.Parts.{Id}, Session.Spool.{Name}}
-use Rattle.nntp_facts.specs.{Inner.{Kept.{KeptGroup}, Readers.{ShownGroup, ShownArticle}}, declared.shown_numbers.ShownNumber.{ShownNumber}}
+use Rattle.nntp_facts.specs.{Inner.{Kept.{KeptGroup}, Readers.{ShownGroup, ShownArticle}, ArticleView.{coded_lines, coded_fields}}, declared.shown_numbers.ShownNumber.{ShownNumber}}
 
 -- the number, and its id
 abbrev pub number_value : {A : Type 0} → ShownNumber A → ℕ × Option Id
@@ -20,6 +20,6 @@ coded_shown_group =
 
 abbrev pub coded_shown_article : Coded ShownArticle
 coded_shown_article =
-    code_by _ (coded× (coded× (coded_list coded_ℕ) coded_bool) (coded× (coded_option (coded_list (coded_list coded_ℕ))) (coded_option (coded_list (coded_list coded_ℕ)))))
-    (λ a. ((a.id, a.is_sent), (a.head, a.body)))
-    (λ p. record { id = p.0.0; is_sent = p.0.1; head = p.1.0; body = p.1.1 }) (λ _. refl)
+    code_by _ (coded× (coded× (coded_list coded_ℕ) coded_bool) (coded× coded_lines (coded× (coded_option coded_fields) coded_lines)))
+    (λ a. ((a.id, a.is_sent), (a.head, (a.fields, a.body))))
+    (λ p. record { id = p.0.0; is_sent = p.0.1; head = p.1.0; fields = p.1.1.0; body = p.1.1.1 }) (λ _. refl)

@@ -1,9 +1,9 @@
 -- What an answer says of the spool, in parts (RFC 3977, sections 6 and 7.6.3).
 use Rattle.std.specs.Prelude.{◌≡◌, ℕ, true, IsTrue, List, [], ◌∷◌, ◌++◌, map, Option, None, Some, option_map, unwrap_or, IfSome, MatchOption, ⊤, ◌⊎◌}
 use Rattle.std.specs.Option.{option_map_or}
-use Rattle.nntp_article.specs.{Article.Parts.{Id, Line}, Session.{Spool.{Name}, Machine.{Visible, head_fits, overview_numbers}}, Inner.Listed.{Lists}}
+use Rattle.nntp_article.specs.{Article.Parts.{Id, Line}, Session.{Spool.{Name}, Machine.{Visible, head_fits, overview_numbers, only}}, Inner.Listed.{Lists}}
 use Rattle.nntp_wire.specs.{declared.{command.What.{What}, range.Range.{Range}}, Answer.{Response, sends}, Listing.{ActiveValue, OverviewValue}}
-use Rattle.nntp_said.specs.{Asks.{Ask, ListsIn, Has}, Facts.{Fact, ThereIs, ThereIsNo, Asks, IdAt, TextIs, NoArticle, OverviewsAre, GroupsAre, group_of}}
+use Rattle.nntp_said.specs.{Asks.{Ask, ListsIn, Has}, Facts.{Fact, ThereIs, ThereIsNo, Asks, IdAt, TextIs, NoArticle, FieldsAre, OverviewsAre, GroupsAre, group_of}}
 use Rattle.nntp_theory.specs.Given.{is_shown_group}
 use Rattle.nntp_numbers.specs.Inner.{Part.{Said, Says}, PartOf.{nothing_said, part_with}, Summary.{AreBounded}}
 use Rattle.nntp_facts.specs.Inner.{ListedGroups.{MayList}, ListedOverviews.{HaveOwn}}
@@ -14,11 +14,12 @@ pub record OfGroup : Type 0 where
   pub numbers : Said
   pub id : Option (ℕ × Id)
 
--- what is said of an id: that it has no article; that it has one; or that a success names it, and sends these lines
+-- what is said of an id: that it has no article; that it has one; that a success names it, and sends these lines; or that it has an article of which this is the overview
 pub data OfArticle : Type 0 where
   Lacks : OfArticle
   Exists : OfArticle
   Sends : (what : What) → (lines : Option (List Line)) → OfArticle
+  Describes : (overviews : List OverviewValue) → OfArticle
 
 -- all that an answer says: that there is such a group, or none; what it says of the numbers of one group, and of an id; the
 -- overviews of those in a range; and the groups that match
@@ -37,9 +38,10 @@ abbrev pub asked_id : Option (ℕ × Id) → List Ask
 asked_id None = []
 asked_id (Some e) = Has e.0 ∷ []
 
--- what is sent of an article
+-- what is sent of an article, or told of it
 abbrev pub sent_facts : Option (Id × OfArticle) → List Fact
 sent_facts (Some (id, Sends what lines)) = TextIs what id lines ∷ []
+sent_facts (Some (id, Describes overviews)) = FieldsAre overviews ∷ []
 sent_facts article = []
 
 -- the id has no article
@@ -85,9 +87,9 @@ overviews_facts (Some g) o = OverviewsAre g.name o.0 o.1 ∷ []
 abbrev pub facts_told : Saying → List Ask → List Fact
 facts_told s asks = option_map_or (overviews_facts s.group) s.overviews (facts_in s asks)
 
--- the group of whose numbers overviews are said, if any are
-abbrev pub listing_group : Saying → Option OfGroup
-listing_group s = option_map_or (λ o. s.group) s.overviews None
+-- the group of whose numbers overviews are said, with these, if any are
+abbrev pub listing : Saying → Option (OfGroup × List OverviewValue)
+listing s = option_map_or (λ o. option_map (λ g. (g, o.1)) s.group) s.overviews None
 
 -- ---- made of facts
 
@@ -114,6 +116,11 @@ abbrev pub placed : Option (Id × OfArticle) → Id → Id × OfArticle
 placed (Some a) id = a
 placed None id = (id, Exists)
 
+-- and what overviews tell of the article of the first, if there is one
+abbrev pub told_of : Option (Id × OfArticle) → List OverviewValue → Option (Id × OfArticle)
+told_of a [] = a
+told_of a (o ∷ overviews) = Some (o.id, Describes (o ∷ overviews))
+
 -- one more fact is said; the numbers that the answer shows are given
 abbrev pub saying_with : List ℕ → Fact → Saying → Saying
 saying_with shown (ThereIs name) s = record s { there_is = Some name }
@@ -122,6 +129,7 @@ saying_with shown (Asks name ask) s = record s { group = Some (with_ask shown as
 saying_with shown (IdAt name n id) s = record s { group = Some (with_id shown s.group name n id); article = Some (placed s.article id) }
 saying_with shown (TextIs what id lines) s = record s { article = Some (id, Sends what lines) }
 saying_with shown (NoArticle id) s = record s { article = Some (id, Lacks) }
+saying_with shown (FieldsAre overviews) s = record s { article = told_of s.article overviews }
 saying_with shown (OverviewsAre name r os) s = record s { group = Some (with_ask shown (ListsIn r (overview_numbers os)) (begun s.group name)); overviews = Some (r, os) }
 saying_with shown (GroupsAre p lines) s = record s { groups = Some (p, lines) }
 
@@ -142,11 +150,12 @@ IsToExist None id = ⊥
 IsToExist (Some (other, Lacks)) id = ⊥
 IsToExist (Some (other, said)) id = other ≡ id
 
--- an id of which nothing is sent is at a number of the group; and where a head is sent, it is one
+-- an id of which nothing is sent is at a number of the group; where a head is sent, it is one; and an overview is the only one, and that of the id
 abbrev pub MayBeOf : Option OfGroup → Id × OfArticle → Type 0
 MayBeOf group (id, Lacks) = ⊤
 MayBeOf group (id, Exists) = MatchOption group ⊥ (λ g. MatchOption g.id ⊥ (λ e. e.1 ≡ id))
 MayBeOf group (id, Sends what lines) = IsTrue (head_fits what id lines)
+MayBeOf group (id, Describes overviews) = MatchOption (only overviews) ⊥ (λ o. o.id ≡ id)
 
 -- nothing is said beside the groups that match
 pub record IsAlone (s : Saying) : Type 0 where
@@ -196,9 +205,9 @@ TellsThere selected s more = (facts : List Fact) → IfSome selected (λ name. i
 abbrev pub IsSelectedShown : Visible → List Fact → Type 0
 IsSelectedShown v facts = IfSome v.selected (λ name. is_shown_group facts name ≡ true)
 
--- these groups are those that match, and these the overviews of the range, if the saying lists them
+-- these groups are those that match, if the saying lists them
 abbrev pub AreListed : Saying → Lists → Type 0
-AreListed s lists = IfSome s.groups (λ l. lists.groups ≡ l.1) × IfSome s.overviews (λ o. lists.overviews ≡ o.1)
+AreListed s lists = IfSome s.groups (λ l. lists.groups ≡ l.1)
 
 -- the numbers that an answer shows: the one that it gives, or those that it lists
 abbrev pub numbers_shown : List ℕ → Response → List ℕ

@@ -3,7 +3,7 @@ use Rattle.std.specs.Prelude.{ℕ, List, Option, option_map}
 use Rattle.nntp_wire.specs.{Listing.{ActiveValue, OverviewValue, active_groups, overviews_of}, declared.range.Range.{Range}}
 use Rattle.nntp_article.specs.Article.Parts.{Id}
 use Rattle.nntp_numbers.specs.Inner.PartView.{said}
-use Rattle.nntp_facts.specs.declared.saying.{IdAt.{IdAt}, GroupPart.{GroupPart}, ArticlePart.{ArticlePart, TheVariants.{Lacks, Exists, Sends}}}
+use Rattle.nntp_facts.specs.declared.saying.{IdAt.{IdAt}, GroupPart.{GroupPart}, ArticlePart.{ArticlePart, TheVariants.{Lacks, Exists, Sends, Describes}}}
 use Rattle.nntp_facts.specs.declared.saying.{OverviewsPart.{OverviewsPart}, ActivePart.{ActivePart}, Saying.{Saying}}
 use Rattle.nntp_facts.specs.Inner.Saying as said_of
 
@@ -20,6 +20,7 @@ abbrev pub article_said : ArticlePart → Id × said_of.OfArticle
 article_said (Lacks id) = (id.now, said_of.Lacks)
 article_said (Exists id) = (id.now, said_of.Exists)
 article_said (Sends id what block) = (id.now, said_of.Sends what (option_map (λ b. b.now) block))
+article_said (Describes id block) = (id.now, said_of.Describes (overviews_of block.now))
 
 -- the overviews of a range
 abbrev pub overviews_said : OverviewsPart → Range × List OverviewValue

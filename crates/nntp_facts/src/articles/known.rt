@@ -1,14 +1,15 @@
 //! What is known of one article.
-ghost use Rattle.std.specs.Prelude.{◌≡◌, ◌↔◌, false, true, IsTrue, IfOk, option_map};
-ghost use Rattle.nntp_article.specs.Article.Parts.{Id};
-ghost use Rattle.nntp_article.specs.Session.Machine.{head_fits};
+ghost use Rattle.std.specs.Prelude.{◌≡◌, ◌↔◌, ◌≢◌, true, None, Some, IsTrue, IfOk, IfSome, MatchOption, option_map};
+ghost use Rattle.nntp_article.specs.Article.Fields.{fields_of_head, words_in};
+ghost use Rattle.nntp_article.specs.Inner.Fields.{AreWords};
 ghost use Rattle.nntp_theory.specs.Inner.Together.{AreSame};
-ghost use Rattle.nntp_facts.specs.Inner.Articles.{head_sent, body_sent, MayBeSent, with_sent};
+ghost use Rattle.nntp_facts.specs.Inner.Articles.{MayBeSent, MayBeTold, telling, with_sent, with_told};
 ghost use Rattle.nntp_facts.specs.Inner.Kept.{IsAddedIf};
-ghost use Rattle.nntp_facts.specs.Inner.ArticleView.{known_article, lines_held};
+ghost use Rattle.nntp_facts.specs.Inner.ArticleView.{known_article, lines_held, lines_told, of_parts};
 
-use nntp_article::Parts;
-use nntp_wire::{Block, OwnedBlock, What};
+use crate::articles::sent::Sent;
+use nntp_article::{Field, Fields, field_lines};
+use nntp_wire::{Block, OwnedBlock};
 use std::alloc::{AllocError, Allocator};
 use std::boxed::Box;
 use std::mem;
@@ -17,14 +18,21 @@ use std::rc::Rc;
 /// What is known of an article.
 #[derive(Drop)]
 pub(crate) enum KnownArticle<A: Allocator> {
-    /// No success of ARTICLE, HEAD, BODY or STAT named the article.
+    /// No success of ARTICLE, HEAD, BODY, STAT or of OVER or XOVER without a range named the article, and no overview told of
+    /// it.
     Unsent,
-    /// A success named the article, and none of its lines were sent.
+    /// No such success named the article. Overviews of a range told what these lines of headers do.
+    Listed(Rc<OwnedBlock<A>, A>),
+    /// A success named the article, none of its lines were sent, and no overview told of it.
     Named,
+    /// A success named the article, and none of its lines were sent. Overviews told what these lines of headers do.
+    Told(Rc<OwnedBlock<A>, A>),
     /// The lines of the head were sent, and none of the body.
     Head(Rc<OwnedBlock<A>, A>),
-    /// The lines of the body were sent, and none of the head.
+    /// The lines of the body were sent, and none of the head, and no overview told of the article.
     Body(Rc<OwnedBlock<A>, A>),
+    /// The lines of the body were sent, and none of the head. In its place are lines of headers that tell what overviews did.
+    ToldBody(Box<WholeArticle<A>, A>),
     /// The lines of both were sent.
     Whole(Box<WholeArticle<A>, A>),
 }
@@ -38,58 +46,6 @@ pub(crate) struct WholeArticle<A: Allocator> {
     body: Rc<OwnedBlock<A>, A>,
 }
 
-/// The parts of an article that a success sends.
-#[derive(Drop)]
-pub(crate) struct Sent<'a> {
-    /// The lines of the head.
-    pub(crate) head: Option<Block<'a>>,
-    /// The lines of the body.
-    pub(crate) body: Option<Block<'a>>,
-}
-
-impl<'a> Sent<'a> {
-    /// Returns the parts that a success sends in its block.
-    pub(crate) fn of(what: What, block: Option<&Block<'a>>) -> Sent<'a>
-        ensures head { (id : Id) → IsTrue (head_fits what id (option_map (λ b. b.now) block.entry))
-            → result.head ≡ head_sent what (option_map (λ b. b.now) block.entry) }
-        ensures body { (id : Id) → IsTrue (head_fits what id (option_map (λ b. b.now) block.entry))
-            → result.body ≡ body_sent what (option_map (λ b. b.now) block.entry) }
-    {
-        match (what, block) {
-            (What::Article, Some(lines)) => Sent::parts(Parts::split(lines)),
-            (What::Head, Some(lines)) => Sent {
-                head: Some(lines.copy()),
-                body: None,
-            },
-            (What::Body, Some(lines)) => Sent {
-                head: None,
-                body: Some(lines.copy()),
-            },
-            _ => Sent {
-                head: None,
-                body: None,
-            },
-        }
-    }
-
-    /// Returns the head and the body of a whole article.
-    fn parts(parts: Option<Parts<'a>>) -> Sent<'a>
-        ensures head { result.head ≡ option_map (λ p. p.head) parts.entry }
-        ensures body { result.body ≡ option_map (λ p. p.body) parts.entry }
-    {
-        match parts {
-            Some(parts) => Sent {
-                head: Some(parts.head),
-                body: Some(parts.body),
-            },
-            None => Sent {
-                head: None,
-                body: None,
-            },
-        }
-    }
-}
-
 /// Tells whether lines that are sent are those that are held, where there are both.
 fn are_same<A: Allocator>(sent: &Option<Block<'_>>, held: Option<&Rc<OwnedBlock<A>, A>>) -> bool
     ensures { IsTrue result ↔ AreSame sent.now (option_map (λ block. block.now.value) held.entry) }
@@ -98,6 +54,14 @@ fn are_same<A: Allocator>(sent: &Option<Block<'_>>, held: Option<&Rc<OwnedBlock<
         (Some(sent), Some(held)) => sent.is_same(&held.as_ref().as_block()),
         _ => true,
     }
+}
+
+/// What lines that are held tell of the four headers.
+fn fields_of<A: Allocator>(lines: &Rc<OwnedBlock<A>, A>) -> Fields<'_>
+    ensures fields { result ≡ fields_of_head lines.now.value }
+    ensures words { AreWords result }
+{
+    Fields::of_head(&lines.as_ref().as_block())
 }
 
 /// Copies lines, if they are sent.
@@ -114,11 +78,11 @@ fn copied<A: Allocator + Copy>(
 }
 
 impl<A: Allocator> KnownArticle<A> {
-    /// Tells whether a success of ARTICLE, HEAD, BODY or STAT named the article.
+    /// Tells whether a success of ARTICLE, HEAD, BODY, STAT or of OVER or XOVER without a range named the article.
     pub(crate) fn is_sent(&self) -> bool
         ensures { result ≡ (known_article self.now).is_sent }
     {
-        !matches!(self, KnownArticle::Unsent)
+        !matches!(self, KnownArticle::Unsent | KnownArticle::Listed(_))
     }
 
     /// Returns the lines of the article's head, if they were sent.
@@ -138,8 +102,53 @@ impl<A: Allocator> KnownArticle<A> {
     {
         match self {
             KnownArticle::Body(body) => Some(body),
+            KnownArticle::ToldBody(lines) => Some(&lines.as_ref().body),
             KnownArticle::Whole(lines) => Some(&lines.as_ref().body),
             _ => None,
+        }
+    }
+
+    /// Returns the lines of headers that tell what overviews told, if no head was sent and one told of the article.
+    fn told(&self) -> Option<&Rc<OwnedBlock<A>, A>>
+        ensures { option_map (λ told. told.now.value) result ≡ lines_told self.now }
+    {
+        match self {
+            KnownArticle::Listed(told) => Some(told),
+            KnownArticle::Told(told) => Some(told),
+            KnownArticle::ToldBody(lines) => Some(&lines.as_ref().head),
+            _ => None,
+        }
+    }
+
+    /// Returns the lines that tell of the four headers: those of the head, or of what overviews told.
+    fn telling(&self) -> Option<&Rc<OwnedBlock<A>, A>>
+        ensures { option_map (λ lines. fields_of_head lines.now.value) result ≡ (known_article self.now).fields }
+    {
+        match self.head() {
+            Some(head) => Some(head),
+            None => self.told(),
+        }
+    }
+
+    /// Returns what a head that was sent or overviews tell of the four headers, if anything tells of them.
+    pub(crate) fn fields(&self) -> Option<Fields<'_>>
+        ensures fields { result ≡ (known_article self.now).fields }
+        ensures words { IfSome result AreWords }
+    {
+        match self.telling() {
+            Some(lines) => Some(fields_of(lines)),
+            None => None,
+        }
+    }
+
+    /// Returns the first of the four headers of which other words are told than these.
+    pub(crate) fn other_field(&self, told: Fields<'_>) -> Option<Field>
+        ensures { MatchOption result (AreSame (Some told.entry) (known_article self.now).fields)
+            (λ field. MatchOption (known_article self.now).fields ⊥ (λ before. words_in told.entry field ≢ words_in before field)) }
+    {
+        match self.fields() {
+            Some(before) => told.first_difference(before),
+            None => None,
         }
     }
 
@@ -147,7 +156,19 @@ impl<A: Allocator> KnownArticle<A> {
     fn may_send(&self, sent: &Sent<'_>) -> bool
         ensures { IsTrue result ↔ MayBeSent (known_article self.now) sent.now.head sent.now.body }
     {
-        self.may_have_head(sent) && self.may_have_body(sent)
+        self.may_have_head(sent) && self.may_tell(sent) && self.may_have_body(sent)
+    }
+
+    /// Tells whether a head that is sent tells what overviews told, where no head was sent before.
+    fn may_tell(&self, sent: &Sent<'_>) -> bool
+        ensures { IsTrue result ↔ AreSame (option_map fields_of_head sent.now.head) (option_map fields_of_head (lines_told self.now)) }
+    {
+        match (&sent.head, self.told()) {
+            (Some(head), Some(told)) => Fields::of_head(head)
+                .first_difference(fields_of(told))
+                .is_none(),
+            _ => true,
+        }
     }
 
     /// Tells whether no other head was sent.
@@ -178,43 +199,158 @@ impl<A: Allocator + Copy> KnownArticle<A> {
         Ok(true)
     }
 
-    /// Returns what is known once a success sends these parts: of each part what was sent first.
+    /// Returns what is known once a success sends these parts, which it may: of each part what was sent first.
     fn with(self, alloc: A, sent: &Sent<'_>) -> Result<KnownArticle<A>, AllocError>
-        ensures { IfOk result (λ article. known_article article ≡ with_sent (known_article self) sent.now.head sent.now.body) }
+        ensures { IfOk result (λ article. MayBeSent (known_article self) sent.now.head sent.now.body
+            → known_article article ≡ with_sent (known_article self) sent.now.head sent.now.body) }
     {
         match self {
             KnownArticle::Head(head) => {
-                KnownArticle::of_parts(alloc, Some(head), copied(alloc, &sent.body)?)
+                KnownArticle::of_parts(alloc, Some(head), None, copied(alloc, &sent.body)?)
             }
             KnownArticle::Body(body) => {
-                KnownArticle::of_parts(alloc, copied(alloc, &sent.head)?, Some(body))
+                KnownArticle::of_parts(alloc, copied(alloc, &sent.head)?, None, Some(body))
+            }
+            KnownArticle::Listed(told) => KnownArticle::with_both(alloc, sent, Some(told)),
+            KnownArticle::Told(told) => KnownArticle::with_both(alloc, sent, Some(told)),
+            KnownArticle::ToldBody(lines) => {
+                Ok(KnownArticle::with_head(lines, copied(alloc, &sent.head)?))
             }
             KnownArticle::Whole(lines) => Ok(KnownArticle::Whole(lines)),
-            _ => KnownArticle::of_parts(
-                alloc,
-                copied(alloc, &sent.head)?,
-                copied(alloc, &sent.body)?,
-            ),
+            _ => KnownArticle::with_both(alloc, sent, None),
         }
     }
 
-    /// Returns what is known of an article that a success named, and of which these parts were sent.
+    /// Returns what is known of an article of which none was sent before these parts, and of which lines of headers tell
+    /// what overviews told, if they told of it.
+    fn with_both(
+        alloc: A,
+        sent: &Sent<'_>,
+        told: Option<Rc<OwnedBlock<A>, A>>,
+    ) -> Result<KnownArticle<A>, AllocError>
+        ensures { IfOk result (λ article. known_article article ≡ of_parts sent.now.head (lines_held told) sent.now.body) }
+    {
+        KnownArticle::of_parts(
+            alloc,
+            copied(alloc, &sent.head)?,
+            told,
+            copied(alloc, &sent.body)?,
+        )
+    }
+
+    /// Returns what is known of an article whose body was sent, and of which overviews told, once this head is sent, if one is.
+    fn with_head(
+        lines: Box<WholeArticle<A>, A>,
+        head: Option<Rc<OwnedBlock<A>, A>>,
+    ) -> KnownArticle<A>
+        ensures { known_article result ≡ of_parts (lines_held head) (Some lines.value.head.value) (Some lines.value.body.value) }
+    {
+        let mut lines = lines;
+        match head {
+            Some(head) => {
+                lines.as_mut().head = head;
+                KnownArticle::Whole(lines)
+            }
+            None => KnownArticle::ToldBody(lines),
+        }
+    }
+
+    /// Returns what is known of an article that a success named, and of which these parts were sent. Where no head was, lines
+    /// of headers tell what overviews told, if they told of it.
     fn of_parts(
         alloc: A,
         head: Option<Rc<OwnedBlock<A>, A>>,
+        told: Option<Rc<OwnedBlock<A>, A>>,
         body: Option<Rc<OwnedBlock<A>, A>>,
     ) -> Result<KnownArticle<A>, AllocError>
-        ensures { IfOk result (λ article. known_article article
-            ≡ record { is_denied = false; is_sent = true; head = lines_held head; body = lines_held body }) }
+        ensures { IfOk result (λ article. known_article article ≡ of_parts (lines_held head) (lines_held told) (lines_held body)) }
     {
-        match (head, body) {
-            (Some(head), Some(body)) => {
+        match (head, told, body) {
+            (Some(head), _, Some(body)) => {
                 let lines = Box::new(alloc, WholeArticle { head, body })?;
                 Ok(KnownArticle::Whole(lines))
             }
-            (Some(head), None) => Ok(KnownArticle::Head(head)),
-            (None, Some(body)) => Ok(KnownArticle::Body(body)),
-            (None, None) => Ok(KnownArticle::Named),
+            (Some(head), _, None) => Ok(KnownArticle::Head(head)),
+            (None, Some(head), Some(body)) => {
+                let lines = Box::new(alloc, WholeArticle { head, body })?;
+                Ok(KnownArticle::ToldBody(lines))
+            }
+            (None, Some(told), None) => Ok(KnownArticle::Told(told)),
+            (None, None, Some(body)) => Ok(KnownArticle::Body(body)),
+            (None, None, None) => Ok(KnownArticle::Named),
+        }
+    }
+}
+
+impl<A: Allocator + Copy> KnownArticle<A> {
+    /// Holds what an overview tells, if it may tell it, and tells whether it may. `is_sent` where no range was asked for.
+    pub(crate) fn note_told(
+        &mut self,
+        alloc: A,
+        told: Fields<'_>,
+        is_sent: bool,
+    ) -> Result<bool, AllocError>
+        requires { AreWords told }
+        ensures { IfOk result (λ may. IsAddedIf (MayBeTold (known_article self.old) told.entry)
+            (λ article. article ≡ with_told (known_article self.old) is_sent told.entry) (known_article self.old) (known_article self.new) may) }
+    {
+        if self.telling().is_none() {
+            *self = mem::replace(self, KnownArticle::Unsent).with_told(alloc, told, is_sent)?;
+            return Ok(true);
+        }
+        if self.other_field(told).is_some() {
+            return Ok(false);
+        }
+        if is_sent {
+            *self = mem::replace(self, KnownArticle::Unsent).named();
+        }
+        Ok(true)
+    }
+
+    /// Returns what is known once a first overview tells this of an article of which no head was sent.
+    fn with_told(
+        self,
+        alloc: A,
+        told: Fields<'_>,
+        is_sent: bool,
+    ) -> Result<KnownArticle<A>, AllocError>
+        requires { AreWords told }
+        ensures { IfOk result (λ article. (known_article self).fields ≡ None
+            → known_article article ≡ with_told (known_article self) is_sent told.entry) }
+    {
+        let lines = Rc::new(alloc, field_lines(alloc, told)?)?;
+        match self {
+            KnownArticle::Unsent => Ok(KnownArticle::first_told(lines, is_sent)),
+            KnownArticle::Named => Ok(KnownArticle::Told(lines)),
+            KnownArticle::Body(body) => KnownArticle::of_parts(
+                alloc,
+                None,
+                Some(lines),
+                Some(body),
+            ),
+            other => Ok(other),
+        }
+    }
+
+    /// Returns what is known of an article of which overviews alone tell what these lines do.
+    fn first_told(lines: Rc<OwnedBlock<A>, A>, is_sent: bool) -> KnownArticle<A>
+        ensures { known_article result ≡ telling is_sent (Some (fields_of_head lines.value)) }
+    {
+        if is_sent {
+            KnownArticle::Told(lines)
+        } else {
+            KnownArticle::Listed(lines)
+        }
+    }
+
+    /// Returns what is known once a success names the article and sends nothing of it.
+    fn named(self) -> KnownArticle<A>
+        ensures { known_article result ≡ record (known_article self) { is_sent = true } }
+    {
+        match self {
+            KnownArticle::Unsent => KnownArticle::Named,
+            KnownArticle::Listed(told) => KnownArticle::Told(told),
+            other => other,
         }
     }
 }

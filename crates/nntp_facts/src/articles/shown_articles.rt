@@ -1,11 +1,13 @@
 //! The articles that answers show, one after the other.
-ghost use Rattle.std.specs.Prelude.{◌≡◌, option_map};
+ghost use Rattle.std.specs.Prelude.{◌≡◌, IfSome, option_map};
 ghost use Rattle.std.specs.Iterator.{YieldsFirst, item_count};
 ghost use Rattle.std.specs.Rc.{rc_str_bytes};
+ghost use Rattle.nntp_article.specs.Inner.Fields.{AreWords};
 ghost use Rattle.nntp_facts.specs.Inner.Readers.{articles_shown_in};
 ghost use Rattle.nntp_facts.specs.Inner.ArticleView.{entries_value};
 
 use crate::articles::known::KnownArticle;
+use nntp_article::Fields;
 use nntp_wire::OwnedBlock;
 use std::alloc::{Allocator, Global};
 use std::collections::btree_map;
@@ -40,8 +42,8 @@ impl<'a, A: Allocator> ShownArticle<'a, A> {
         self.id
     }
 
-    /// Tells whether a success of ARTICLE, HEAD, BODY or STAT named the article (RFC 3977,
-    /// section 6.2).
+    /// Tells whether a success of ARTICLE, HEAD, BODY, STAT or of OVER or XOVER without a range named the article (RFC 3977,
+    /// sections 6.2 and 8.3).
     pub fn is_sent(&self) -> bool
         ensures { result ≡ self.now.is_sent }
     {
@@ -53,6 +55,14 @@ impl<'a, A: Allocator> ShownArticle<'a, A> {
         ensures { option_map (λ head. head.now.value) result ≡ self.now.head }
     {
         self.article.head()
+    }
+
+    /// Returns what the article's head or overviews tell of four headers, or `None` if no answer sent a head or told of them.
+    pub fn fields(&self) -> Option<Fields<'a>>
+        ensures fields { result ≡ self.now.fields }
+        ensures words { IfSome result AreWords }
+    {
+        self.article.fields()
     }
 
     /// Returns the lines of the article's body, or `None` if no answer sent them.

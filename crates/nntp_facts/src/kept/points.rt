@@ -8,6 +8,7 @@ ghost use Rattle.nntp_facts.specs.Inner.PointView.{point_of};
 ghost use Rattle.nntp_facts.specs.Inner.StatementView.{statement_of, rank_of};
 
 mod articles;
+mod fields;
 mod groups;
 mod ids;
 mod numbers;
@@ -39,6 +40,7 @@ impl<A: Allocator + Copy> Kept<A> {
             Kind::Article => Ok(self.denied_article(told)),
             Kind::HeadOf => Ok(self.other_head(told)),
             Kind::BodyOf => Ok(self.other_body(told)),
+            Kind::FieldOf => Ok(self.other_field(told)),
         }
     }
 }

@@ -37,6 +37,7 @@ impl<A: Allocator> Kept<A> {
             Some(ArticlePart::Lacks(id)) => self.shown_article(*id),
             Some(ArticlePart::Exists(id)) => self.lacked_article(*id),
             Some(ArticlePart::Sends { id, .. }) => self.lacked_article(*id),
+            Some(ArticlePart::Describes { id, .. }) => self.lacked_article(*id),
         }
     }
 
@@ -98,6 +99,7 @@ impl<A: Allocator> Kept<A> {
             None => None,
             Some(ArticlePart::Lacks(_)) => None,
             Some(ArticlePart::Exists(_)) => None,
+            Some(ArticlePart::Describes { .. }) => None,
             Some(ArticlePart::Sends { id, what, block }) => {
                 self.other_head_sent(*id, &Sent::of(*what, *block))
             }
@@ -126,6 +128,7 @@ impl<A: Allocator> Kept<A> {
             None => None,
             Some(ArticlePart::Lacks(_)) => None,
             Some(ArticlePart::Exists(_)) => None,
+            Some(ArticlePart::Describes { .. }) => None,
             Some(ArticlePart::Sends { id, what, block }) => {
                 self.other_body_sent(*id, &Sent::of(*what, *block))
             }

@@ -1,12 +1,12 @@
 use Rattle.std.{proofs.Common.{◌≡◌, ℕ, List, Some, rules, refl, ap, sym, subst, ◌∙◌}, specs.Prelude.{unwrap_or}}
-use Rattle.nntp_facts.specs.Inner.{Kept.{IsAddedIf}, Saying.{Sends}, Articles.{MayBeSent, with_sent}, ArticleView.{is_added, known_article}}
+use Rattle.nntp_facts.specs.Inner.{Kept.{IsAddedIf}, KeptSaying.{kept_by}, Saying.{Sends}, Articles.{MayBeSent, with_sent}, ArticleView.{is_added, known_article}}
 use Rattle.nntp_facts.{specs.declared.articles.known.KnownArticle.TheVariants.{Unsent}, proofs.Keeping.NotedArticles.{sent_noted, of_denied}}
 use Rattle.nntp_facts.proofs.Keeping.NamedArticles.{text_cmp, put_in, had, same_key}
 use Rattle.nntp_facts.proofs.articles.Articles.send.Goals as goal
 
 pub returns-then-is_denied-clause-added : goal.returns-then-is_denied-clause-added
 returns-then-is_denied-clause-added g c facts what lines kept heads bodies =
-    of_denied facts c.args.self.now c.args.id.now (Sends what lines) kept refl (sym c.is_denied.ensures ∙ c.if-is_denied.true)
+    of_denied facts c.args.self.now c.args.id.now (kept_by (Sends what lines)) kept refl (sym c.is_denied.ensures ∙ c.if-is_denied.true)
 
 pub returns-clause-added : goal.returns-clause-added
 returns-clause-added g c facts what lines kept heads bodies =

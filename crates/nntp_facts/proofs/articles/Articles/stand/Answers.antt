@@ -1,10 +1,10 @@
 use Rattle.std.{proofs.Common.{ℕ, List, Some, rules, refl, ap, sym, ◌∙◌}, specs.Prelude.{unwrap_or}}
-use Rattle.nntp_facts.{specs.{Inner.Saying.{Exists}, declared.articles.known.KnownArticle.TheVariants.{Unsent}}, proofs.Keeping.NotedArticles.{there_noted}}
+use Rattle.nntp_facts.{specs.{Inner.Articles.{unsent}, declared.articles.known.KnownArticle.TheVariants.{Unsent}}, proofs.Keeping.NotedArticles.{there_noted}}
 use Rattle.nntp_facts.proofs.Keeping.{NotedArticles.{of_denied}, NamedArticles.{text_cmp, kept_new, same_key}}
 use Rattle.nntp_facts.proofs.articles.Articles.stand.Goals as goal
 
 pub returns-then-is_denied-clause-added : goal.returns-then-is_denied-clause-added
-returns-then-is_denied-clause-added g c facts kept = of_denied facts c.args.self.now c.args.id.now Exists kept refl (sym c.is_denied.ensures ∙ c.if-is_denied.true)
+returns-then-is_denied-clause-added g c facts kept = of_denied facts c.args.self.now c.args.id.now unsent kept refl (sym c.is_denied.ensures ∙ c.if-is_denied.true)
 
 pub returns-clause-added : goal.returns-clause-added
 returns-clause-added g c facts kept =

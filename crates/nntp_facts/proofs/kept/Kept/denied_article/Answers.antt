@@ -1,6 +1,7 @@
 use Rattle.std.{proofs.Common.{rules, ◌≡◌, cond, ap, refl, sym, ◌∙◌, None, Some}, specs.Prelude.{option_map}}
+use Rattle.nntp_wire.specs.Listing.{overviews_of}
 use Rattle.nntp_theory.specs.{Given.{first_given}, Conflict.{Article}}
-use Rattle.nntp_facts.specs.Inner.{Saying.{Lacks, Exists, Sends}, SayingView.{article_said, overviews_said}, PointView.{point_of}, StatementView.{statement_of}}
+use Rattle.nntp_facts.specs.Inner.{Saying.{Lacks, Exists, Sends, Describes}, SayingView.{article_said, overviews_said}, PointView.{point_of}, StatementView.{statement_of}}
 use Rattle.nntp_facts.proofs.{Keeping.KeptArticles.{shown_kept, denied_kept}, PointsFound.ArticlesBeside.{lacks, has, listed_article, no_article}}
 use Rattle.nntp_facts.proofs.kept.Kept.denied_article.Goals as goal
 
@@ -36,3 +37,12 @@ returns-in-Some-Sends g c profile facts more h =
     let said : option_map article_said c.args.told.now.saying.article ≡ Some (id, a) = search rules in
     has profile facts c.args.self.now (statement_of c.args.told.now) more h id a said refl (option_map point_of c.lacked_article-in-Some-Sends.result)
     (c.lacked_article-in-Some-Sends.ensures ∙ ap (λ b. cond b (Some (Article id)) None) (sym (denied_kept facts c.args.self.now.articles id h.kept.articles)))
+
+pub returns-in-Some-Describes : goal.returns-in-Some-Describes
+returns-in-Some-Describes g c profile facts more h =
+    let w = c.in-Some-Describes in
+    let id = w.id.now in
+    let a = Describes (overviews_of w.field-0-1.now) in
+    let said : option_map article_said c.args.told.now.saying.article ≡ Some (id, a) = search rules in
+    has profile facts c.args.self.now (statement_of c.args.told.now) more h id a said refl (option_map point_of c.lacked_article-in-Some-Describes.result)
+    (c.lacked_article-in-Some-Describes.ensures ∙ ap (λ b. cond b (Some (Article id)) None) (sym (denied_kept facts c.args.self.now.articles id h.kept.articles)))

@@ -1,15 +1,17 @@
-use Rattle.std.{proofs.Common.{◌≡◌, true, map, take}, specs.{List.{AllByRecursion}, Prelude.{List}}}
-use Rattle.nntp_wire.specs.Inner.View.{overview_value}
-use Rattle.nntp_article.specs.Session.Spool.{Name}
+use Rattle.std.{proofs.Common.{◌≡◌, ◌++◌, true, List}, specs.List.{AllByRecursion}}
+use Rattle.nntp_wire.specs.Listing.{OverviewValue, overviews_of}
+use Rattle.nntp_article.specs.{Article.Fields.{fields_told}, Inner.Fields.{AreWords}, Session.Spool.{Name}}
 use Rattle.nntp_said.specs.Facts.{Fact}
 use Rattle.nntp_facts.specs.Inner.{Kept.{AreKept, AreKeptArticles, Told}, KeptSaying.{MayGive}, ListedOverviews.{HaveOwn}}
 use Rattle.nntp_facts.proofs.Keeping.OverviewsJoin.{AreGiven}
 use Rattle.nntp_facts.proofs.kept.Kept.give_all.Given as goal
 
--- the overviews so far are told and kept
+-- the overviews so far are told and kept, and those that are left have words
 abbrev pub invariant-loop-overview : goal.invariant-loop-overview
 invariant-loop-overview g l =
-    (l.self.names ≡ l.initial.self.names)
+    (goal.iterator-loop-overview g).can_next l.overview-iterator × (goal.iterator-loop-overview g).is_finite l.overview-iterator
+    × AllByRecursion (λ o. AreWords (fields_told o)) l.overview-iterator
+    × (l.self.names ≡ l.initial.self.names)
+    × ((front : List OverviewValue) × (front ++ l.overview-iterator ≡ overviews_of l.block)
     × ((facts : List Fact) (tells : Name → Told) → AreKept tells l.initial.self.groups → AreKeptArticles facts l.initial.self.articles → (tells l.name).is_shown ≡ true
-    → HaveOwn (map overview_value l.overviews) → AllByRecursion (MayGive facts (tells l.name)) (map overview_value l.overviews)
-    → AreGiven facts tells l.name (map overview_value (take l.overview-index l.overviews)) l.self)
+    → HaveOwn (overviews_of l.block) → AllByRecursion (MayGive facts (tells l.name)) (overviews_of l.block) → AreGiven facts tells l.name front l.self))

@@ -34,7 +34,8 @@ returns g c no_list plain facts more kept together formed t =
     let names = c.in_ok-deny.ensures.names facts (facts_in s t.asks) (subst (AreKeptNames facts) (sym c.note_article.ensures.rest.1) kept.names) (denied_only facts s t.asks no_list t.may) in
     let groups = c.in_ok-add_new_group.ensures.groups facts s t.asks refl no_list together t.may (test.0 passed).group (subst (AreKeptGroups facts) (sym same) kept.groups)
     (λ again. subst (AreKeptGroups all) (sym same) (joins.ensures.again again facts t.asks no_list kept together t.may))
-    (λ other. subst (λ text. IfSome s.group (λ g. IsTextOf text g.id)) (sym c.text.ensures) (texts_of _ s.article s.group (c.in_ok-added.ensures.text other does) t.may.placed)) in
+    (λ other. subst (λ text. IfSome s.group (λ g. IsTextOf text g.id)) (sym c.text.ensures)
+    (texts_of _ s.article s.group (c.in_ok-added.ensures.text (may_be_said s.group s.article t.may.article) other does) t.may.placed)) in
     parts_kept facts more s no_list plain t together formed added (joins_at_all joins.result) c.add_new_group.new.self does passed test c.args.self.now
     (subst (λ articles. IsArticleAdded facts s.article c.args.self.now.articles articles added)
     (sym (c.add_new_group.ensures.rest.1 ∙ c.deny.ensures.rest.1)) article)

@@ -1,5 +1,6 @@
 use Rattle.std.{proofs.Common.{rules, ◌≡◌, None, Some, refl, ap}, specs.Prelude.{option_map}}
-use Rattle.nntp_facts.specs.Inner.{Saying.{Lacks, Exists, Sends}, SayingView.{article_said}, PointView.{point_of}, StatementView.{statement_of}}
+use Rattle.nntp_wire.specs.Listing.{overviews_of}
+use Rattle.nntp_facts.specs.Inner.{Saying.{Lacks, Exists, Sends, Describes}, SayingView.{article_said}, PointView.{point_of}, StatementView.{statement_of}}
 use Rattle.nntp_facts.proofs.PointsFound.ArticlesBeside.{Head, no_part, part_point}
 use Rattle.nntp_facts.proofs.kept.Kept.other_head.Goals as goal
 
@@ -16,6 +17,12 @@ pub returns-in-Some-Exists : goal.returns-in-Some-Exists
 returns-in-Some-Exists g c profile facts more h =
     let said : option_map article_said c.args.told.now.saying.article ≡ Some (c.in-Some-Exists.field-0-0.now, Exists) = search rules in
     no_part profile facts c.args.self.now (statement_of c.args.told.now) more h Head (Some (c.in-Some-Exists.field-0-0.now, Exists)) said refl
+
+pub returns-in-Some-Describes : goal.returns-in-Some-Describes
+returns-in-Some-Describes g c profile facts more h =
+    let a = Describes (overviews_of c.in-Some-Describes.field-0-1.now) in
+    let said : option_map article_said c.args.told.now.saying.article ≡ Some (c.in-Some-Describes.field-0-0.now, a) = search rules in
+    no_part profile facts c.args.self.now (statement_of c.args.told.now) more h Head (Some (c.in-Some-Describes.field-0-0.now, a)) said refl
 
 pub returns-in-Some-Sends : goal.returns-in-Some-Sends
 returns-in-Some-Sends g c profile facts more h =

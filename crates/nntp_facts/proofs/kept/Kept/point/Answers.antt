@@ -21,6 +21,9 @@ returns-in-HeadOf g c profile facts more limit h before = grind (arith, c.other_
 pub returns-in-BodyOf : goal.returns-in-BodyOf
 returns-in-BodyOf g c profile facts more limit h before = grind (arith, c.other_body.ensures profile facts more h)
 
+pub returns-in-FieldOf : goal.returns-in-FieldOf
+returns-in-FieldOf g c profile facts more limit h before = grind (arith, c.other_field.ensures profile facts more h)
+
 pub returns-in-Group : goal.returns-in-Group
 returns-in-Group g c = if_ok c.denied_group.result (λ point found profile facts more limit h before.
     subst (λ kind. IsPointOf (facts ++ more) (rank_of kind) (option_map point_of point)) (sym c.in-Group.is) (found profile facts more h)) c.denied_group.ensures

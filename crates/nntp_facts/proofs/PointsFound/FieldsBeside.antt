@@ -1,0 +1,151 @@
+-- Points that are about headers, where what an answer tells of them conflicts with what is kept.
+use Rattle.std.proofs.Common.{◌≡◌, true, false, IsTrue, List, [], ◌∷◌, ◌++◌, Option, None, Some, MatchOption, inl, inr, refl, sym, ap, subst, ◌∙◌, arith}
+use Rattle.std.proofs.lemmas.Bool.{true≢false}
+use Rattle.std.specs.{Prelude.{◌≢◌, IfSome, option_map, is_some}, List.{AllByRecursion}, Option.{option_map_or}, FinMap.{get}}
+use Rattle.nntp_wire.specs.{Listing.{OverviewValue}, declared.{command.What.{What}, range.Range.{Range}}}
+use Rattle.nntp_article.specs.{Article.{Parts.{Id, Line}, Fields.{Fields, fields_told, fields_of_head, words_in}}, declared.{article.field.Field.{Field}, session.profile.Profile.{Profile}}}
+use Rattle.nntp_article.specs.Session.Machine.{head_fits, only}
+use Rattle.nntp_said.specs.Facts.{Fact}
+use Rattle.nntp_theory.specs.{Given.{first_given, fields_in, fields_of_overview}, Together.{GiveOne}, Inner.Together.{SaidOfArticle, AreSame}}
+use Rattle.nntp_theory.{specs.Conflict.{Point, ConflictAt, words_told}, proofs.{Members.{In, all_at, all_from, part_first}, PointsByRank.{of_rank}}}
+use Rattle.nntp_theory.proofs.Together.{TwoListsOfFacts.{give_one_both, give_same_of_both}, ListedOverviews.{told_by}}
+use Rattle.nntp_facts.specs.Inner.{Kept.{Kept, said_kept}, Articles.{head_sent}, Saying.{OfArticle, Sends, Describes, MayBeOf}, KeptSaying.{said_in, said_listed, kept_by}}
+use Rattle.nntp_facts.specs.Inner.Points.{IsPointOf, IsBeside, IsFieldOf, IsFieldAmong, IsOtherField, OneTellsOther, Statement, said_by}
+use Rattle.nntp_facts.proofs.Keeping.{OverviewsTold.{of_range}, ListedOverviews.{own_agree}}
+use Rattle.nntp_facts.proofs.PointsFound.{StatementsRead.{article_told}, KindsOfPoints.{alone_once}, ArticlesBeside.{own, others, said_plain}}
+
+-- ---- of one header what is given of all
+
+-- where the same is told of all headers, so it is of each
+words_once : (id : Id) (field : Field) (facts : List Fact) → GiveOne (fields_in id) facts → GiveOne (words_told id field) facts
+words_once id field facts one = all_from _ facts (λ fact i. by (fields_in id fact) (all_at _ fact facts one i))
+  where
+    by : (o : Option Fields) → IfSome o (λ fields. first_given (fields_in id) facts ≡ Some fields)
+        → IfSome (option_map (λ fields. words_in fields field) o) (λ words. first_given (words_told id field) facts ≡ Some words)
+    by None h = tt
+    by (Some fields) h = part_first (λ fields. words_in fields field) (fields_in id) facts ∙ ap (option_map (λ fields. words_in fields field)) h
+
+-- ---- one answer beside the others
+
+module _ (profile : Profile) (facts : List Fact) (k : Kept) (t : Statement) (more : List Fact) (h : IsBeside profile facts k t more) where
+  abbrev all : List Fact
+  all = facts ++ more
+
+  abbrev Free : Point → Type 0
+  Free point = ConflictAt all point → ⊥
+
+  -- what is told of the id before
+  abbrev before : Id → Option Fields
+  before id = first_given (fields_in id) facts
+
+  given : (id : Id) → first_given (fields_in id) more ≡ (said_by t.saying id).fields
+  given id = ap (λ (s : SaidOfArticle). s.fields) (article_told profile t more h.tells id)
+
+  kept_is : (id : Id) → (said_kept (get k.articles id)).fields ≡ before id
+  kept_is id = sym (ap (λ (s : SaidOfArticle). s.fields) (h.kept.articles id))
+
+  -- where nothing else was told than is, they conflict nowhere
+  pub fields_free : ((id : Id) → AreSame (said_by t.saying id).fields (before id)) → IsPointOf all 10 None
+  fields_free same = of_rank Free 10 (λ id field c. c (words_once id field all (give_one_both (fields_in id) facts more (h.together.fields id)
+      (alone_once profile (fields_in id) (λ name. refl) (λ name ask. refl) t more h.tells (h.tells.agree.fields id)) (subst (λ o. AreSame o (before id)) (sym (given id)) (same id)))))
+
+  -- where it was, they do
+  other_point : (id : Id) (point : Point) → IsOtherField k id (said_by t.saying id).fields point → IsPointOf all 10 (Some point)
+  other_point id point (field, is, other) = subst (λ point. IsPointOf all 10 (Some point)) (sym is) (
+    (λ one. by (said_by t.saying id).fields (said_kept (get k.articles id)).fields
+        (part_first (λ fields. words_in fields field) (fields_in id) more ∙ ap (option_map (λ fields. words_in fields field)) (given id))
+        (part_first (λ fields. words_in fields field) (fields_in id) facts ∙ ap (option_map (λ fields. words_in fields field)) (sym (kept_is id)))
+        other (give_same_of_both (words_told id field) facts more one)),
+    refl,
+  )
+    where
+      by : (x y : Option Fields) → first_given (words_told id field) more ≡ option_map (λ fields. words_in fields field) x
+          → first_given (words_told id field) facts ≡ option_map (λ fields. words_in fields field) y
+          → MatchOption x ⊥ (λ fields. MatchOption y ⊥ (λ before. words_in fields field ≢ words_in before field))
+          → AreSame (first_given (words_told id field) more) (first_given (words_told id field) facts) → ⊥
+      by x y e f other same = grind (arith, e, f)
+
+  -- ---- of overviews
+
+  module _ (o : Range × List OverviewValue) (listed : t.saying.overviews ≡ Some o) where
+    said : (id : Id) → said_by t.saying id ≡ said_listed o.1 id
+    said id = ap (λ (o : Option (Range × List OverviewValue)). option_map_or (λ o. said_listed o.1 id) o (said_in t.saying.article id)) listed
+
+    -- what they tell of an id is what one of them tells
+    told_alike : AllByRecursion (λ v. AreSame (Some (fields_told v)) (said_kept (get k.articles v.id)).fields) o.1 → (id : Id) → AreSame (said_listed o.1 id).fields (before id)
+    told_alike same id = by (first_given (fields_of_overview id) o.1) refl
+      where
+        by : (fields : Option Fields) → first_given (fields_of_overview id) o.1 ≡ fields → AreSame fields (before id)
+        by None e = tt
+        by (Some fields) e =
+            let f = told_by o.1 id fields e in
+            subst (λ fields. AreSame (Some fields) (before id)) f.told
+            (subst (λ id. AreSame (Some (fields_told f.overview)) (before id)) f.same_id
+            (subst (AreSame (Some (fields_told f.overview))) (kept_is f.overview.id) (all_at _ f.overview o.1 same f.there)))
+
+    own_told : (v : OverviewValue) → In v o.1 → first_given (fields_of_overview v.id) o.1 ≡ Some (fields_told v)
+    own_told v i = (all_at _ v o.1 (own_agree [] o.0 o.1 (of_range h.tells.before t.saying h.tells.tells.asks h.tells.tells.may o listed).own) i).2
+
+    pub listed_field : (p : Option Point) → IsFieldAmong k o.1 p → IsPointOf all 10 p
+    listed_field None same = fields_free (λ id. subst (λ (s : SaidOfArticle). AreSame s.fields (before id)) (sym (said id)) (told_alike same id))
+    listed_field (Some point) other =
+        let f = one_found point o.1 other in
+        other_point f.0.id point (subst (λ told. IsOtherField k f.0.id told point) (sym (ap (λ (s : SaidOfArticle). s.fields) (said f.0.id) ∙ own_told f.0 f.1)) f.2)
+      where
+        one_found : (point : Point) (os : List OverviewValue) → OneTellsOther k point os → (v : OverviewValue) × In v os × IsOtherField k v.id (Some (fields_told v)) point
+        one_found point [] h = absurd h
+        one_found point (v ∷ os) (inl h) = (v, inl refl, h)
+        one_found point (v ∷ os) (inr h) = let f = one_found point os h in (f.0, inr f.1, f.2)
+
+  -- ---- of an article
+
+  -- where nothing is said of any
+  pub no_field : t.saying.overviews ≡ None → t.saying.article ≡ None → IsPointOf all 10 None
+  no_field plain none = fields_free (λ id. subst (λ (s : SaidOfArticle). AreSame s.fields (before id)) (sym (said_plain profile facts k t more h id plain ∙ ap (λ a. said_in a id) none)) tt)
+
+  -- where this is told of one
+  module _ (id : Id) (a : OfArticle) (e : t.saying.article ≡ Some (id, a)) (told : Option Fields) (is : told ≡ (said_kept (Some (kept_by a))).fields) where
+    own_fields : (said_by t.saying id).fields ≡ told
+    own_fields = ap (λ (s : SaidOfArticle). s.fields) (own profile facts k t more h id a e) ∙ sym is
+
+    pub field_point : (p : Option Point) → IsFieldOf k id told p → IsPointOf all 10 p
+    field_point None same = fields_free (λ q. elim (others profile facts k t more h id a e q) [
+      | inl s ↦ subst (λ q. AreSame (said_by t.saying q).fields (before q)) s (subst (λ o. AreSame o (before id)) (sym own_fields) (subst (AreSame told) (kept_is id) same))
+      | inr none ↦ subst (λ (s : SaidOfArticle). AreSame s.fields (before q)) (sym none) tt
+    ])
+    field_point (Some point) other = other_point id point (subst (λ told. IsOtherField k id told point) (sym own_fields) other)
+
+  -- of a head that is sent
+  pub head_point : (id : Id) (what : What) (lines : Option (List Line)) → t.saying.article ≡ Some (id, Sends what lines) → (head : Option (List Line))
+      → (IsTrue (head_fits what id lines) → head ≡ head_sent what lines) → (p : Option Point) → IsFieldOf k id (option_map fields_of_head head) p → IsPointOf all 10 p
+  head_point id what lines e head is =
+      field_point id (Sends what lines) e (option_map fields_of_head head)
+      (ap (option_map fields_of_head) (is (subst (λ o. IfSome o (MayBeOf t.saying.group)) e h.tells.tells.may.article)))
+
+  -- of an overview that was asked for alone
+  pub overview_point : (id : Id) (os : List OverviewValue) → t.saying.article ≡ Some (id, Describes os) → (p : Option Point) → IsFieldAmong k os p → IsPointOf all 10 p
+  overview_point id os e p among =
+      field_point id (Describes os) e (option_map fields_told (only os)) refl p
+      (one_point os id (subst (λ o. IfSome o (MayBeOf t.saying.group)) e h.tells.tells.may.article) p among)
+    where
+      one_point : (os : List OverviewValue) (id : Id) → MatchOption (only os) ⊥ (λ o. o.id ≡ id) → (p : Option Point) → IsFieldAmong k os p → IsFieldOf k id (option_map fields_told (only os)) p
+      one_point [] id is p among = absurd is
+      one_point (o ∷ []) id is None among = subst (λ id. IsFieldOf k id (Some (fields_told o)) None) is among.0
+      one_point (o ∷ []) id is (Some point) (inl among) = subst (λ id. IsFieldOf k id (Some (fields_told o)) (Some point)) is among
+      one_point (o ∷ []) id is (Some point) (inr among) = absurd among
+      one_point (o ∷ v ∷ os) id is p among = absurd is
+
+-- ---- one overview after the other
+
+module _ (k : Kept) (o : OverviewValue) (os : List OverviewValue) where
+  -- where nothing else is kept than the first tells, the point is that of another
+  pub past_found : {X : Type 0} (of : X → Point) (found : Option X) → is_some found ≡ false → IsFieldOf k o.id (Some (fields_told o)) (option_map of found) → (p : Option Point) → IsFieldAmong k os p
+      → IsFieldAmong k (o ∷ os) p
+  past_found of None none same None others = (same, others)
+  past_found of None none same (Some point) other = inr other
+  past_found of (Some x) none same p other = absurd (true≢false none)
+
+  -- else it is its own
+  pub at_found : {X : Type 0} (of : X → Point) (found : Option X) → is_some found ≡ true → IsFieldOf k o.id (Some (fields_told o)) (option_map of found) → IsFieldAmong k (o ∷ os) (option_map of found)
+  at_found of None some other = absurd (true≢false (sym some))
+  at_found of (Some x) some other = inl other

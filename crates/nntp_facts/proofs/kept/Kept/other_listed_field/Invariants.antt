@@ -1,0 +1,11 @@
+use Rattle.std.specs.Prelude.{Option}
+use Rattle.nntp_wire.specs.Listing.{overviews_of}
+use Rattle.nntp_theory.specs.Conflict.{Point}
+use Rattle.nntp_facts.specs.Inner.Points.{IsFieldAmong}
+use Rattle.nntp_facts.proofs.kept.Kept.other_listed_field.Given as goal
+
+-- what is so of those that are left is so of all
+abbrev pub invariant-loop-overview : goal.invariant-loop-overview
+invariant-loop-overview g l =
+    (goal.iterator-loop-overview g).can_next l.overview-iterator × (goal.iterator-loop-overview g).is_finite l.overview-iterator
+    × ((point : Option Point) → IsFieldAmong l.self l.overview-iterator point → IsFieldAmong l.self (overviews_of l.block) point)

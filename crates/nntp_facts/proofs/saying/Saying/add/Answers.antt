@@ -1,0 +1,7 @@
+use Rattle.std.proofs.Common.{ap, sym, ◌∙◌}
+use Rattle.nntp_said.specs.Inner.FactView.{fact_of}
+use Rattle.nntp_facts.specs.Inner.{Saying.{saying_with}, SayingView.{saying_of}}
+use Rattle.nntp_facts.proofs.saying.Saying.add.Goals as goal
+
+pub returns-in-FieldsAre : goal.returns-in-FieldsAre
+returns-in-FieldsAre c = c.add_fields.ensures c.args.shown.now ∙ ap (λ fact. saying_with c.args.shown.now (fact_of fact) (saying_of c.args.self.now)) (sym c.in-FieldsAre.is)

@@ -1,0 +1,78 @@
+//! What heads and overviews tell of four headers, and is kept otherwise.
+ghost use Rattle.std.specs.Prelude.{◌≡◌, ◌≢◌, ◌++◌, List, Some, MatchOption, Option, option_map};
+ghost use Rattle.nntp_wire.specs.Inner.View.{overview_value};
+ghost use Rattle.nntp_wire.specs.Listing.{overviews_of};
+ghost use Rattle.nntp_article.specs.Article.Fields.{Fields as FieldsValue, fields_told, fields_of_head, words_in};
+ghost use Rattle.nntp_article.specs.Article.Parts.{Id};
+ghost use Rattle.nntp_article.specs.declared.session.profile.Profile.{Profile};
+ghost use Rattle.nntp_said.specs.Facts.{Fact};
+ghost use Rattle.nntp_facts.specs.Inner.Points.{IsBeside, IsPointOf, IsFieldOf, IsFieldAmong};
+ghost use Rattle.nntp_facts.specs.Inner.PointView.{point_of};
+ghost use Rattle.nntp_facts.specs.Inner.StatementView.{statement_of};
+
+use crate::articles::Sent;
+use crate::kept::Kept;
+use crate::point::Point;
+use crate::points::Statement;
+use crate::saying::ArticlePart;
+use nntp_article::Fields;
+use nntp_wire::Block;
+use std::alloc::Allocator;
+
+impl<A: Allocator> Kept<A> {
+    /// Returns the id of which the answer tells other words of a header than are kept, and the first such header.
+    pub(crate) fn other_field<'s>(&self, told: &Statement<'s>) -> Option<Point<'s>>
+        ensures { (profile : Profile) (facts more : List Fact) → IsBeside profile facts self.now (statement_of told.now) more
+            → IsPointOf (facts ++ more) 10 (option_map point_of result) }
+    {
+        if let Some(list) = &told.saying.overviews {
+            return self.other_listed_field(list.block);
+        }
+        match &told.saying.article {
+            None => None,
+            Some(ArticlePart::Lacks(_)) => None,
+            Some(ArticlePart::Exists(_)) => None,
+            Some(ArticlePart::Sends { id, what, block }) => {
+                self.other_field_sent(*id, &Sent::of(*what, *block))
+            }
+            Some(ArticlePart::Describes { block, .. }) => self.other_listed_field(*block),
+        }
+    }
+
+    /// Returns the first id of an overview that tells other words of a header than are kept, and the first such header.
+    fn other_listed_field<'s>(&self, block: &Block<'s>) -> Option<Point<'s>>
+        ensures { IsFieldAmong self.now (overviews_of block.now) (option_map point_of result) }
+    {
+        for overview in block.overviews() {
+            let id = overview.id.as_str();
+            let point = self.other_field_told(id, Fields::of_overview(overview));
+            if point.is_some() {
+                return point;
+            }
+        }
+        None
+    }
+
+    /// Returns the id, if the head that is sent tells other words of a header than are kept, and the first such header.
+    fn other_field_sent<'s>(&self, id: &'s str, sent: &Sent<'_>) -> Option<Point<'s>>
+        ensures { IsFieldOf self.now id.now (option_map fields_of_head sent.now.head) (option_map point_of result) }
+    {
+        match &sent.head {
+            Some(head) => self.other_field_told(id, Fields::of_head(head)),
+            None => None,
+        }
+    }
+
+    /// Returns the id, if other words of a header are kept than these, and the first such header.
+    fn other_field_told<'s>(&self, id: &'s str, told: Fields<'_>) -> Option<Point<'s>>
+        ensures { IsFieldOf self.now id.now (Some told.entry) (option_map point_of result) }
+    {
+        match self.articles.other_field(id, told) {
+            Some(field) => Some(Point::FieldOf {
+                id: id.as_bytes(),
+                field,
+            }),
+            None => None,
+        }
+    }
+}
