@@ -109,5 +109,5 @@ word_told left more word text one two whole room mid end is first mid-is second 
     let words = flat_map (λ w. space ∷ w) more in
     let behind : two ++ escaped (take end words) ≡ one ++ escaped (take mid (word ++ words)) = room_told one two (word ++ words) word words mid end second end-is refl in
     let all : one ++ escaped (take mid (word ++ words)) ≡ text ++ escaped (take room (space ∷ word ++ words)) =
-        room_told text one (space ∷ word ++ words) (space ∷ []) (word ++ words) room mid first mid-is refl in
+    room_told text one (space ∷ word ++ words) (space ∷ []) (word ++ words) room mid first mid-is refl in
     behind ∙ all ∙ ap (λ ws. text ++ escaped (take room (flat_map (λ w. space ∷ w) ws))) (sym is) ∙ h

@@ -115,7 +115,7 @@ module _ (xs ys : List Fact) (to : AreIn xs ys) (from : AreIn ys xs) (together :
         ids_invented = invented_same 0 (unshown_ids ys G) (subst (AreInvented xs 0) (unshown_same G) g.ids_invented);
         articles = grind (arith, any_same);
         heads = λ id t e. g.heads id t e ∙ ap₂ (λ (sent : Option (List Line)) (told : Option Fields). unwrap_or sent (made_head id told))
-        (first_same (head_in id) xs ys to from (together.heads id)) (first_same (fields_in id) xs ys to from (together.fields id));
+            (first_same (head_in id) xs ys to from (together.heads id)) (first_same (fields_in id) xs ys to from (together.fields id));
         bodies = λ id t e. g.bodies id t e ∙ ap (λ o. unwrap_or o []) (first_same (body_in id) xs ys to from (together.bodies id));
       }
 

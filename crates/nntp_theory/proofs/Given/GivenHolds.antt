@@ -239,11 +239,16 @@ module _ (profile : Profile) (B : ℕ) (G : Spool) (facts : List Fact) (s : Sett
         | inr sent ↦ (let f = found_in (gives_article id) facts sent in not_denied id f.0 f.1 (grind (arith, f.2)) i)
       ])
   fact_holds (OverviewsAre name r os) i f p =
-      let met : Lists (numbers G name) r (overview_numbers os) = grind (arith, asked name (OverviewsAre name r os) i (group_there name p), same_itself name) in
-      (met, all_from _ os (λ o j. (overview_holds name r os i met o j, overview_tells os (OverviewsAre name r os) i (λ id. refl)
-      (all_from (TellsOwn os) os (λ o j. (all_at _ o os (all_at AgreesWithItself (OverviewsAre name r os) facts s.together.lists i) j).2))
-      (all_at IsWellFormed (OverviewsAre name r os) facts s.together.well_formed i) o j
-      ((s.given.articles o.id).1 (inl (name, o.number, overview_holds name r os i met o j))))))
+      let met : Lists (numbers G name) r (overview_numbers os) = grind (arith, asked name (OverviewsAre name r os) i (group_there name p), same_itself name) in (
+        met,
+        all_from _ os (λ o j. (
+          overview_holds name r os i met o j,
+          overview_tells os (OverviewsAre name r os) i (λ id. refl)
+              (all_from (TellsOwn os) os (λ o j. (all_at _ o os (all_at AgreesWithItself (OverviewsAre name r os) facts s.together.lists i) j).2))
+              (all_at IsWellFormed (OverviewsAre name r os) facts s.together.well_formed i) o j
+              ((s.given.articles o.id).1 (inl (name, o.number, overview_holds name r os i met o j))),
+        )),
+      )
   fact_holds (GroupsAre p lines) i f g = lines_hold p lines i f
 
   -- all that is said holds of G

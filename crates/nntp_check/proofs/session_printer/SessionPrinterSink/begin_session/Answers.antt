@@ -13,5 +13,5 @@ pub returns-clause-ok : goal.returns-clause-ok
 returns-clause-ok g c = λ by held before.
     let printer = c.end_session.new.self in
     let ended : AreReported printer.many printer.ended.items printer.is_answered (sessions_as Opaque (held.ended ++ held.last ∷ [])) =
-        subst (AreReported printer.many printer.ended.items printer.is_answered) (sym (as_opaque held.ended held.last)) (c.in_ok-end_session.ensures held before) in
+    subst (AreReported printer.many printer.ended.items printer.is_answered) (sym (as_opaque held.ended held.last)) (c.in_ok-end_session.ensures held before) in
     search (rules, ended)
