@@ -73,7 +73,7 @@ impl<A: Allocator> Model for Articles<A> {
 }
 
 impl<A: Allocator> Articles<A> {
-    /// Describes whether an answer mentions the id.
+    /// Tells whether an answer mentions the id.
     pub(crate) fn mentions(&self, id: &[u8]) -> bool
         ensures is { result ≡ is_some (map.get self.now id.now) }
         ensures facts { (facts : List Fact) → AreKeptArticles facts self.now → result ≡ is_mentioned facts id.now }
@@ -81,21 +81,21 @@ impl<A: Allocator> Articles<A> {
         self.has_octets(id) || self.denied.contains(id)
     }
 
-    /// Describes whether the octets are an id that has an article.
+    /// Tells whether the octets are an id that has an article.
     pub(crate) fn has_octets(&self, id: &[u8]) -> bool
         ensures { result ≡ is_there (map.get self.now id.now) }
     {
         has_key(&self.known, id)
     }
 
-    /// Describes whether the id is said to have no article.
+    /// Tells whether the id is said to have no article.
     pub(crate) fn is_denied(&self, id: &str) -> bool
         ensures { result ≡ option_map_or (λ a. a.is_denied) (map.get self.now id.now) false }
     {
         self.denied.contains(id.as_bytes()) && !self.has(id)
     }
 
-    /// Describes whether the id has an article.
+    /// Tells whether the id has an article.
     fn has(&self, id: &str) -> bool
         ensures { result ≡ is_there (map.get self.now id.now) }
     {
@@ -104,7 +104,7 @@ impl<A: Allocator> Articles<A> {
 }
 
 impl<A: Allocator> Articles<A> {
-    /// Describes whether no other head of the article was sent than this, if it is one.
+    /// Tells whether no other head of the article was sent than this, if it is one.
     pub(crate) fn may_have_head(&self, id: &str, sent: &Sent<'_>) -> bool
         ensures { (facts : List Fact) → AreKeptArticles facts self.now → IsTrue result ↔ AreSame sent.now.head (first_given (head_in id.now) facts) }
     {
@@ -114,7 +114,7 @@ impl<A: Allocator> Articles<A> {
         }
     }
 
-    /// Describes whether no other body of the article was sent than this, if it is one.
+    /// Tells whether no other body of the article was sent than this, if it is one.
     pub(crate) fn may_have_body(&self, id: &str, sent: &Sent<'_>) -> bool
         ensures { (facts : List Fact) → AreKeptArticles facts self.now → IsTrue result ↔ AreSame sent.now.body (first_given (body_in id.now) facts) }
     {
@@ -317,7 +317,7 @@ impl<A: Allocator + Copy> Articles<A> {
     }
 }
 
-/// Describes whether the octets are a key of the map. Octets that aren't text are none.
+/// Tells whether the octets are a key of the map. Octets that aren't text are none.
 fn has_key<V, A: Allocator>(map: &BTreeMap<RcStr<A>, V, A>, key: &[u8]) -> bool
     ensures { result ≡ is_some (get_by (λ k. slice_cmp nat_cmp key.now (rc_str_bytes k)) map.now) }
 {

@@ -330,7 +330,8 @@ const ONCE: &[Row] = &[
     ),
     (
         b"GROUP g\r\nXOVER 1\r\nSTAT 1\r\nBODY 1\r\nBODY <a@x>\r\n",
-        b"200 hi\r\n211 5 1 5 g\r\n224 x\r\n1\tone\tf\td\t<a@x>\r\n.\r\n223 1 <a@x>\r\n222 1 <a@x>\r\nSubject: two\r\n.\r\n222 0 <a@x>\r\nSubject: two\r\n.\r\n",
+        b"200 hi\r\n211 5 1 5 g\r\n224 x\r\n1\tone\tf\td\t<a@x>\r\n.\r\n223 1 <a@x>\r\n\
+            222 1 <a@x>\r\nSubject: two\r\n.\r\n222 0 <a@x>\r\nSubject: two\r\n.\r\n",
         (6, None),
     ),
     (
@@ -340,7 +341,8 @@ const ONCE: &[Row] = &[
     ),
     (
         b"GROUP g\r\nXOVER 1-2\r\nHEAD 2\r\nARTICLE 1\r\n",
-        b"200 hi\r\n211 5 1 5 g\r\n224 x\r\n1\tone\tf\td\t<a@x>\r\n2\ttwo\tf\td\t<b@x>\r\n.\r\n221 2 <b@x>\r\nSubject: two\r\nFrom: f\r\nDate: d\r\n.\r\n220 1 <a@x>\r\nSubject: one\r\nFrom: f\r\nDate: d\r\n\r\n.\r\n",
+        b"200 hi\r\n211 5 1 5 g\r\n224 x\r\n1\tone\tf\td\t<a@x>\r\n2\ttwo\tf\td\t<b@x>\r\n.\r\n221 2 <b@x>\r\nSubject: two\r\n\
+            From: f\r\nDate: d\r\n.\r\n220 1 <a@x>\r\nSubject: one\r\nFrom: f\r\nDate: d\r\n\r\n.\r\n",
         (5, None),
     ),
     (

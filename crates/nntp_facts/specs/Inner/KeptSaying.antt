@@ -122,8 +122,5 @@ IsSaidAdded facts said old new does = IsAddedIf (SaidJoins facts said) (IsSaidKe
 abbrev pub ArticleJoins : List Fact → Option (Id × OfArticle) → Type 0
 ArticleJoins facts article = SaidJoins facts (said_in article)
 
-abbrev pub AreKeptThen : List Fact → Option (Id × OfArticle) → FinMap (slice_cmp nat_cmp) KeptArticle → Type 0
-AreKeptThen facts article articles = IsSaidKept facts (said_in article) articles
-
 abbrev pub IsArticleAdded : List Fact → Option (Id × OfArticle) → FinMap (slice_cmp nat_cmp) KeptArticle → FinMap (slice_cmp nat_cmp) KeptArticle → Bool → Type 0
 IsArticleAdded facts article old new does = IsSaidAdded facts (said_in article) old new does
