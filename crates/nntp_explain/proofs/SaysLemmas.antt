@@ -1,6 +1,7 @@
 -- What lines say, one after the other.
-use Rattle.std.proofs.Common.{arith, ◌≡◌, ◌∙◌, ap, refl, sym, ℕ, zero, suc, ◌-◌, Bool, true, cond, List, [], ◌∷◌, ◌++◌, length, take, Option, append_assoc, append-nil, Result}
-use Rattle.std.{proofs.lemmas.List.Concat.{flat_map-append}, specs.{Prelude.{OnOk, IsTrue, codes, decimal}, List.{flat_map, list_any}}}
+use Rattle.std.proofs.Common.{arith, ◌≡◌, ◌∙◌, ap, refl, sym, ℕ, zero, suc, ◌-◌, Bool, true, cond, List, [], ◌∷◌, ◌++◌, length, take, Option, append_assoc}
+use Rattle.std.{proofs.{Common.{append-nil, Result}, lemmas.List.Concat.{flat_map-append}}, specs.{Prelude.{OnOk, IsTrue, codes, decimal}, List.{flat_map}}}
+use Rattle.std.specs.List.{list_any}
 use Rattle.nntp_article.specs.{Article.{Parts.{Id, Line, is_empty, head_part, body_part}, Fields.{Word}}, Session.Spool.{Name}}
 use Rattle.nntp_wire.specs.{Octets.{space}, Listing.{ActiveValue}}
 use Rattle.nntp_said.specs.{Asks.{Bounds}, Facts.{Fact, Asks, GroupsAre}}

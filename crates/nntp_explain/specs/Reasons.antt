@@ -5,9 +5,9 @@ use Rattle.nntp_wire.specs.{Answer.{Response, group_is, numbers_are}, declared.m
 use Rattle.nntp_wire.specs.declared.misspelling.{Misspelling.TheVariants.{WrongArgument, WrongLine, WrongBlock}, Due.{Due, TheVariants.{Number, GroupName}}}
 use Rattle.nntp_wire.specs.declared.misspelling.{Due.TheVariants.{MessageId}, LineFault.{LineFault, TheVariants.{BadOctet, SingleDot, NoNumber, NoGroup}}}
 use Rattle.nntp_wire.specs.{declared.misspelling.LineFault.TheVariants.{NoArticleNumber, NoMessageId, NoVersions}, Session.{closes}}
-use Rattle.nntp_article.specs.{Article.{Parts.{Id}, Fields.{name_of_field}}, declared.article.field.Field.{Field}}
-use Rattle.nntp_article.specs.Session.Misfit.{Misfit, wrong_code, wrong_name, wrong_number, wrong_id, below_low, wrong_marks, beyond_limit, not_above}
-use Rattle.nntp_article.specs.Session.{Misfit.{beyond_range, unmatched, listed_twice, wrong_lines, no_head, other_id}, Machine.{is_same}, Spool.{Name}}
+use Rattle.nntp_article.specs.{Article.{Parts.{Id}, Fields.{name_of_field}}, declared.article.field.Field.{Field}, Session.Misfit.{Misfit, wrong_code}}
+use Rattle.nntp_article.specs.Session.Misfit.{wrong_name, wrong_number, wrong_id, below_low, wrong_marks, beyond_limit, not_above, beyond_range, unmatched}
+use Rattle.nntp_article.specs.Session.{Misfit.{listed_twice, wrong_lines, no_head, other_id}, Machine.{is_same}, Spool.{Name}}
 use Rattle.nntp_said.specs.declared.position.Position.{Position, TheVariants.{Nowhere, First, Known}}
 use Rattle.nntp_printing.specs.{BadAnswer.{shown, command_line}, Printing.{escaped}}
 use Rattle.nntp_theory.specs.Conflict.{Point, Step, Group, Number as NumberOf, Count, First as FirstNumber, IdOf, PlaceOf, Article, HeadOf, BodyOf, FieldOf}

@@ -1,15 +1,15 @@
 -- What `explain` prints of what an answer says about the point of a conflict.
 use Rattle.std.specs.Prelude.{ℕ, ◌+◌, ◌==◌, ◌||◌, ◌&&◌, Bool, true, if◌then◌else◌, List, [], ◌∷◌, ◌++◌, length, Option, None, Some, slice_get, codes, decimal}
 use Rattle.std.specs.{List.{flat_map, list_any}, Option.{option_and_then, option_map, option_map_or, option_or}}
-use Rattle.nntp_wire.specs.{Octets.{space}, Answer.{Asked, Response, to, sends}, Command.{retrieve}, Listing.{ActiveValue}, declared.marks.Marks.{Marks, TheVariants.{Lenient}}}
-use Rattle.nntp_wire.specs.declared.{marks.Marks.TheVariants.{Strict}, range.Range.{Range}}
+use Rattle.nntp_wire.specs.{Octets.{space}, Answer.{Asked, Response, to, sends}, Command.{retrieve}, Listing.{ActiveValue}, declared.marks.Marks.{Marks}}
+use Rattle.nntp_wire.specs.declared.{marks.Marks.TheVariants.{Lenient, Strict}, range.Range.{Range}}
 use Rattle.nntp_article.specs.{Article.{Parts.{Id, Line}, Fields.{Word}}, declared.article.field.Field.{Field}, Session.{Machine.{is_same}, Spool.{Name}}}
 use Rattle.nntp_said.specs.{Asks.{Ask, Estimates, Bounds, ListsIn, Has, Lacks, StandsAt, StandsNowhere, StepsUp, StepsDown, IsTop, IsBottom}, Facts.{Fact}}
 use Rattle.nntp_said.specs.{Facts.{ThereIs, ThereIsNo, IdAt, TextIs, NoArticle, FieldsAre, OverviewsAre, GroupsAre}, declared.position.Position.{Position}}
 use Rattle.nntp_said.specs.declared.position.Position.TheVariants.{Known}
-use Rattle.nntp_theory.specs.Conflict.{Placed, Core, Point, Step, Group, Number, Count, First as FirstNumber, IdOf, PlaceOf, Article, HeadOf, BodyOf, FieldOf, said, words_told}
-use Rattle.nntp_theory.specs.{Given.{shows, denies, is_end, asks_in, shows_group, first_given, has_overview_of, id_in, head_in, body_in}, Together.{denies_group}}
-use Rattle.nntp_theory.specs.Together.{number_of_overview, number_in}
+use Rattle.nntp_theory.specs.Conflict.{Placed, Core, Point, Step, Group, Number, Count, First as FirstNumber, IdOf, PlaceOf, Article, HeadOf, BodyOf, FieldOf}
+use Rattle.nntp_theory.specs.{Conflict.{said, words_told}, Given.{shows, denies, is_end, asks_in, shows_group, first_given, has_overview_of, id_in, head_in}}
+use Rattle.nntp_theory.specs.{Given.{body_in}, Together.{denies_group, number_of_overview, number_in}}
 use Rattle.nntp_pair.specs.Pairing.{asked_at}
 use Rattle.nntp_facts.specs.{declared.placed.Placed.{Placed as Cited}, Standing.{stands_of}}
 use Rattle.nntp_printing.specs.{BadAnswer.{shown}, Printing.{escaped}}

@@ -1,14 +1,16 @@
 -- A spool permits a session exactly if each answer fits and all that the answers say holds of it.
-use Rattle.nntp_wire.specs.declared.{marks.Marks.{Marks}, command.{OverviewKeyword.TheVariants.{Over, Xover}, What.{What}}}
-use Rattle.nntp_wire.specs.{Answer.{Asked, Response, Success, greeting, to, sends, overviews_are, plain}, Command.{Request, Target, by_id, by_number, current}}
-use Rattle.nntp_wire.specs.{Command.{group, list_group, next, last, retrieve, over, the_id, in_range, the_current}, Listing.{OverviewValue, overviews_of}}
+use Rattle.nntp_wire.specs.{declared.{marks.Marks.{Marks}, command.{OverviewKeyword.TheVariants.{Over, Xover}, What.{What}}}, Answer.{Asked, Response, Success}}
+use Rattle.nntp_wire.specs.{Answer.{greeting, to, sends, overviews_are, plain}, Command.{Request, Target, by_id, by_number, current, group, list_group, next}}
+use Rattle.nntp_wire.specs.{Command.{last, retrieve, over, the_id, in_range, the_current}, Listing.{OverviewValue, overviews_of}}
 use Rattle.std.proofs.Common.{◌≡◌, ℕ, Bool, true, false, cond, ◌==◌, ◌&&◌, ◌||◌, ◌↔◌, inl, inr, IsTrue, List, [], ◌∷◌, ◌++◌, None, Some, is_some, refl, sym}
 use Rattle.std.{proofs.{Common.{subst, ◌∙◌}, lemmas.Bool.{and_parts, eqb-true, true≢false, false≢true}}, specs.Prelude.{IsFalse, is_none, ⊤, Option}}
 use Rattle.std.specs.{Prelude.{MatchOption}, Option.{option_map_or}, List.{AllByRecursion}}
 use Rattle.nntp_article.specs.Session.{Spool.{Spool}, Machine.{Visible, State, Agrees, MayAnswer, visible_after, CodeAgrees, is_generic, is_one_of, code_fits}}
-use Rattle.nntp_article.specs.{Session.Machine.{none_in_range, ArticleAgrees, NumberAgrees, OverviewAgrees, only, number_fits, fits}, Article.Parts.{Id}, declared.session.profile.Profile.{Profile}}
+use Rattle.nntp_article.specs.{Session.Machine.{none_in_range, ArticleAgrees, NumberAgrees, OverviewAgrees, only, number_fits, fits}, Article.Parts.{Id}}
+use Rattle.nntp_article.specs.declared.session.profile.Profile.{Profile}
 use Rattle.nntp_said.{proofs.Rows.{one_of_one, one_of_two}, specs.{Inner.{Asks.{state_at, RunsAt}, Facts.{FitsAll}}, Asks.{position_after}}}
-use Rattle.nntp_said.specs.{declared.position.Position.{Position}, Facts.{Fact, Holds, facts_of, facts_of_article, facts_of_overview, facts_of_place, facts_of_code, facts_from, on}}
+use Rattle.nntp_said.specs.{declared.position.Position.{Position}, Facts.{Fact, Holds, facts_of, facts_of_article, facts_of_overview, facts_of_place}}
+use Rattle.nntp_said.specs.Facts.{facts_of_code, facts_from, on}
 
 both : (S : Spool) (xs ys : List Fact) → AllByRecursion (Holds S) xs → AllByRecursion (Holds S) ys → AllByRecursion (Holds S) (xs ++ ys)
 both S [] ys h g = g

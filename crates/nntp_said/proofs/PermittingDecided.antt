@@ -140,7 +140,10 @@ dec_meets N (IsBottom at) = dec_match (current_in N at) _ (dec_none_below N)
 -- whether two heads tell the same
 dec_fields : (x y : Fields) → Dec (x ≡ y)
 dec_fields x y =
-    dec_by (λ (h : (x.subject ≡ y.subject) × ((x.from ≡ y.from) × (x.date ≡ y.date) × (x.references ≡ y.references))). λ i. record { subject = h.0 i; from = h.1.0 i; date = h.1.1 i; references = h.1.2 i }) (λ e. (ap (λ x. x.subject) e, (ap (λ x. x.from) e, ap (λ x. x.date) e, ap (λ x. x.references) e)))
+    dec_by
+    (λ (h : (x.subject ≡ y.subject) × ((x.from ≡ y.from) × (x.date ≡ y.date) × (x.references ≡ y.references))).
+    λ i. record { subject = h.0 i; from = h.1.0 i; date = h.1.1 i; references = h.1.2 i })
+    (λ e. (ap (λ x. x.subject) e, (ap (λ x. x.from) e, ap (λ x. x.date) e, ap (λ x. x.references) e)))
     (dec_both (dec_lists x.subject y.subject) (dec_three (dec_lists x.from y.from) (dec_lists x.date y.date) (dec_lists x.references y.references)))
 
 -- whether an overview is that of its article

@@ -6,13 +6,13 @@ use Rattle.nntp_article.specs.{Article.Parts.{Id}, Session.{Spool.{Name}, Machin
 use Rattle.nntp_article.specs.Session.Machine.{is_in_range, number_fits, head_fits, active_fits, names_differ, is_one_of, none_in_range, may_list}
 use Rattle.nntp_article.specs.{Session.Machine.{overview_numbers, overview_ids, all_differ, only}, declared.session.profile.Profile.{Profile}}
 use Rattle.nntp_said.specs.Asks.{Estimates, ListsIn, Lacks, StandsAt, StandsNowhere, StepsUp, StepsDown, IsTop, IsBottom}
-use Rattle.nntp_said.specs.{declared.position.Position.{Position}, Facts.{Fact, ThereIs, ThereIsNo, Asks, IdAt, TextIs, NoArticle, FieldsAre, OverviewsAre, GroupsAre}}
-use Rattle.nntp_said.specs.Facts.{here, facts_of_code, facts_of_article, facts_of_overview, facts_of_place, facts_of}
+use Rattle.nntp_said.specs.{declared.position.Position.{Position}, Facts.{Fact, ThereIs, ThereIsNo, Asks, IdAt, TextIs, NoArticle, FieldsAre, OverviewsAre}}
+use Rattle.nntp_said.specs.Facts.{GroupsAre, here, facts_of_code, facts_of_article, facts_of_overview, facts_of_place, facts_of}
 use Rattle.nntp_wire.specs.{Listing.{OverviewValue, listed_numbers, active_groups, overviews_of}, Answer.{Asked, Response, Success, success_code, to, group_is}}
 use Rattle.nntp_wire.specs.{Answer.{numbers_are, sends, active_are, overviews_are, plain}, Command.{Request, Target, by_id, by_number, current, group}}
 use Rattle.nntp_wire.specs.Command.{list_group, next, last, retrieve, over, the_id, in_range, the_current, list_active}
-use Rattle.nntp_wire.specs.declared.command.{OverviewKeyword.{OverviewKeyword, TheVariants.{Over, Xover}}, What.{What}}
-use Rattle.nntp_wire.specs.declared.{range.Range.{Range}, water_marks.WaterMarks.{WaterMarks}}
+use Rattle.nntp_wire.specs.declared.{command.{OverviewKeyword.{OverviewKeyword, TheVariants.{Over, Xover}}, What.{What}}, range.Range.{Range}}
+use Rattle.nntp_wire.specs.declared.water_marks.WaterMarks.{WaterMarks}
 
 -- ---- codes of a list
 

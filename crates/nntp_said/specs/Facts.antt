@@ -1,13 +1,14 @@
 -- What each answer of a session says of the spool, with the current article read off the session.
-use Rattle.std.specs.{List.{AllByRecursion}, Prelude.{◌≡◌, ℕ, ◌==◌, if◌then◌else◌, List, [], ◌∷◌, ◌++◌, Option, None, Some, unwrap_or}, Option.{option_map_or}, FinMap.{get}}
+use Rattle.std.specs.{List.{AllByRecursion}, Prelude.{◌≡◌, ℕ, ◌==◌, if◌then◌else◌, List, [], ◌∷◌, ◌++◌, Option, None, Some, unwrap_or}, Option.{option_map_or}}
+use Rattle.std.specs.FinMap.{get}
 use Rattle.nntp_article.specs.Session.{Spool.{Spool, IsGroup, numbers, HasText, Name}, Machine.{Visible, visible_after, ActivesAgree, is_one_of, none_in_range}}
 use Rattle.nntp_article.specs.{Session.Machine.{HasOverview, ListsOverviews, only}, Article.Parts.{Id, Line}}
 use Rattle.nntp_said.specs.Asks.{position_after, Ask, Meets, Estimates, ListsIn, Lacks, StandsAt, StandsNowhere, StepsUp, StepsDown, IsTop, IsBottom}
 use Rattle.nntp_said.specs.declared.position.Position.{Position}
 use Rattle.nntp_wire.specs.{Listing.{ActiveValue, OverviewValue, listed_numbers, active_groups, overviews_of}, declared.marks.Marks.{Marks}}
-use Rattle.nntp_wire.specs.{declared.{range.Range.{Range}, command.What.{What}}, Command.{Request, Target, Overviewed, by_id, by_number}}
-use Rattle.nntp_wire.specs.{Command.{current, group, next, last, retrieve, list_group, list_active, over, the_id, in_range, the_current}, Answer.{Asked}}
-use Rattle.nntp_wire.specs.Answer.{Response, Success, to, group_is, numbers_are, sends, active_are, overviews_are, plain}
+use Rattle.nntp_wire.specs.{declared.{range.Range.{Range}, command.What.{What}}, Command.{Request, Target, Overviewed, by_id, by_number, current, group, next}}
+use Rattle.nntp_wire.specs.{Command.{last, retrieve, list_group, list_active, over, the_id, in_range, the_current}, Answer.{Asked, Response, Success, to}}
+use Rattle.nntp_wire.specs.Answer.{group_is, numbers_are, sends, active_are, overviews_are, plain}
 
 -- one thing that an answer says of the spool
 pub data Fact : Type 0 where

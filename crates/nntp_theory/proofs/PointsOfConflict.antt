@@ -3,19 +3,21 @@ use Rattle.std.proofs.Common.{◌≡◌, ℕ, ◌+◌, ◌<◌, ◌^◌, ◌⊎�
 use Rattle.std.{proofs.{Common.{◌∙◌, arith}, lemmas.Bool.{true≢false, cases_Bool, cases_eq, eqb-true, false_from_ne_true, cases_lt}}, specs.Prelude.{IsFalse}}
 use Rattle.std.specs.{Prelude.{IfSome, option_map, ⊤, not}, List.{AllByRecursion, list_any, flat_map}, Cmp.Lexicographic.{same_text}}
 use Rattle.nntp_wire.specs.{declared.marks.Marks.{Marks, TheVariants.{Lenient}}, Listing.{OverviewValue}}
-use Rattle.nntp_article.specs.{Article.{Parts.{Id, Line}, Fields.{Word, Fields, words_in}}, declared.article.field.Field.{Field, TheVariants.{Subject, From, Date, References}}, Session.{Spool.{Name, Numbers, numbers}, Machine.{is_same}}}
-use Rattle.nntp_article.specs.declared.session.profile.Profile.{Profile}
-use Rattle.nntp_said.{proofs.FiniteMapsDecided.{Dec, dec_some, dec_texts, dec_lists}, specs.{Asks.{Ask}, Facts.{Fact, ThereIs, IdAt, TextIs, FieldsAre, OverviewsAre}}}
-use Rattle.nntp_said.specs.Facts.{GroupsAre}
-use Rattle.nntp_theory.specs.Given.{asks_of, is_shown_group, shows_group, first_given, id_in, has_overview_of, head_in, fields_in, body_in, is_known, is_denied, demand, IsGivenNumber}
-use Rattle.nntp_theory.specs.{Given.{HasGivenNumbers}, Inner.{Given.{size}, Together.{IsWellFormed, AgreesWithItself, Together}, Conflict.{FitsThere}}}
-use Rattle.nntp_theory.specs.{Together.{is_possible, MeetsDemand, IsFewFor, denies_group, number_in, shows_article, denies_article, GiveOne}, Conflict.{Placed}}
-use Rattle.nntp_theory.specs.Conflict.{told_with, SomeHas, Point, Step, Group, Number, Count, First, IdOf, PlaceOf, Article, HeadOf, BodyOf, FieldOf, words_told, ConflictAt, rank}
-use Rattle.nntp_theory.{specs.Conflict.{IsFirstPoint}, proofs.{PointsByRank.{each, or_next, PointsOf, of_rank}, Members.{In, all_at, all_from, in_map, any_in}}}
-use Rattle.nntp_theory.proofs.{Members.{found_in, first_there, part_first, to_flat}, Given.GivenHolds.{one_given}, Together.{ListedOverviews.{overview_at, overview_of, told_by}, FactsOfASpoolStand.{same_itself}}}
+use Rattle.nntp_article.specs.{Article.{Parts.{Id, Line}, Fields.{Word, Fields, words_in}}, declared.article.field.Field.{Field, TheVariants.{Subject, From}}}
+use Rattle.nntp_article.specs.{declared.{article.field.Field.TheVariants.{Date, References}, session.profile.Profile.{Profile}}, Session.Spool.{Name, Numbers}}
+use Rattle.nntp_article.specs.Session.{Spool.{numbers}, Machine.{is_same}}
+use Rattle.nntp_said.{proofs.FiniteMapsDecided.{Dec, dec_some, dec_texts, dec_lists}, specs.{Asks.{Ask}, Facts.{Fact, ThereIs, IdAt, TextIs, FieldsAre}}}
+use Rattle.nntp_said.specs.Facts.{OverviewsAre, GroupsAre}
+use Rattle.nntp_theory.specs.Given.{asks_of, is_shown_group, shows_group, first_given, id_in, has_overview_of, head_in, fields_in, body_in, is_known, is_denied}
+use Rattle.nntp_theory.specs.{Given.{demand, IsGivenNumber, HasGivenNumbers}, Inner.{Given.{size}, Together.{IsWellFormed, AgreesWithItself, Together}}}
+use Rattle.nntp_theory.specs.{Inner.Conflict.{FitsThere}, Together.{is_possible, MeetsDemand, IsFewFor, denies_group, number_in, shows_article, denies_article}}
+use Rattle.nntp_theory.specs.{Together.{GiveOne}, Conflict.{Placed, told_with, SomeHas, Point, Step, Group, Number, Count, First, IdOf, PlaceOf, Article}}
+use Rattle.nntp_theory.{specs.Conflict.{HeadOf, BodyOf, FieldOf, words_told, ConflictAt, rank, IsFirstPoint}, proofs.PointsByRank.{each, or_next, PointsOf}}
+use Rattle.nntp_theory.proofs.{PointsByRank.{of_rank}, Members.{In, all_at, all_from, in_map, any_in, found_in, first_there, part_first, to_flat}}
+use Rattle.nntp_theory.proofs.{Given.{GivenHolds.{one_given}, ConstructedSpool.{made, made_group, made_given}}, Together.ListedOverviews.{overview_at}}
+use Rattle.nntp_theory.proofs.Together.{ListedOverviews.{overview_of, told_by}, FactsOfASpoolStand.{same_itself}}
 use Rattle.nntp_theory.proofs.Session.{NumbersOfShownGroups.{Placed as IsPlaced}, NumbersWithinLimit.{free_in_limit}, FittingFacts.{IsFitting}}
-use Rattle.nntp_theory.proofs.{Given.ConstructedSpool.{made, made_group, made_given}, GivenNumbers.AsksDecided.{denied_or_not, too_many_or_not, unmet_or_met}}
-use Rattle.nntp_theory.proofs.Conflicts.{with_told, told_together, told_fit}
+use Rattle.nntp_theory.proofs.{GivenNumbers.AsksDecided.{denied_or_not, too_many_or_not, unmet_or_met}, Conflicts.{with_told, told_together, told_fit}}
 
 -- ---- what a fact gives
 

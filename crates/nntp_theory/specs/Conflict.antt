@@ -1,15 +1,15 @@
 -- With which earlier answers a bad answer conflicts.
-use Rattle.std.specs.Prelude.{◌≡◌, ℕ, zero, suc, ◌<◌, ◌≤◌, not, List, [], ◌∷◌, ◌++◌, length, Option, None, Some, option_map, IsTrue, slice_get, Contains, MatchOption}
-use Rattle.std.specs.{List.{AllByRecursion, flat_map, list_any}, Option.{option_map_or}}
+use Rattle.std.specs.Prelude.{◌≡◌, ℕ, zero, suc, ◌<◌, ◌≤◌, not, List, [], ◌∷◌, ◌++◌, length, Option, None, Some, option_map, IsTrue, slice_get, Contains}
+use Rattle.std.specs.{Prelude.{MatchOption}, List.{AllByRecursion, flat_map, list_any}, Option.{option_map_or}}
 use Rattle.nntp_wire.specs.{Answer.{Asked, Response}, declared.{water_marks.WaterMarks.{WaterMarks}, marks.Marks.{Marks, TheVariants.{Lenient}}}}
 use Rattle.nntp_article.specs.Session.{Spool.{Spool, IsSpool, Name, Numbers}, Machine.{Visible, visible_after, start, is_ascending}}
-use Rattle.nntp_article.specs.{declared.session.profile.Profile.{Profile}, Article.{Parts.{Id}, Fields.{Word, words_in}}, declared.article.field.Field.{Field}}
+use Rattle.nntp_article.specs.{declared.{session.profile.Profile.{Profile}, article.field.Field.{Field}}, Article.{Parts.{Id}, Fields.{Word, words_in}}}
 use Rattle.nntp_said.specs.{Asks.{position_after, Ask, Estimates}, declared.position.Position.{Position, TheVariants.{Nowhere}}, Facts.{Fact, Holds, ThereIs}}
 use Rattle.nntp_said.specs.Facts.{Asks, facts_of, group_of}
 use Rattle.nntp_pair.specs.Pairing.{Paired, asked_at, asked_of, responses_of}
 use Rattle.nntp_theory.specs.{Classes.{visible_from, position_from}, Given.{is_known, is_denied, demand, IsGivenNumber, HasGivenNumbers, asks_of}}
-use Rattle.nntp_theory.specs.{Given.{is_shown_group, id_in, head_in, fields_in, body_in}, Together.{is_possible, MeetsDemand, IsFewFor, denies_group, number_in}}
-use Rattle.nntp_theory.specs.Together.{shows_article, denies_article, GiveOne}
+use Rattle.nntp_theory.specs.{Given.{is_shown_group, id_in, head_in, fields_in, body_in}, Together.{is_possible, MeetsDemand, IsFewFor, denies_group}}
+use Rattle.nntp_theory.specs.Together.{number_in, shows_article, denies_article, GiveOne}
 
 -- an answer where it stands: the group that is selected before it, where the session stands in that group, what was asked, and the response
 pub record Placed : Type 0 where

@@ -1,12 +1,12 @@
 -- The spool that is given for what a session says.
 use Rattle.std.specs.Prelude.{◌≡◌, ℕ, ◌+◌, ◌<◌, ◌≤◌, Bool, true, false, not, ◌&&◌, ◌||◌, ◌==◌, nat_lt, if◌then◌else◌, IsTrue, IsFalse, IsSome, ◌↔◌, ◌⊎◌, List}
-use Rattle.std.specs.{Prelude.{[], ◌∷◌, ◌++◌, Option, None, Some, is_some, ⊤, option_map, unwrap_or, codes, decimal}, List.{list_any, flat_map}, Option.{option_or}}
-use Rattle.std.specs.FinMap.{get, entries, len}
-use Rattle.nntp_article.specs.{Article.{Parts.{head_part, body_part, Id, Line}, Fields.{Fields, fields_told, fields_of_head, made_head}}, Session.Spool.{Spool, Text, Numbers, IsNumber, IsGroup, numbers, Name}}
-use Rattle.nntp_article.specs.Session.Machine.{is_in_range, is_same, overview_numbers, start}
+use Rattle.std.specs.{Prelude.{[], ◌∷◌, ◌++◌, Option, None, Some, is_some, ⊤, option_map, unwrap_or, codes, decimal}, List.{list_any, flat_map}}
+use Rattle.std.specs.{Option.{option_or}, FinMap.{get, entries, len}}
+use Rattle.nntp_article.specs.{Article.{Parts.{head_part, body_part, Id, Line}, Fields.{Fields, fields_told, fields_of_head, made_head}}, Session.Spool.{Spool}}
+use Rattle.nntp_article.specs.Session.{Spool.{Text, Numbers, IsNumber, IsGroup, numbers, Name}, Machine.{is_in_range, is_same, overview_numbers, start}}
 use Rattle.nntp_said.specs.Asks.{Ask, Estimates, Bounds, ListsIn, Has, Lacks, StandsAt, StandsNowhere, StepsUp, StepsDown, IsTop, IsBottom}
-use Rattle.nntp_said.specs.{declared.position.Position.TheVariants.{Nowhere, First, Known}, Facts.{Fact, ThereIs, Asks, IdAt, TextIs, NoArticle, FieldsAre, OverviewsAre}}
-use Rattle.nntp_said.specs.Facts.{GroupsAre, facts_from}
+use Rattle.nntp_said.specs.{declared.position.Position.TheVariants.{Nowhere, First, Known}, Facts.{Fact, ThereIs, Asks, IdAt, TextIs, NoArticle, FieldsAre}}
+use Rattle.nntp_said.specs.Facts.{OverviewsAre, GroupsAre, facts_from}
 use Rattle.nntp_theory.specs.declared.demand.Demand.{Demand, TheVariants.{NoDemand, NotEmpty, OnlyOne, SecondIs, Impossible}}
 use Rattle.nntp_wire.specs.{Answer.{Asked, Response}, Listing.{OverviewValue}, declared.marks.Marks.{Marks, TheVariants.{Strict}}}
 use Rattle.nntp_wire.specs.declared.command.What.TheVariants.{Article, Head, Body}

@@ -7,8 +7,8 @@ use Rattle.std.specs.FinMap.{nat_cmp-IsAntisymmetric}
 use Rattle.nntp_wire.{specs.{Limit.{greatest}, Name.{IsMessageId}, declared.limit.Limit.{Limit}}, proofs.OptionLemmas.{none_of, some_is}}
 use Rattle.nntp_article.specs.{Article.{Parts.{Id}, Fields.{plain_head}}, Session.Spool.{Spool, Name, Numbers, Text, IsNumber, IsSpool, numbers}}
 use Rattle.nntp_said.specs.Facts.{Fact}
-use Rattle.nntp_theory.specs.Given.{is_mentioned, invented, AreInvented, IsFirstFree, IsGiven}
-use Rattle.nntp_theory.proofs.{GivenNumbers.FirstFreeNumber.{first_free_once}, Ids.InventedIds.{invented_number, number-invented}}
+use Rattle.nntp_theory.{specs.Given.{is_mentioned, invented, AreInvented, IsFirstFree, IsGiven}, proofs.GivenNumbers.FirstFreeNumber.{first_free_once}}
+use Rattle.nntp_theory.proofs.Ids.InventedIds.{invented_number, number-invented}
 use Rattle.nntp_spool.specs.{Inner.Building.{Building, Builds, number_fault, article_fault}, declared.value.spool_fault.SpoolFault.{SpoolFault}}
 use Rattle.nntp_spool.{specs.{declared.value.spool_fault.SpoolFault.TheVariants.{Memory}, Content.{with_group, with_article}}, proofs.MapEntries.{got_more}}
 use Rattle.nntp_spool.proofs.ShownMaps.{octet_keys}

@@ -1,12 +1,13 @@
 -- A head that is made of the words of four headers tells these.
-use Rattle.std.proofs.Common.{◌≡◌, ℕ, ◌<◌, true, false, ◌&&◌, IsTrue, List, [], ◌∷◌, ◌++◌, length, refl, sym, ap, ◌∙◌, append-nil}
-use Rattle.std.proofs.lemmas.{Bool.{and_parts, and_from, ltb-true}, List.Folds.{list_all-append}}
-use Rattle.std.specs.{Prelude.{codes, not, slice_get}, Option.{option_map_or}, List.{list_all, flat_map, filter, AllByRecursion}}
+use Rattle.std.proofs.{Common.{◌≡◌, ℕ, ◌<◌, true, false, ◌&&◌, IsTrue, List, [], ◌∷◌, ◌++◌, length, refl, sym, ap, ◌∙◌, append-nil}, lemmas.Bool.{and_parts}}
+use Rattle.std.{proofs.lemmas.{Bool.{and_from, ltb-true}, List.Folds.{list_all-append}}, specs.{Prelude.{codes, not, slice_get}, Option.{option_map_or}}}
+use Rattle.std.specs.List.{list_all, flat_map, filter, AllByRecursion}
 use Rattle.nntp_wire.{specs.{Octets.{is_clean, space}, Words.{words_of, is_some_octets}}, proofs.WordLemmas.{words_of-blank}}
-use Rattle.nntp_article.specs.Article.{Parts.{Line, is_continuation, continues_first, begins_header, is_header, headers, is_head, is_named, is_empty}, Fields.{Word, Fields, words_of_header, words_named}}
-use Rattle.nntp_article.specs.{Article.Fields.{fields_of_head, fields_among, field_line, field_lines}, Inner.{Fields.{is_word, AreWords}}, Session.Spool.{is_line}}
-use Rattle.nntp_article.specs.declared.article.field.Field.TheVariants.{Subject, From, Date, References}
-use Rattle.nntp_article.proofs.ArticleLemmas.{HeadLemmas.{after, more-no, after-no, headers-cons}, IdLemmas.{is_solid, words-solid, words-solid_then}}
+use Rattle.nntp_article.specs.Article.Parts.{Line, is_continuation, continues_first, begins_header, is_header, headers, is_head, is_named, is_empty}
+use Rattle.nntp_article.specs.Article.Fields.{Word, Fields, words_of_header, words_named, fields_of_head, fields_among, field_line, field_lines}
+use Rattle.nntp_article.specs.{Inner.Fields.{is_word, AreWords}, Session.Spool.{is_line}, declared.article.field.Field.TheVariants.{Subject, From, Date}}
+use Rattle.nntp_article.{specs.declared.article.field.Field.TheVariants.{References}, proofs.ArticleLemmas.HeadLemmas.{after, more-no, after-no, headers-cons}}
+use Rattle.nntp_article.proofs.ArticleLemmas.IdLemmas.{is_solid, words-solid, words-solid_then}
 
 -- ---- words behind spaces
 
@@ -32,7 +33,9 @@ words-spaced (word ∷ next ∷ words) h =
 -- a line that begins no header before others, which don't either
 one_line : (line : Line) (lines : List Line) → continues_first lines ≡ false → headers (line ∷ lines) ≡ (line ∷ []) ∷ headers lines
 one_line line [] h = refl
-one_line line (next ∷ lines) h = headers-cons line (next ∷ lines) ∙ ap (λ ls. (line ∷ ls) ∷ headers (after (next ∷ lines))) (more-no next lines h) ∙ ap (λ ls. (line ∷ []) ∷ headers ls) (after-no next lines h)
+one_line line (next ∷ lines) h = headers-cons line (next ∷ lines)
+    ∙ ap (λ ls. (line ∷ ls) ∷ headers (after (next ∷ lines))) (more-no next lines h)
+    ∙ ap (λ ls. (line ∷ []) ∷ headers ls) (after-no next lines h)
 
 -- what stands in front of the words of a line
 abbrev Start : Type 0
@@ -126,7 +129,8 @@ module _ (fields : Fields) (words : AreWords fields) where
       (none_of_references (codes "Date") (λ xs. refl))
 
   references_told : words_named (codes "References") (headers subject_on) ≡ fields.references
-  references_told = ap (λ hs. option_map_or words_of_header (slice_get hs 0) []) (others (codes "Subject:") (λ xs. refl) (λ xs. refl) (codes "References") (λ xs. refl) fields.subject from_on from_start
+  references_told = ap (λ hs. option_map_or words_of_header (slice_get hs 0) [])
+      (others (codes "Subject:") (λ xs. refl) (λ xs. refl) (codes "References") (λ xs. refl) fields.subject from_on from_start
       ∙ others (codes "From:") (λ xs. refl) (λ xs. refl) (codes "References") (λ xs. refl) fields.from date_on date_start
       ∙ others (codes "Date:") (λ xs. refl) (λ xs. refl) (codes "References") (λ xs. refl) fields.date references_on references_start)
       ∙ own (codes "References:") (λ xs. refl) (λ xs. refl) (codes "References") (λ xs. refl) (λ xs. append-nil (words_of xs)) fields.references (words References) [] refl refl
@@ -159,7 +163,8 @@ module _ (fields : Fields) (words : AreWords fields) where
   pub made_says : (id : List ℕ) → filter (is_named (codes "Message-ID")) (headers (made id)) ≡ ((codes "Message-ID: " ++ id) ∷ []) ∷ []
   made_says id = ap (filter (is_named (codes "Message-ID"))) (made_headers id)
       ∙ ap (λ hs. ((codes "Message-ID: " ++ id) ∷ []) ∷ hs)
-      (others (codes "Subject:") (λ xs. refl) (λ xs. refl) (codes "Message-ID") (λ xs. refl) fields.subject from_on from_start ∙ none_of_from (codes "Message-ID") (λ xs. refl) (λ xs. refl) (λ xs. refl))
+      (others (codes "Subject:") (λ xs. refl) (λ xs. refl) (codes "Message-ID") (λ xs. refl) fields.subject from_on from_start
+      ∙ none_of_from (codes "Message-ID") (λ xs. refl) (λ xs. refl) (λ xs. refl))
 
 -- ---- octets of lines
 

@@ -1,6 +1,6 @@
 -- The words of a header, line by line, and the first header of a name.
-use Rattle.std.proofs.Common.{◌≡◌, ℕ, Bool, true, false, List, [], ◌∷◌, Some, refl, sym, ◌∙◌, ap, arith}
-use Rattle.std.{proofs.lemmas.Bool.{false≢true, Decides.{nat_tests}}, specs.List.{flat_map, before_first, after_first}}
+use Rattle.std.proofs.{Common.{◌≡◌, ℕ, Bool, true, false, List, [], ◌∷◌, Some, refl, sym, ◌∙◌, ap, arith}, lemmas.Bool.{false≢true, Decides.{nat_tests}}}
+use Rattle.std.specs.List.{flat_map, before_first, after_first}
 use Rattle.nntp_wire.specs.{Octets.{is_blank}, Words.{words_of, is_same_word}}
 use Rattle.nntp_article.specs.Article.{Parts.{Line, is_colon, is_continuation, headers, is_named}, Fields.{name_of_field, words_named}}
 use Rattle.nntp_article.specs.{Inner.{Fields.{words_left}, Parts.{more}}, declared.article.field.Field.{Field, TheVariants.{Subject, From, Date, References}}}

@@ -1,7 +1,8 @@
 -- The headers of lines, from the front.
 use Rattle.std.proofs.{Common.{◌≡◌, ℕ, suc, ◌+◌, Bool, true, false, List, [], ◌∷◌, take, drop, refl, sym, ◌∙◌, ap, arith}, lemmas.Bool.{and_parts}}
 use Rattle.std.{proofs.lemmas.Bool.Decides.{nat_tests}, specs.{Prelude.{◌&&◌}, List.{list_all, prefix_len, before_first}}}
-use Rattle.nntp_article.specs.{Article.Parts.{Line, is_colon, name_of, is_continuation, begins_header, is_header, headers, is_head}, Inner.Parts.{is_head_line, more}}
+use Rattle.nntp_article.specs.{Article.Parts.{Line, is_colon, name_of, is_continuation, begins_header, is_header, headers, is_head}, Inner.Parts.{is_head_line}}
+use Rattle.nntp_article.specs.Inner.Parts.{more}
 
 -- the lines behind those that continue the header before them
 abbrev pub after : List Line → List Line

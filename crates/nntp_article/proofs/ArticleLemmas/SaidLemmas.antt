@@ -2,10 +2,10 @@
 use Rattle.std.proofs.Common.{Bor, ◌≡◌, ◌≢◌, ℕ, Bool, true, false, List, [], ◌∷◌, ◌++◌, Option, None, Some, refl, sym, ◌∙◌, ap, arith}
 use Rattle.std.{proofs.lemmas.Bool.{false≢true, true≢false}, specs.{Prelude.{if◌then◌else◌, codes}, Option.{SomeIff}, List.{filter, flat_map, after_first}}}
 use Rattle.nntp_wire.{specs.{Words.{words_of}, Name.{IsMessageId}, Decided.{is_message_id}}, proofs.DecidedLemmas.{message_id-iff}}
-use Rattle.nntp_article.specs.{Article.Parts.{Line, Id, Header, is_continuation, is_colon, headers, is_named, only_id, said_id}, Inner.{SaidId.{names_id}, Parts.{more}}}
-use Rattle.nntp_article.specs.{Inner.SaidId.{id_alone, id_with, ids_behind}, declared.article.said_id.Found.{Found, TheVariants.{NoHeader, NoWord, Word}}}
-use Rattle.nntp_article.proofs.ArticleLemmas.{HeadLemmas.{after, more-yes, more-all, after-yes, after-no, headers-cons}, WordLemmas.{words-lines}}
-use Rattle.nntp_article.proofs.ArticleLemmas.IdLemmas.{content-id}
+use Rattle.nntp_article.specs.{Article.Parts.{Line, Id, Header, is_continuation, is_colon, headers, is_named, only_id, said_id}, Inner.SaidId.{names_id}}
+use Rattle.nntp_article.specs.{Inner.{SaidId.{id_alone, id_with, ids_behind}, Parts.{more}}, declared.article.said_id.Found.{Found, TheVariants.{NoHeader}}}
+use Rattle.nntp_article.{specs.declared.article.said_id.Found.TheVariants.{NoWord, Word}, proofs.ArticleLemmas.HeadLemmas.{after, more-yes, more-all}}
+use Rattle.nntp_article.proofs.ArticleLemmas.{HeadLemmas.{after-yes, after-no, headers-cons}, WordLemmas.{words-lines}, IdLemmas.{content-id}}
 
 abbrev is_id_header : Header → Bool
 is_id_header header = is_named (codes "Message-ID") header

@@ -1,12 +1,13 @@
 -- What heads and overviews tell, where their lines are lines, are words.
 use Rattle.std.proofs.Common.{◌≡◌, ℕ, zero, suc, ◌+◌, Bool, true, false, ◌&&◌, IsTrue, List, [], ◌∷◌, Option, None, Some, drop, refl, ◌∙◌, ap, arith}
-use Rattle.std.proofs.lemmas.{Bool.{and_parts, and_from, Decides.{nat_tests}}, List.{Folds.{list_all-append}, Splits.{slice_split-cons_yes, slice_split-cons_no}}}
-use Rattle.std.specs.{Prelude.{◌==◌, codes, IfSome}, List.{list_all, flat_map, filter, slice_split, onto_first, position_or_len, AllByRecursion, cons_option}}
-use Rattle.nntp_wire.specs.{Octets.{is_blank, tab}, Words.{words_of, is_some_octets}}
-use Rattle.nntp_wire.specs.Listing.{OverviewValue, overview_by, overview_of, overview_of_fields, overviews_of, first_words, fields_of, number_alone, id_alone}
-use Rattle.nntp_article.specs.Article.{Parts.{Line, Header, is_colon, with_line, headers, is_named}, Fields.{Word, words_in, words_of_header, words_named, fields_told, fields_of_head}}
-use Rattle.nntp_article.specs.{Inner.Fields.{is_word, AreWords}, Session.Spool.{is_line}, declared.article.field.Field.{Field, TheVariants.{Subject, From, Date, References}}}
-use Rattle.nntp_article.proofs.ArticleLemmas.IdLemmas.{is_solid}
+use Rattle.std.proofs.lemmas.{Bool.{and_parts, and_from, Decides.{nat_tests}}, List.{Folds.{list_all-append}, Splits.{slice_split-cons_yes}}}
+use Rattle.std.{proofs.lemmas.List.Splits.{slice_split-cons_no}, specs.{Prelude.{◌==◌, codes, IfSome}, List.{list_all, flat_map, filter, slice_split}}}
+use Rattle.std.specs.List.{onto_first, position_or_len, AllByRecursion, cons_option}
+use Rattle.nntp_wire.specs.{Octets.{is_blank, tab}, Words.{words_of, is_some_octets}, Listing.{OverviewValue, overview_by, overview_of, overview_of_fields}}
+use Rattle.nntp_wire.specs.Listing.{overviews_of, first_words, fields_of, number_alone, id_alone}
+use Rattle.nntp_article.specs.Article.{Parts.{Line, Header, is_colon, with_line, headers, is_named}, Fields.{Word, words_in, words_of_header, words_named}}
+use Rattle.nntp_article.specs.{Article.Fields.{fields_told, fields_of_head}, Inner.Fields.{is_word, AreWords}, Session.Spool.{is_line}}
+use Rattle.nntp_article.{specs.declared.article.field.Field.{Field, TheVariants.{Subject, From, Date, References}}, proofs.ArticleLemmas.IdLemmas.{is_solid}}
 
 -- ---- the words of a line
 

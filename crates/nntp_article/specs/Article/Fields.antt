@@ -1,7 +1,8 @@
 -- The four headers that an overview tells of (RFC 3977, section 8.3.2).
 use Rattle.std.specs.{Prelude.{ℕ, List, [], ◌∷◌, ◌++◌, Option, slice_get, codes}, List.{filter, flat_map, after_first}, Option.{option_map_or}}
 use Rattle.nntp_wire.specs.{Words.{words_of}, Octets.{space}, Listing.{OverviewValue}}
-use Rattle.nntp_article.specs.{Article.Parts.{Line, Id, Header, headers, is_named, is_colon}, declared.article.field.Field.{Field, TheVariants.{Subject, From, Date, References}}}
+use Rattle.nntp_article.specs.{Article.Parts.{Line, Id, Header, headers, is_named, is_colon}, declared.article.field.Field.{Field, TheVariants.{Subject, From}}}
+use Rattle.nntp_article.specs.declared.article.field.Field.TheVariants.{Date, References}
 
 -- a word of a line
 abbrev pub Word : Type 0

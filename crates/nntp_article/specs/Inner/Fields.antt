@@ -1,8 +1,8 @@
 -- What is said with the words of `Article/Fields.antt`, and needn't be believed.
 use Rattle.std.specs.{Prelude.{Bool, not, ◌&&◌, IsTrue, List, ◌++◌, Option, None, Some}, List.{list_all, flat_map}}
 use Rattle.nntp_wire.specs.{Words.{is_some_octets, words_of}, Octets.{is_blank}}
-use Rattle.nntp_article.specs.{Article.{Parts.{Line}, Fields.{Word, Fields, words_in}}, Inner.Parts.{more}}
-use Rattle.nntp_article.specs.{Session.Spool.{is_line}, declared.article.field.Field.{Field}}
+use Rattle.nntp_article.specs.{Article.{Parts.{Line}, Fields.{Word, Fields, words_in}}, Inner.Parts.{more}, Session.Spool.{is_line}}
+use Rattle.nntp_article.specs.declared.article.field.Field.{Field}
 
 -- some octets of a line, none of which is a blank
 abbrev pub is_word : Word → Bool

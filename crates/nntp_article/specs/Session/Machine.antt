@@ -10,8 +10,8 @@ use Rattle.nntp_wire.specs.declared.{water_marks.WaterMarks.{WaterMarks}, marks.
 use Rattle.nntp_wire.specs.declared.command.{What.{What, TheVariants.{Article, Head, Body, Stat}}, OverviewKeyword.{OverviewKeyword, TheVariants.{Over, Xover}}}
 use Rattle.nntp_wire.specs.{Session.{closes}, Listing.{ActiveValue, OverviewValue, listed_numbers, active_groups, overviews_of}, Wildmat.{MatchesName}}
 use Rattle.nntp_wire.specs.Decided.{matches_name}
-use Rattle.nntp_article.specs.{Article.{Parts.{Line, Id, is_empty, is_head, said_id, head_part}, Fields.{fields_of_head, fields_told}}, Session.Spool.{Name, Spool, Numbers, IsGroup, IsNumber}}
-use Rattle.nntp_article.specs.Session.Spool.{numbers, least, IsNextAbove, IsNextBelow, NoneAbove, NoneBelow, Lists, HasText}
+use Rattle.nntp_article.specs.{Article.{Parts.{Line, Id, is_empty, is_head, said_id, head_part}, Fields.{fields_of_head, fields_told}}, Session.Spool.{Name}}
+use Rattle.nntp_article.specs.Session.Spool.{Spool, Numbers, IsGroup, IsNumber, numbers, least, IsNextAbove, IsNextBelow, NoneAbove, NoneBelow, Lists, HasText}
 use Rattle.nntp_article.specs.declared.session.profile.Profile.{Profile}
 
 -- what a session shows of its state, whatever the spool

@@ -3,8 +3,9 @@ use Rattle.std.proofs.{Math.Bool.{or-false}, Common.{◌≡◌, ℕ, false, cond
 use Rattle.nntp_wire.specs.{Listing.{OverviewValue}, declared.range.Range.{Range}}
 use Rattle.nntp_article.specs.{Article.Parts.{Id}, Session.{Spool.{Name}, Machine.{is_same, is_ascending, all_differ, overview_numbers, overview_ids}}}
 use Rattle.nntp_said.specs.{Asks.{ListsIn}, Facts.{OverviewsAre}}
-use Rattle.nntp_theory.{specs.{Given.{asks_of, first_given, id_in, has_overview_of, fields_of_overview}, Together.{number_in}, Inner.Together.{said_of, AgreesWithItself}}, proofs.Members.{In}}
-use Rattle.nntp_theory.proofs.{Members.{each_of, first_there, in_map, in_back}, Together.{ListedOverviews.{apart_agree}, TwoListsOfFacts.{or_none}}}
+use Rattle.nntp_theory.specs.{Given.{asks_of, first_given, id_in, has_overview_of, fields_of_overview}, Together.{number_in}, Inner.Together.{said_of}}
+use Rattle.nntp_theory.{specs.Inner.Together.{AgreesWithItself}, proofs.Members.{In, each_of, first_there, in_map, in_back}}
+use Rattle.nntp_theory.proofs.Together.{ListedOverviews.{apart_agree}, TwoListsOfFacts.{or_none}}
 use Rattle.nntp_facts.specs.Inner.{ListedOverviews.{HaveOwn, id_listed, place_listed}, KeptSaying.{said_listed}}
 
 -- ---- what the first gives

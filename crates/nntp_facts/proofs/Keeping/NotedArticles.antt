@@ -6,10 +6,10 @@ use Rattle.nntp_wire.{specs.declared.command.What.{What}, proofs.ShownMaps.{inse
 use Rattle.nntp_article.specs.Article.{Parts.{Id, Line}, Fields.{Fields}}
 use Rattle.nntp_said.specs.Facts.{Fact}
 use Rattle.nntp_theory.{specs.Together.{shows_article}, proofs.Together.TwoListsOfFacts.{or_none}}
-use Rattle.nntp_facts.specs.Inner.{Kept.{KeptArticle, AreKeptArticles, IsAddedIf}, Articles.{head_sent, body_sent, MayBeSent, MayBeTold, denied, unsent, telling, with_sent}}
-use Rattle.nntp_facts.specs.Inner.{Articles.{with_told, is_there, with_new}, Saying.{Lacks, Exists, Sends}, KeptSaying.{kept_by, said_alone, IsSaidAdded, IsArticleAdded}}
-use Rattle.nntp_facts.proofs.Keeping.KeptArticles.{Articles, get_elsewhere, get_there, new_elsewhere, new_there, MayKeep, kept_with, article_joins}
-use Rattle.nntp_facts.proofs.Keeping.KeptArticles.{article_kept, shown_kept}
+use Rattle.nntp_facts.specs.Inner.{Kept.{KeptArticle, AreKeptArticles, IsAddedIf}, Articles.{head_sent, body_sent, MayBeSent, MayBeTold, denied, unsent}}
+use Rattle.nntp_facts.specs.Inner.{Articles.{telling, with_sent, with_told, is_there, with_new}, Saying.{Lacks, Exists, Sends}, KeptSaying.{kept_by}}
+use Rattle.nntp_facts.{specs.Inner.KeptSaying.{said_alone, IsSaidAdded, IsArticleAdded}, proofs.Keeping.KeptArticles.{Articles, get_elsewhere, get_there}}
+use Rattle.nntp_facts.proofs.Keeping.KeptArticles.{new_elsewhere, new_there, MayKeep, kept_with, article_joins, article_kept, shown_kept}
 
 -- what is kept of an id of which nothing was sent
 abbrev bare : Bool → KeptArticle

@@ -5,11 +5,11 @@ use Rattle.nntp_article.specs.{Article.Parts.{Id}, Inner.Listed.{Lists}}
 use Rattle.nntp_wire.specs.{Listing.{ActiveValue, OverviewValue}, declared.range.Range.{Range}}
 use Rattle.nntp_said.specs.{Asks.{Ask}, Facts.{Fact, OverviewsAre, GroupsAre}}
 use Rattle.nntp_theory.specs.Inner.Together.{IsWellFormed, said_of, join_said, Together, Join}
-use Rattle.nntp_facts.specs.Inner.{ListedGroups.{MayList}, Saying.{OfGroup, OfArticle, Saying, facts_in, AreListed, IsToExist, MayBeOf, Tells, MaySay}}
-use Rattle.nntp_facts.specs.Inner.{Saying.{listing, overviews_facts}, Kept.{Kept, IsKept, AreKeptNames, AreKeptGroups, AreAdded}}
-use Rattle.nntp_facts.specs.Inner.{KeptSaying.{MayListOf, IsTextOf, JoinGroups, MayBeSaid, ArticleJoins, IsArticleAdded}}
-use Rattle.nntp_facts.proofs.Keeping.OverviewsTold.{plain_told, plain_if, group_there, of_range, overviews_told, no_id_there, asks_there}
-use Rattle.nntp_facts.proofs.Keeping.{PartsJoin.{parts_join, said_of_parts}, SaidOfArticles.{said_append}, KeptArticles.{Articles}}
+use Rattle.nntp_facts.specs.Inner.{ListedGroups.{MayList}, Saying.{OfGroup, OfArticle, Saying, facts_in, AreListed, IsToExist, MayBeOf, Tells, MaySay, listing}}
+use Rattle.nntp_facts.specs.Inner.{Saying.{overviews_facts}, Kept.{Kept, IsKept, AreKeptNames, AreKeptGroups, AreAdded}, KeptSaying.{MayListOf, IsTextOf}}
+use Rattle.nntp_facts.{specs.Inner.KeptSaying.{JoinGroups, MayBeSaid, ArticleJoins, IsArticleAdded}, proofs.Keeping.OverviewsTold.{plain_told, plain_if}}
+use Rattle.nntp_facts.proofs.Keeping.{OverviewsTold.{group_there, of_range, overviews_told, no_id_there, asks_there}, PartsJoin.{parts_join, said_of_parts}}
+use Rattle.nntp_facts.proofs.Keeping.{SaidOfArticles.{said_append}, KeptArticles.{Articles}}
 
 -- what has the same parts is the same
 pub kept_is : (a b : Kept) → a.groups ≡ b.groups → a.names ≡ b.names → a.articles ≡ b.articles → a ≡ b

@@ -6,19 +6,18 @@ use Rattle.std.specs.{Cmp.Lexicographic.{same_text}, FinMap.{get}}
 use Rattle.nntp_wire.specs.{Listing.{OverviewValue}, declared.range.Range.{Range}}
 use Rattle.nntp_article.specs.{Article.{Parts.{Id}, Fields.{Fields, fields_told}}, Session.{Spool.{Name}, Machine.{is_same, overview_numbers}}}
 use Rattle.nntp_said.specs.{Asks.{Ask, ListsIn}, Facts.{Fact, OverviewsAre}}
-use Rattle.nntp_theory.specs.{Given.{asks_of, shows_group, is_shown_group, first_given, id_of_overview, id_in}, Together.{number_of_overview, number_in}}
-use Rattle.nntp_theory.specs.Given.{has_overview_of, fields_of_overview, fields_in}
-use Rattle.nntp_theory.specs.{Together.{denies_article}, Inner.Together.{AsksStand, IsWellFormed, JoinNumbers, JoinIds, Together, Join, SaidOfArticle, said_of, AreSame}}
-use Rattle.nntp_theory.{specs.Inner.Together.{said_nothing, join_said}, proofs.Members.{In, all_at, all_from, all_back, any_in, found_in}}
-use Rattle.nntp_theory.proofs.Together.{FactsOfASpoolStand.{same_itself}, FactsJoin.{asks_append}, TwoListsOfFacts.{given_append, given_silent, or_none, any_silent}}
-use Rattle.nntp_theory.proofs.Together.ListedOverviews.{overview_at, overview_of, told_by}
+use Rattle.nntp_theory.specs.Given.{asks_of, shows_group, is_shown_group, first_given, id_of_overview, id_in, has_overview_of, fields_of_overview, fields_in}
+use Rattle.nntp_theory.specs.{Together.{number_of_overview, number_in, denies_article}, Inner.Together.{AsksStand, IsWellFormed, JoinNumbers, JoinIds}}
+use Rattle.nntp_theory.{specs.Inner.Together.{Together, Join, SaidOfArticle, said_of, AreSame, said_nothing, join_said}, proofs.Members.{In, all_at, all_from}}
+use Rattle.nntp_theory.proofs.{Members.{all_back, any_in, found_in}, Together.{FactsOfASpoolStand.{same_itself}, FactsJoin.{asks_append}}}
+use Rattle.nntp_theory.proofs.Together.{TwoListsOfFacts.{given_append, given_silent, or_none, any_silent}, ListedOverviews.{overview_at, overview_of, told_by}}
 use Rattle.nntp_facts.specs.Inner.Kept.{Kept, KeptArticle, IsKept, Told, told, AreKept, AreKeptNames, AreKeptArticles, with_part, Changes, MayShow, said_kept}
 use Rattle.nntp_facts.specs.Inner.KeptSaying.{IsSaidKept, IsSaidAdded, MayGive, MayBeGiven, with_overviews, said_alone, said_listed}
 use Rattle.nntp_facts.specs.Inner.{ListedOverviews.{HaveOwn, OverviewJoins, id_listed, place_listed}, Articles.{telling}}
-use Rattle.nntp_facts.proofs.Keeping.{KeptNamesAndGroups.{names_kept}, KeptArticles.{Articles, MayKeep, article_joins, denied_kept}, ListedOverviews.{listed_asks}}
-use Rattle.nntp_facts.proofs.Keeping.{ListedOverviews.{listed_ids, listed_places, listed_said, own_agree, none_in_front}, FactsOfOneGroup.{IsOr, asked_here}}
-use Rattle.nntp_facts.proofs.Keeping.{FactsOfOneGroup.{asked_elsewhere}, PartsJoin.{agree_told}, SaidOfArticles.{said_append}, SilentFacts.{numbers_join}}
-use Rattle.nntp_facts.proofs.Keeping.SilentFacts.{told_same}
+use Rattle.nntp_facts.proofs.Keeping.{KeptNamesAndGroups.{names_kept}, KeptArticles.{Articles, MayKeep, article_joins, denied_kept}}
+use Rattle.nntp_facts.proofs.Keeping.{ListedOverviews.{listed_asks, listed_ids, listed_places, listed_said, own_agree, none_in_front}, FactsOfOneGroup.{IsOr}}
+use Rattle.nntp_facts.proofs.Keeping.{FactsOfOneGroup.{asked_here, asked_elsewhere}, PartsJoin.{agree_told}, SaidOfArticles.{said_append}}
+use Rattle.nntp_facts.proofs.Keeping.SilentFacts.{numbers_join, told_same}
 
 -- what is told of a group, once its numbers have the ids of these overviews
 abbrev pub with_listed : Told → List OverviewValue → Told

@@ -8,16 +8,16 @@ use Rattle.nntp_said.specs.{Asks.{Ask}, Facts.{Fact}}
 use Rattle.nntp_theory.specs.{Given.{asks_of, is_shown_group, first_given, id_in}, Inner.Together.{IsWellFormed, AgreesWithItself, said_of, said_nothing}}
 use Rattle.nntp_theory.specs.{Inner.Together.{join_said, Together, JoinNames, JoinNumbers, JoinIds, JoinArticle, Join}, Together.{denies_group, number_in}}
 use Rattle.nntp_theory.proofs.Together.{TwoListsOfFacts.{given_append}, FactsJoin.{asks_append}, FactsOfASpoolStand.{same_itself}}
-use Rattle.nntp_theory.proofs.{Members.{all_both}, Together.ListedOverviews.{alone_agrees}}
-use Rattle.nntp_theory.proofs.Ids.OnePlaceOfAnId.{agree_together, shown_with_id}
-use Rattle.nntp_facts.specs.Inner.Saying.{OfGroup, OfArticle, Lacks, Exists, Describes, Saying, asked_id, sent_facts, lack_facts, there_facts, missing_facts, groups_facts}
-use Rattle.nntp_facts.specs.Inner.{Saying.{id_facts, group_facts, facts_in, MaySay, IsToExist, MayBeOf, IsShownThen}, Kept.{told, Told, IsUntold, AreKept}}
-use Rattle.nntp_facts.specs.Inner.{Kept.{AreKeptGroups, with_part, Changes, Agree, IsShownAt, MayShow, AreKeptWith, id_of, place_of}, KeptSaying.{GroupJoins}}
-use Rattle.nntp_facts.{specs.Inner.KeptSaying.{JoinGroups, said_in, ArticleJoins}, proofs.Keeping.{KeptNamesAndGroups.{groups_kept}, KeptGroups.{Groups}}}
-use Rattle.nntp_facts.proofs.Keeping.{FactsOfOneGroup.{AskOf, asked_here, asked_elsewhere, GivesId, gives_joins}, FactsOfParts.{given_is_read, asks_are_read}}
-use Rattle.nntp_facts.proofs.Keeping.FactsOfParts.{ids_in, of_articles, of_group, group_asks, group_ids, group_places, shown_group, denied_group}
-use Rattle.nntp_facts.proofs.Keeping.{SaidOfArticles.{nothing_more, said_is_read, lack_said, there_said, text_said, text_at, overview_said, overview_at}, SilentFacts.{numbers_join}}
-use Rattle.nntp_facts.proofs.Keeping.SilentFacts.{no_numbers_join, GiveNoIds, ids_join, told_same}
+use Rattle.nntp_theory.proofs.{Together.ListedOverviews.{alone_agrees}, Members.{all_both}, Ids.OnePlaceOfAnId.{agree_together, shown_with_id}}
+use Rattle.nntp_facts.specs.Inner.Saying.{OfGroup, OfArticle, Lacks, Exists, Describes, Saying, asked_id, sent_facts, lack_facts, there_facts, missing_facts}
+use Rattle.nntp_facts.specs.Inner.{Saying.{groups_facts, id_facts, group_facts, facts_in, MaySay, IsToExist, MayBeOf, IsShownThen}, Kept.{told, Told, IsUntold}}
+use Rattle.nntp_facts.specs.Inner.Kept.{AreKept, AreKeptGroups, with_part, Changes, Agree, IsShownAt, MayShow, AreKeptWith, id_of, place_of}
+use Rattle.nntp_facts.{specs.Inner.KeptSaying.{GroupJoins, JoinGroups, said_in, ArticleJoins}, proofs.Keeping.KeptNamesAndGroups.{groups_kept}}
+use Rattle.nntp_facts.proofs.Keeping.{KeptGroups.{Groups}, FactsOfOneGroup.{AskOf, asked_here, asked_elsewhere, GivesId, gives_joins}}
+use Rattle.nntp_facts.proofs.Keeping.FactsOfParts.{given_is_read, asks_are_read, ids_in, of_articles, of_group, group_asks, group_ids, group_places}
+use Rattle.nntp_facts.proofs.Keeping.{FactsOfParts.{shown_group, denied_group}, SaidOfArticles.{nothing_more, said_is_read, lack_said, there_said, text_said}}
+use Rattle.nntp_facts.proofs.Keeping.{SaidOfArticles.{text_at, overview_said, overview_at}, SilentFacts.{numbers_join, no_numbers_join, GiveNoIds, ids_join}}
+use Rattle.nntp_facts.proofs.Keeping.SilentFacts.{told_same}
 use Rattle.nntp_numbers.specs.Inner.{Summary.{AreBounded}, Part.{Says}}
 
 -- ---- articles

@@ -1,13 +1,14 @@
 -- What facts say of ids: of two lists, one behind the other, and of single facts.
-use Rattle.std.proofs.{Common.{◌≡◌, ℕ, Bool, true, false, ◌||◌, cond, MatchOption, List, [], ◌∷◌, ◌++◌, Option, None, Some, refl, sym, ap, subst, ◌∙◌, arith}, lemmas.Bool.{true≢false}}
-use Rattle.std.{proofs.{lemmas.List.Folds.{list_any-append}, Math.Bool.{or-false}}, specs.{Option.{option_or}, Cmp.Lexicographic.{slice_cmp}, Ordering.{nat_cmp}, FinMap.{FinMap}}}
+use Rattle.std.proofs.Common.{◌≡◌, ℕ, Bool, true, false, ◌||◌, cond, MatchOption, List, [], ◌∷◌, ◌++◌, Option, None, Some, refl, sym, ap, subst, ◌∙◌, arith}
+use Rattle.std.{proofs.{lemmas.{Bool.{true≢false}, List.Folds.{list_any-append}}, Math.Bool.{or-false}}, specs.Option.{option_or}}
+use Rattle.std.specs.{Cmp.Lexicographic.{slice_cmp}, Ordering.{nat_cmp}, FinMap.{FinMap}}
 use Rattle.nntp_wire.specs.{Listing.{OverviewValue}, declared.command.What.{What}}
 use Rattle.nntp_article.specs.{Article.{Parts.{Id, Line}, Fields.{fields_told}}, Session.{Spool.{Name}, Machine.{is_same, only}}}
 use Rattle.nntp_said.specs.Facts.{Fact, IdAt, TextIs, NoArticle, FieldsAre}
 use Rattle.nntp_theory.specs.{Given.{head_in, body_in}, Inner.Together.{SaidOfArticle, said_of, said_nothing, join_said, JoinArticle, JoinArticles}}
 use Rattle.nntp_theory.proofs.Together.TwoListsOfFacts.{given_append, or_none}
-use Rattle.nntp_facts.specs.Inner.{Kept.{KeptArticle, said_kept, AreKeptArticles}, Articles.{head_sent, body_sent, telling}, Saying.{Lacks, Exists, Sends, Describes}, KeptSaying.{said_in, said_alone}}
-use Rattle.nntp_facts.proofs.Keeping.FactsOfParts.{IsRead}
+use Rattle.nntp_facts.specs.Inner.{Kept.{KeptArticle, said_kept, AreKeptArticles}, Articles.{head_sent, body_sent, telling}, Saying.{Lacks, Exists, Sends}}
+use Rattle.nntp_facts.{specs.Inner.{Saying.{Describes}, KeptSaying.{said_in, said_alone}}, proofs.Keeping.FactsOfParts.{IsRead}}
 
 -- ---- one list behind the other
 

@@ -3,8 +3,8 @@ use Rattle.std.proofs.{Common.{◌≡◌, IsTrue, false, List, [], ◌∷◌, Op
 use Rattle.std.specs.{Prelude.{option_map, is_some}, List.{AllByRecursion, list_all}}
 use Rattle.nntp_wire.specs.{Block.{AreClean}, Octets.{is_clean}, Inner.Octets.{are_octets}, Listing.{overviews_of}}
 use Rattle.nntp_article.specs.{Article.{Parts.{Line}, Fields.{fields_told, fields_of_head}}, Inner.Fields.{AreWords}, Session.Spool.{is_line}}
-use Rattle.nntp_facts.specs.{Inner.ArticleView.{known_article}, declared.articles.known.KnownArticle.{KnownArticle}}
 use Rattle.nntp_article.proofs.ArticleLemmas.WordsOfLines.{head_has_words, overview_has_words}
+use Rattle.nntp_facts.specs.{Inner.ArticleView.{known_article}, declared.articles.known.KnownArticle.{KnownArticle}}
 
 -- clean octets are lines
 are_lines : (lines : List Line) → AreClean lines → IsTrue (list_all are_octets lines) → AllByRecursion (λ line. IsTrue (is_line line)) lines

@@ -1,17 +1,17 @@
 -- Points that are about headers, where what an answer tells of them conflicts with what is kept.
 use Rattle.std.proofs.Common.{◌≡◌, true, false, IsTrue, List, [], ◌∷◌, ◌++◌, Option, None, Some, MatchOption, inl, inr, refl, sym, ap, subst, ◌∙◌, arith}
-use Rattle.std.proofs.lemmas.Bool.{true≢false}
-use Rattle.std.specs.{Prelude.{◌≢◌, IfSome, option_map, is_some}, List.{AllByRecursion}, Option.{option_map_or}, FinMap.{get}}
+use Rattle.std.{proofs.lemmas.Bool.{true≢false}, specs.{Prelude.{◌≢◌, IfSome, option_map, is_some}, List.{AllByRecursion}, Option.{option_map_or}}}
+use Rattle.std.specs.FinMap.{get}
 use Rattle.nntp_wire.specs.{Listing.{OverviewValue}, declared.{command.What.{What}, range.Range.{Range}}}
-use Rattle.nntp_article.specs.{Article.{Parts.{Id, Line}, Fields.{Fields, fields_told, fields_of_head, words_in}}, declared.{article.field.Field.{Field}, session.profile.Profile.{Profile}}}
-use Rattle.nntp_article.specs.Session.Machine.{head_fits, only}
+use Rattle.nntp_article.specs.{Article.{Parts.{Id, Line}, Fields.{Fields, fields_told, fields_of_head, words_in}}, declared.article.field.Field.{Field}}
+use Rattle.nntp_article.specs.{declared.session.profile.Profile.{Profile}, Session.Machine.{head_fits, only}}
 use Rattle.nntp_said.specs.Facts.{Fact}
-use Rattle.nntp_theory.specs.{Given.{first_given, fields_in, fields_of_overview}, Together.{GiveOne}, Inner.Together.{SaidOfArticle, AreSame}}
-use Rattle.nntp_theory.{specs.Conflict.{Point, ConflictAt, words_told}, proofs.{Members.{In, all_at, all_from, part_first}, PointsByRank.{of_rank}}}
+use Rattle.nntp_theory.specs.{Given.{first_given, fields_in, fields_of_overview}, Together.{GiveOne}, Inner.Together.{SaidOfArticle, AreSame}, Conflict.{Point}}
+use Rattle.nntp_theory.{specs.Conflict.{ConflictAt, words_told}, proofs.{Members.{In, all_at, all_from, part_first}, PointsByRank.{of_rank}}}
 use Rattle.nntp_theory.proofs.Together.{TwoListsOfFacts.{give_one_both, give_same_of_both}, ListedOverviews.{told_by}}
-use Rattle.nntp_facts.specs.Inner.{Kept.{Kept, said_kept}, Articles.{head_sent}, Saying.{OfArticle, Sends, Describes, MayBeOf}, KeptSaying.{said_in, said_listed, kept_by}}
-use Rattle.nntp_facts.specs.Inner.Points.{IsPointOf, IsBeside, IsFieldOf, IsFieldAmong, IsOtherField, OneTellsOther, Statement, said_by}
-use Rattle.nntp_facts.proofs.Keeping.{OverviewsTold.{of_range}, ListedOverviews.{own_agree}}
+use Rattle.nntp_facts.specs.Inner.{Kept.{Kept, said_kept}, Articles.{head_sent}, Saying.{OfArticle, Sends, Describes, MayBeOf}, KeptSaying.{said_in}}
+use Rattle.nntp_facts.specs.Inner.{KeptSaying.{said_listed, kept_by}, Points.{IsPointOf, IsBeside, IsFieldOf, IsFieldAmong, IsOtherField, OneTellsOther}}
+use Rattle.nntp_facts.{specs.Inner.Points.{Statement, said_by}, proofs.Keeping.{OverviewsTold.{of_range}, ListedOverviews.{own_agree}}}
 use Rattle.nntp_facts.proofs.PointsFound.{StatementsRead.{article_told}, KindsOfPoints.{alone_once}, ArticlesBeside.{own, others, said_plain}}
 
 -- ---- of one header what is given of all

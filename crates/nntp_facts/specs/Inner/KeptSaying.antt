@@ -5,8 +5,9 @@ use Rattle.std.specs.FinMap.{FinMap, get}
 use Rattle.nntp_wire.specs.{Listing.{OverviewValue}, declared.range.Range.{Range}}
 use Rattle.nntp_article.specs.{Article.{Parts.{Id}, Fields.{fields_told}}, Session.{Spool.{Name}, Machine.{is_same, head_fits, overview_numbers, only}}}
 use Rattle.nntp_said.specs.{Asks.{Ask, ListsIn}, Facts.{Fact}}
-use Rattle.nntp_theory.specs.{Given.{asks_of, is_shown_group, first_given, has_overview_of, fields_of_overview, fields_in}, Inner.Together.{AsksStand, SaidOfArticle, said_of}}
-use Rattle.nntp_theory.specs.{Inner.Together.{said_nothing, join_said, AreSame, JoinArticle}, Together.{denies_group, shows_article, denies_article}}
+use Rattle.nntp_theory.specs.{Given.{asks_of, is_shown_group, first_given, has_overview_of, fields_of_overview, fields_in}, Inner.Together.{AsksStand}}
+use Rattle.nntp_theory.specs.{Inner.Together.{SaidOfArticle, said_of, said_nothing, join_said, AreSame, JoinArticle}, Together.{denies_group, shows_article}}
+use Rattle.nntp_theory.specs.Together.{denies_article}
 use Rattle.nntp_numbers.specs.Inner.{Part.{Says, only_has}, Summary.{AddsNothing}}
 use Rattle.nntp_facts.specs.Inner.{Saying.{OfGroup, OfArticle, Lacks, Exists, Sends, Describes, Saying, asked_id}, Kept.{KeptGroup, Told, told, Agree, MayShow}}
 use Rattle.nntp_facts.specs.Inner.{Kept.{KeptArticle, said_kept, IsAddedIf}, ListedOverviews.{HaveOwn, id_listed, place_listed}, Articles.{head_sent}}

@@ -1,15 +1,14 @@
 -- What a bad answer and accepted ones say, each by itself, as points of conflict are looked for.
-use Rattle.std.specs.Prelude.{◌≡◌, true, false, ◌<◌, ◌||◌, ◌&&◌, ◌==◌, not, ℕ, Bool, List, [], ◌∷◌, ◌++◌, Option, None, Some, option_map, if◌then◌else◌}
-use Rattle.std.specs.{Prelude.{◌≢◌, ◌⊎◌, MatchOption}, List.{AllByRecursion, flat_map}, Option.{option_map_or}, FinMap.{get}}
+use Rattle.std.specs.Prelude.{◌≡◌, true, false, ◌<◌, ◌||◌, ◌&&◌, ◌==◌, not, ℕ, Bool, List, [], ◌∷◌, ◌++◌, Option, None, Some, option_map, if◌then◌else◌, ◌≢◌}
+use Rattle.std.specs.{Prelude.{◌⊎◌, MatchOption}, List.{AllByRecursion, flat_map}, Option.{option_map_or}, FinMap.{get}}
 use Rattle.nntp_article.specs.{Article.{Parts.{Id}, Fields.{Fields, fields_told, words_in}}, Session.{Spool.{Name}, Machine.{is_same}}}
-use Rattle.nntp_article.specs.declared.{article.field.Field.{Field}, session.profile.Profile.{Profile}}
-use Rattle.nntp_article.specs.Inner.Misfit.{numbers_of}
+use Rattle.nntp_article.specs.{declared.{article.field.Field.{Field}, session.profile.Profile.{Profile}}, Inner.Misfit.{numbers_of}}
 use Rattle.nntp_wire.specs.{Decided.{matches_name}, Listing.{ActiveValue, OverviewValue}}
 use Rattle.nntp_said.specs.{Asks.{Ask, Bounds}, Facts.{Fact, group_of}}
-use Rattle.nntp_theory.specs.{Inner.{Together.{IsWellFormed, AgreeWithin, Together, SaidOfArticle, AreSame}, Conflict.{FitsThere}}, Conflict.{Placed, told, with_group}}
-use Rattle.nntp_theory.specs.Conflict.{Point, Number, Count, First, IdOf, PlaceOf, FieldOf, rank, ConflictAt}
-use Rattle.nntp_facts.specs.Inner.{Kept.{id_of, place_of, Kept, IsKept, said_kept}, ListedGroups.{is_listed}, ListedOverviews.{id_listed, place_listed}, Noted.{FactsKept}}
-use Rattle.nntp_facts.specs.Inner.{Noted.{profile_kept}, KeptSaying.{said_in, said_listed}, Saying.{Saying, Tells}}
+use Rattle.nntp_theory.specs.{Inner.{Together.{IsWellFormed, AgreeWithin, Together, SaidOfArticle, AreSame}, Conflict.{FitsThere}}, Conflict.{Placed, told}}
+use Rattle.nntp_theory.specs.Conflict.{with_group, Point, Number, Count, First, IdOf, PlaceOf, FieldOf, rank, ConflictAt}
+use Rattle.nntp_facts.specs.Inner.{Kept.{id_of, place_of, Kept, IsKept, said_kept}, ListedGroups.{is_listed}, ListedOverviews.{id_listed, place_listed}}
+use Rattle.nntp_facts.specs.Inner.{Noted.{FactsKept, profile_kept}, KeptSaying.{said_in, said_listed}, Saying.{Saying, Tells}}
 
 -- ---- what the last answer of a conflict says
 

@@ -2,7 +2,8 @@
 use Rattle.std.specs.{Prelude.{ℕ, List, Vec, Option, option_map, map, refl}, Rc.{rc_str_bytes}, Coded.{Coded, code_by, coded×, coded_ℕ, coded_list}}
 use Rattle.std.specs.Coded.{coded_option, coded_bool}
 use Rattle.nntp_article.specs.{Article.Parts.{Id}, Session.Spool.{Name}}
-use Rattle.nntp_facts.specs.{Inner.{Kept.{KeptGroup}, Readers.{ShownGroup, ShownArticle}, ArticleView.{coded_lines, coded_fields}}, declared.shown_numbers.ShownNumber.{ShownNumber}}
+use Rattle.nntp_facts.specs.Inner.{Kept.{KeptGroup}, Readers.{ShownGroup, ShownArticle}, ArticleView.{coded_lines, coded_fields}}
+use Rattle.nntp_facts.specs.declared.shown_numbers.ShownNumber.{ShownNumber}
 
 -- the number, and its id
 abbrev pub number_value : {A : Type 0} → ShownNumber A → ℕ × Option Id

@@ -3,7 +3,8 @@ use Rattle.std.specs.Prelude.{◌≡◌, ℕ, true, IsTrue, List, [], ◌∷◌,
 use Rattle.std.specs.Option.{option_map_or}
 use Rattle.nntp_article.specs.{Article.Parts.{Id, Line}, Session.{Spool.{Name}, Machine.{Visible, head_fits, overview_numbers, only}}, Inner.Listed.{Lists}}
 use Rattle.nntp_wire.specs.{declared.{command.What.{What}, range.Range.{Range}}, Answer.{Response, sends}, Listing.{ActiveValue, OverviewValue}}
-use Rattle.nntp_said.specs.{Asks.{Ask, ListsIn, Has}, Facts.{Fact, ThereIs, ThereIsNo, Asks, IdAt, TextIs, NoArticle, FieldsAre, OverviewsAre, GroupsAre, group_of}}
+use Rattle.nntp_said.specs.{Asks.{Ask, ListsIn, Has}, Facts.{Fact, ThereIs, ThereIsNo, Asks, IdAt, TextIs, NoArticle, FieldsAre, OverviewsAre, GroupsAre}}
+use Rattle.nntp_said.specs.Facts.{group_of}
 use Rattle.nntp_theory.specs.Given.{is_shown_group}
 use Rattle.nntp_numbers.specs.Inner.{Part.{Said, Says}, PartOf.{nothing_said, part_with}, Summary.{AreBounded}}
 use Rattle.nntp_facts.specs.Inner.{ListedGroups.{MayList}, ListedOverviews.{HaveOwn}}

@@ -5,18 +5,17 @@ use Rattle.std.{proofs.lemmas.Map.Steps.{le-length_from_below}, specs.{Prelude.{
 use Rattle.std.specs.{Cmp.{nat_cmp_total, IsTotalOrder, Lexicographic.{slice_cmp, same_text, nat_list_cmp_total}}, FinMap.{FinMap, get, empty, keys, entries}}
 use Rattle.std.specs.FinMap.{from_sorted, entries-from_sorted, nat_cmp-IsAntisymmetric, slice_cmp-IsAntisymmetric, IsAntisymmetric}
 use Rattle.std.specs.declared.cmp.Ordering.{Ordering}
-use Rattle.nntp_article.specs.{Session.Spool.{Spool, Text, Numbers, IsNumber, IsGroup, numbers, Name}, Article.Parts.{Id}}
+use Rattle.nntp_article.specs.{Session.{Spool.{Spool, Text, Numbers, IsNumber, IsGroup, numbers, Name}, Machine.{is_same}}, Article.Parts.{Id}}
+use Rattle.nntp_article.specs.Article.Fields.{made_head}
 use Rattle.nntp_said.specs.Facts.{Fact, TextIs, FieldsAre}
 use Rattle.nntp_wire.{specs.Listing.{OverviewValue}, proofs.OptionLemmas.{some_is}}
-use Rattle.nntp_article.specs.{Article.Fields.{made_head}, Session.Machine.{is_same}}
-use Rattle.nntp_theory.specs.Given.{IsOneMore, HasGivenNumbers, asks_of, is_shown_group, first_given, id_shown, gives_article, is_sent, head_in, fields_in, body_in}
-use Rattle.nntp_theory.specs.Given.{is_mentioned, invented, unshown_in, unshown_ids, IsUsed, IsFirstFree, AreInvented, IsGiven}
-use Rattle.nntp_theory.{specs.Inner.OneMore.{free}, proofs.Members.{In, in_front, in_back, in_cases, in_map, from_map, to_flat, from_flat, any_in, found_in}}
-use Rattle.nntp_theory.proofs.{Members.{any_back}, Ids.{SmallGivenSpool.{names_of, shown_name, name_shown}, InventedIds.{invented_number}}}
-use Rattle.nntp_theory.proofs.{Ids.NumbersOfInventedIds.{mentioned, counted}, Together.FactsOfASpoolStand.{same_itself}, Given.GivenHolds.{group_of_number}}
-use Rattle.nntp_theory.proofs.GivenNumbers.{FirstFreeNumber.{free_is, free_none}, OneMoreNumber.{known_list, in_known_list, from_known_list, more, more_is}}
-use Rattle.nntp_theory.proofs.{GivenNumbers.OneMoreNumber.{more_found}, Maps.{sorted_as, get_in, in_get, key_of, of_key, made_of, get-made_of, in-made_of}}
-use Rattle.nntp_theory.proofs.Maps.{key_map, in_key_map, of_key_map}
+use Rattle.nntp_theory.specs.Given.{IsOneMore, HasGivenNumbers, asks_of, is_shown_group, first_given, id_shown, gives_article, is_sent, head_in, fields_in}
+use Rattle.nntp_theory.specs.{Given.{body_in, is_mentioned, invented, unshown_in, unshown_ids, IsUsed, IsFirstFree, AreInvented, IsGiven}, Inner.OneMore.{free}}
+use Rattle.nntp_theory.proofs.Members.{In, in_front, in_back, in_cases, in_map, from_map, to_flat, from_flat, any_in, found_in, any_back}
+use Rattle.nntp_theory.proofs.Ids.{SmallGivenSpool.{names_of, shown_name, name_shown}, InventedIds.{invented_number}, NumbersOfInventedIds.{mentioned, counted}}
+use Rattle.nntp_theory.proofs.{Together.FactsOfASpoolStand.{same_itself}, Given.GivenHolds.{group_of_number}, GivenNumbers.FirstFreeNumber.{free_is, free_none}}
+use Rattle.nntp_theory.proofs.{GivenNumbers.OneMoreNumber.{known_list, in_known_list, from_known_list, more, more_is, more_found}, Maps.{sorted_as, get_in}}
+use Rattle.nntp_theory.proofs.Maps.{in_get, key_of, of_key, made_of, get-made_of, in-made_of, key_map, in_key_map, of_key_map}
 
 -- only equal names tie
 pub names_apart : IsAntisymmetric (slice_cmp nat_cmp)
@@ -187,8 +186,10 @@ module _ (limit : ℕ) (B : ℕ) (facts : List Fact) where
   -- one of the ids that are sent
   sent_if : (id : Id) (fact : Fact) → In id (sent_in fact) ↔ (gives_article id fact ≡ true)
   sent_if id (FieldsAre os) = (
-    λ h. (let f = from_map (λ (o : OverviewValue). o.id) id os h in any_in (λ o. is_same o.id id) f.0 os f.1 (subst (λ other. is_same f.0.id other ≡ true) f.2 (same_itself f.0.id))),
-    λ t. (let f = found_in (λ o. is_same o.id id) os t in subst (λ other. In other (map (λ (o : OverviewValue). o.id) os)) (same_text f.0.id id (sym f.2)) (in_map (λ (o : OverviewValue). o.id) f.0 os f.1)),
+    λ h. (let f = from_map (λ (o : OverviewValue). o.id) id os h in
+        any_in (λ o. is_same o.id id) f.0 os f.1 (subst (λ other. is_same f.0.id other ≡ true) f.2 (same_itself f.0.id))),
+    λ t. (let f = found_in (λ o. is_same o.id id) os t in
+        subst (λ other. In other (map (λ (o : OverviewValue). o.id) os)) (same_text f.0.id id (sym f.2)) (in_map (λ (o : OverviewValue). o.id) f.0 os f.1)),
   )
   sent_if id fact = (λ h. grind (arith, same_itself), λ t. grind (arith, same_text))
 

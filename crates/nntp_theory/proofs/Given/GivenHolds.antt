@@ -1,20 +1,23 @@
 -- What stands together holds of the spool that is given for it.
 use Rattle.std.proofs.Common.{◌≡◌, ℕ, ◌+◌, ◌<◌, ◌⊎◌, true, false, IsTrue, List, [], ◌∷◌, ◌++◌, map, length, Option, None, Some, is_some, inl, inr, refl, sym}
 use Rattle.std.proofs.{Common.{ap, subst, ◌∙◌, arith}, lemmas.Bool.{true≢false, and_parts, false_from_ne_true, eqb-true, eq-eqb}}
-use Rattle.std.{proofs.lemmas.List.Elements.{All-from_recursion}, specs.{Prelude.{IsFalse, IfSome, IsSome, MatchOption, option_map, unwrap_or}, List.{AllByRecursion, list_any}}}
-use Rattle.std.specs.{Ordering.{nat_cmp}, FinMap.{get, empty, entries, get-entries, get-empty, nat_cmp-IsAntisymmetric, slice_cmp-IsAntisymmetric}}
-use Rattle.nntp_article.specs.{Article.{Parts.{head_part, body_part, is_empty, Id, Line}, Fields.{Fields, fields_of_head, fields_told, made_head}}, Session.Spool.{Spool, Text, Numbers, IsNumber, IsGroup, numbers}}
-use Rattle.nntp_article.specs.Session.{Spool.{text_of, Lists, Name}, Machine.{is_same, overview_numbers, head_fits, active_fits, ActivesAgree, HasOverview}}
-use Rattle.nntp_article.{specs.{Inner.Fields.{AreWords}, declared.session.profile.Profile.{Profile}}, proofs.ArticleLemmas.FieldLemmas.{made_tells}}
+use Rattle.std.{proofs.lemmas.List.Elements.{All-from_recursion}, specs.Prelude.{IsFalse, IfSome, IsSome, MatchOption, option_map, unwrap_or}}
+use Rattle.std.specs.{List.{AllByRecursion, list_any}, Ordering.{nat_cmp}, FinMap.{get, empty, entries, get-entries, get-empty, nat_cmp-IsAntisymmetric}}
+use Rattle.std.specs.FinMap.{slice_cmp-IsAntisymmetric}
+use Rattle.nntp_article.specs.Article.{Parts.{head_part, body_part, is_empty, Id, Line}, Fields.{Fields, fields_of_head, fields_told, made_head}}
+use Rattle.nntp_article.specs.Session.{Spool.{Spool, Text, Numbers, IsNumber, IsGroup, numbers, text_of, Lists, Name}, Machine.{is_same, overview_numbers}}
+use Rattle.nntp_article.specs.{Session.Machine.{head_fits, active_fits, ActivesAgree, HasOverview}, Inner.Fields.{AreWords}}
+use Rattle.nntp_article.{specs.declared.session.profile.Profile.{Profile}, proofs.ArticleLemmas.FieldLemmas.{made_tells}}
 use Rattle.nntp_said.specs.{Asks.{Meets, Bounds}, Facts.{Fact, Holds, ThereIs, ThereIsNo, Asks, IdAt, TextIs, NoArticle, FieldsAre, OverviewsAre, GroupsAre}}
-use Rattle.nntp_theory.specs.Given.{asks_in, asks_of, shows_group, id_in, id_shown, first_given, mentions, is_mentioned, gives_article, head_in, fields_of_overview, fields_in, body_in}
-use Rattle.nntp_theory.specs.{Given.{invented, unshown_in, unshown_ids, IsGiven}, Inner.Together.{IsProperOverview, IsWellFormed, TellsOwn, AgreesWithItself, Together}}
-use Rattle.nntp_theory.{specs.Together.{denies_group, number_in, shows_article, denies_article, GiveOne}, proofs.Members.{In, all_at, all_part, all_from}}
-use Rattle.nntp_theory.proofs.{Members.{any_in, found_in, in_map, from_map, contains_in, in_contains, first_found}, GivenNumbers.LeastNumber.{not_number}}
-use Rattle.nntp_theory.proofs.{GivenNumbers.GivenNumbersMeet.{given_meet}, Together.{ListedOverviews.{overview_at}, FactsOfASpoolStand.{same_itself}}}
-use Rattle.nntp_theory.proofs.{Together.FactsOfASpoolStand.{in_listed, matching}, Session.NumbersOfShownGroups.{IsSelectable, Placed}}
-use Rattle.nntp_theory.proofs.{Session.FittingFacts.{IsFitting}, Ids.{InventedIds.{invented_number}, NumbersOfInventedIds.{Numbered, numbered, of_numbered}}}
-use Rattle.nntp_theory.proofs.{Ids.NumbersOfInventedIds.{part_numbered, unshown_there, unshown_apart, mentioned}, Maps.{entry_in}}
+use Rattle.nntp_theory.specs.Given.{asks_in, asks_of, shows_group, id_in, id_shown, first_given, mentions, is_mentioned, gives_article, head_in}
+use Rattle.nntp_theory.specs.{Given.{fields_of_overview, fields_in, body_in, invented, unshown_in, unshown_ids, IsGiven}, Inner.Together.{IsProperOverview}}
+use Rattle.nntp_theory.specs.{Inner.Together.{IsWellFormed, TellsOwn, AgreesWithItself, Together}, Together.{denies_group, number_in, shows_article}}
+use Rattle.nntp_theory.{specs.Together.{denies_article, GiveOne}, proofs.Members.{In, all_at, all_part, all_from, any_in, found_in, in_map, from_map}}
+use Rattle.nntp_theory.proofs.{Members.{contains_in, in_contains, first_found}, GivenNumbers.{LeastNumber.{not_number}, GivenNumbersMeet.{given_meet}}}
+use Rattle.nntp_theory.proofs.Together.{ListedOverviews.{overview_at}, FactsOfASpoolStand.{same_itself, in_listed, matching}}
+use Rattle.nntp_theory.proofs.{Session.{NumbersOfShownGroups.{IsSelectable, Placed}, FittingFacts.{IsFitting}}, Ids.InventedIds.{invented_number}}
+use Rattle.nntp_theory.proofs.Ids.NumbersOfInventedIds.{Numbered, numbered, of_numbered, part_numbered, unshown_there, unshown_apart, mentioned}
+use Rattle.nntp_theory.proofs.Maps.{entry_in}
 use Rattle.nntp_wire.specs.{Listing.{ActiveValue, OverviewValue}, declared.{range.Range.{Range}, command.What.{What}, marks.Marks.{Marks}}, Name.{IsMessageId}}
 use Rattle.nntp_wire.{specs.Wildmat.{MatchesName}, proofs.OptionLemmas.{none_of, some_is}}
 
@@ -143,7 +146,8 @@ module _ (profile : Profile) (B : ℕ) (G : Spool) (facts : List Fact) (s : Sett
 
   -- an article of G whose head is sent has that head
   head_is : (id : Id) (u : Text) (lines : List Line) (fact : Fact) → In fact facts → get G.articles id ≡ Some u → head_in id fact ≡ Some lines → u.head ≡ lines
-  head_is id u lines fact i there e = s.given.heads id u there ∙ ap (λ o. unwrap_or o (made_head id (first_given (fields_in id) facts))) (one_given (head_in id) facts (s.together.heads id) fact i lines e)
+  head_is id u lines fact i there e = s.given.heads id u there
+      ∙ ap (λ o. unwrap_or o (made_head id (first_given (fields_in id) facts))) (one_given (head_in id) facts (s.together.heads id) fact i lines e)
 
   -- and that body
   body_is : (id : Id) (u : Text) (lines : List Line) (fact : Fact) → In fact facts → get G.articles id ≡ Some u → body_in id fact ≡ Some lines → u.body ≡ lines

@@ -1,15 +1,17 @@
 -- The spool that is given is a spool.
-use Rattle.std.{specs.{Prelude.{IfSome, option_map, unwrap_or}, List.{AllByRecursion, list_any}, Option.{option_map_or}, FinMap.{get, len}, Cmp.Lexicographic.{same_text}}, proofs.Common.{◌≡◌, ℕ, ◌≤◌}}
-use Rattle.std.proofs.{Common.{true, IsTrue, List, ◌∷◌, ◌++◌, ◌∙◌, Option, None, Some, is_some, IsSome, inl, inr, refl, sym, ap, subst, arith}, lemmas.Bool.{true≢false, and_parts}}
-use Rattle.std.proofs.lemmas.{Bool.{or_cases}, List.Elements.{All-from_recursion}}
-use Rattle.nntp_theory.proofs.{GivenNumbers.MetNumbersStand.{some_counted}, Together.FewEnough.{within_one}, Given.ShownNames.{shown_named}}
-use Rattle.nntp_theory.proofs.{Given.GivenHolds.{Setting, one_given, group_of_number, id_cases, shown_at, unshown_once}, Members.{In, all_at, all_both, any_in}}
-use Rattle.nntp_theory.proofs.{Members.{found_in, first_found, none_there}, Together.ListedOverviews.{told_by}, Ids.MadeHead.{made_says_id, made_head_is_head, made_is_clean}, Session.FittingFacts.{IsFitting}}
-use Rattle.nntp_theory.{proofs.Session.NumbersWithinLimit.{free_in_limit, shown_in_limit, end_in_limit}, specs.Given.{mentions, is_mentioned, gives_article}}
-use Rattle.nntp_theory.specs.{Given.{id_shown, first_given, head_in, fields_in, asks_of, is_shown, is_given_end, says_some}, Inner.Together.{IsProperOverview, IsWellFormed}, Together.{number_in}}
-use Rattle.nntp_theory.specs.Together.{IsFewFor}
-use Rattle.nntp_article.specs.{Article.{Parts.{is_head, said_id, head_part, body_part, Id, Line}, Fields.{Fields, fields_of_head, made_head}}, Inner.Fields.{AreWords}, Session.Spool.{Spool, Text, IsNumber, IsGroup, numbers}}
-use Rattle.nntp_article.specs.{Session.{Spool.{IsSpool, Name, is_line}, Machine.{is_same, says_own_id}}, declared.session.profile.Profile.{Profile}}
+use Rattle.std.specs.{Prelude.{IfSome, option_map, unwrap_or}, List.{AllByRecursion, list_any}, Option.{option_map_or}, FinMap.{get, len}}
+use Rattle.std.{specs.Cmp.Lexicographic.{same_text}, proofs.Common.{◌≡◌, ℕ, ◌≤◌, true, IsTrue, List, ◌∷◌, ◌++◌, ◌∙◌, Option, None, Some, is_some, IsSome, inl}}
+use Rattle.std.proofs.{Common.{inr, refl, sym, ap, subst, arith}, lemmas.{Bool.{true≢false, and_parts, or_cases}, List.Elements.{All-from_recursion}}}
+use Rattle.nntp_theory.proofs.{GivenNumbers.MetNumbersStand.{some_counted}, Together.{FewEnough.{within_one}, ListedOverviews.{told_by}}}
+use Rattle.nntp_theory.proofs.Given.{ShownNames.{shown_named}, GivenHolds.{Setting, one_given, group_of_number, id_cases, shown_at, unshown_once}}
+use Rattle.nntp_theory.proofs.{Members.{In, all_at, all_both, any_in, found_in, first_found, none_there}, Ids.MadeHead.{made_says_id, made_head_is_head}}
+use Rattle.nntp_theory.proofs.{Ids.MadeHead.{made_is_clean}, Session.{FittingFacts.{IsFitting}, NumbersWithinLimit.{free_in_limit, shown_in_limit}}}
+use Rattle.nntp_theory.{proofs.Session.NumbersWithinLimit.{end_in_limit}, specs.Given.{mentions, is_mentioned, gives_article, id_shown, first_given, head_in}}
+use Rattle.nntp_theory.specs.{Given.{fields_in, asks_of, is_shown, is_given_end, says_some}, Inner.Together.{IsProperOverview, IsWellFormed}}
+use Rattle.nntp_theory.specs.Together.{number_in, IsFewFor}
+use Rattle.nntp_article.specs.Article.{Parts.{is_head, said_id, head_part, body_part, Id, Line}, Fields.{Fields, fields_of_head, made_head}}
+use Rattle.nntp_article.specs.{Inner.Fields.{AreWords}, Session.{Spool.{Spool, Text, IsNumber, IsGroup, numbers, IsSpool, Name, is_line}, Machine.{is_same}}}
+use Rattle.nntp_article.specs.{Session.Machine.{says_own_id}, declared.session.profile.Profile.{Profile}}
 use Rattle.nntp_said.specs.Facts.{Fact, TextIs, FieldsAre, OverviewsAre}
 use Rattle.nntp_wire.specs.Name.{IsMessageId}
 

@@ -5,8 +5,8 @@ use Rattle.std.{proofs.lemmas.List.Folds.{list_any-append}, specs.{Prelude.{IsFa
 use Rattle.nntp_article.specs.{Session.{Machine.{is_same}, Spool.{Name}}, Article.Parts.{Id}}
 use Rattle.nntp_wire.specs.Listing.{OverviewValue}
 use Rattle.nntp_said.specs.Facts.{Fact, IdAt, TextIs, NoArticle, FieldsAre, OverviewsAre}
-use Rattle.nntp_theory.{specs.Given.{has_overview_of, mentions, is_mentioned, invented, AreInvented, id_shown, unshown_in}, proofs.Ids.InventedIds.{invented_number}}
-use Rattle.nntp_theory.proofs.Members.{In, in_back, in_map, any_in, any_back, found_in}
+use Rattle.nntp_theory.specs.Given.{has_overview_of, mentions, is_mentioned, invented, AreInvented, id_shown, unshown_in}
+use Rattle.nntp_theory.proofs.{Ids.InventedIds.{invented_number}, Members.{In, in_back, in_map, any_in, any_back, found_in}}
 
 -- the numbers of the ids that a fact mentions, as if they were invented ones
 abbrev pub mentioned_number : Fact → List ℕ

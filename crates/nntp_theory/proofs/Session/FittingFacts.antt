@@ -5,9 +5,9 @@ use Rattle.nntp_article.specs.{Session.Machine.{overview_numbers}, declared.sess
 use Rattle.nntp_wire.specs.{Answer.{Asked, Response}, Listing.{listed_numbers, active_groups, overviews_of}, declared.range.Range.{Range}}
 use Rattle.nntp_wire.specs.declared.water_marks.WaterMarks.{WaterMarks}
 use Rattle.nntp_said.specs.{Asks.{position_after, Estimates, ListsIn, Has, StandsAt, StepsUp, StepsDown}, declared.position.Position.{Position}}
-use Rattle.nntp_said.specs.{declared.position.Position.TheVariants.{Nowhere}, Facts.{Fact, Asks, IdAt, TextIs, FieldsAre, OverviewsAre, GroupsAre, here, facts_of}}
-use Rattle.nntp_said.{specs.{Facts.{facts_from}, Inner.Facts.{FitsAll}}, proofs.Rows.{Row, AreListed, row, within, marks, listing, up, down, text, text_at}}
-use Rattle.nntp_said.proofs.Rows.{text_here, overview, overview_at, overview_here, active}
+use Rattle.nntp_said.specs.{declared.position.Position.TheVariants.{Nowhere}, Facts.{Fact, Asks, IdAt, TextIs, FieldsAre, OverviewsAre, GroupsAre, here}}
+use Rattle.nntp_said.{specs.{Facts.{facts_of, facts_from}, Inner.Facts.{FitsAll}}, proofs.Rows.{Row, AreListed, row, within, marks, listing, up, down, text}}
+use Rattle.nntp_said.proofs.Rows.{text_at, text_here, overview, overview_at, overview_here, active}
 use Rattle.nntp_theory.{specs.{Given.{facts_of_session}, Inner.Together.{AgreesWithItself}}, proofs.Members.{all_both, all_from, each_of}}
 use Rattle.nntp_theory.proofs.Together.ListedOverviews.{apart_agree, alone_agrees}
 

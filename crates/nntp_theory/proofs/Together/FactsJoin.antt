@@ -3,8 +3,8 @@ use Rattle.nntp_wire.specs.{declared.marks.Marks.{Marks}, Answer.{Asked, Respons
 use Rattle.std.proofs.{Common.{◌≡◌, ◌↔◌, List, [], ◌++◌, sym, subst, arith}, lemmas.Grind.{flat_map-append}}
 use Rattle.nntp_article.specs.{Session.{Spool.{Name}, Machine.{Visible}}, declared.session.profile.Profile.{Profile}}
 use Rattle.nntp_said.{specs.{declared.position.Position.{Position}, Facts.{Fact, facts_of}}, proofs.Rows.{Row, row}}
-use Rattle.nntp_theory.specs.{Given.{asks_in, asks_of, shows_group, id_in, head_in, fields_in, body_in}, Inner.Together.{IsWellFormed, AgreesWithItself, AsksStand}}
-use Rattle.nntp_theory.specs.{Inner.Together.{Together, AgreeWithin, Join}, Together.{denies_group, number_in, shows_article, denies_article}}
+use Rattle.nntp_theory.specs.{Given.{asks_in, asks_of, shows_group, id_in, head_in, fields_in, body_in}, Inner.Together.{IsWellFormed, AgreesWithItself}}
+use Rattle.nntp_theory.specs.{Inner.Together.{AsksStand, Together, AgreeWithin, Join}, Together.{denies_group, number_in, shows_article, denies_article}}
 use Rattle.nntp_theory.proofs.{Members.{all_both, all_back}, Together.TwoListsOfFacts.{apart_both, apart_shown, apart_denied, give_one_both, give_same_of_both}}
 
 -- what both ask of a group

@@ -1,15 +1,18 @@
 -- What holds of a spool stands together.
-use Rattle.std.proofs.Common.{◌≡◌, ℕ, ◌↔◌, Bool, true, cond, IsTrue, List, [], ◌∷◌, ◌++◌, map, Option, None, Some, is_some, IsSome, MatchOption, refl, sym, ap, subst, ◌∙◌, arith}
-use Rattle.std.proofs.lemmas.{Bool.{true≢false, and_parts, eqb-true, eq-eqb, false_from_ne_true, not-true}, List.Elements.{recursion_from_All}}
-use Rattle.std.specs.{Prelude.{IfSome, option_map}, List.{AllByRecursion, list_any}, Option.{option_map_or}, Cmp.Lexicographic.{same_text, nat_list_eq_equiv}, FinMap.{get}}
-use Rattle.nntp_article.specs.{Article.{Parts.{Line, Id, head_part, body_part}, Fields.{Fields, fields_of_head, fields_told}}, Session.Spool.{Spool, Text, IsGroup, numbers, IsSpool, HasText, text_of}}
-use Rattle.nntp_article.{specs.{Session.{Spool.{is_line, Name}, Machine.{is_same, HasOverview}}, Inner.Fields.{AreWords}}, proofs.ArticleLemmas.{HeadHasNoEmptyLine.{parts}, WordsOfLines.{head_has_words}}}
+use Rattle.std.proofs.Common.{◌≡◌, ℕ, ◌↔◌, Bool, true, cond, IsTrue, List, [], ◌∷◌, ◌++◌, map, Option, None, Some, is_some, IsSome, MatchOption, refl, sym, ap}
+use Rattle.std.proofs.{Common.{subst, ◌∙◌, arith}, lemmas.Bool.{true≢false, and_parts, eqb-true, eq-eqb, false_from_ne_true, not-true}}
+use Rattle.std.{proofs.lemmas.List.Elements.{recursion_from_All}, specs.{Prelude.{IfSome, option_map}, List.{AllByRecursion, list_any}, Option.{option_map_or}}}
+use Rattle.std.specs.{Cmp.Lexicographic.{same_text, nat_list_eq_equiv}, FinMap.{get}}
+use Rattle.nntp_article.specs.{Article.{Parts.{Line, Id, head_part, body_part}, Fields.{Fields, fields_of_head, fields_told}}, Session.Spool.{Spool, Text}}
+use Rattle.nntp_article.specs.Session.{Spool.{IsGroup, numbers, IsSpool, HasText, text_of, is_line, Name}, Machine.{is_same, HasOverview}}
+use Rattle.nntp_article.{specs.Inner.Fields.{AreWords}, proofs.ArticleLemmas.{HeadHasNoEmptyLine.{parts}, WordsOfLines.{head_has_words}}}
 use Rattle.nntp_said.specs.Facts.{Fact, Holds, ThereIs, ThereIsNo, IdAt, TextIs, NoArticle, FieldsAre, OverviewsAre, GroupsAre}
-use Rattle.nntp_theory.specs.Given.{asks_of, shows_group, is_shown_group, first_given, id_of_overview, id_in, id_shown, has_overview_of, head_in, fields_of_overview, fields_in, body_in}
-use Rattle.nntp_theory.specs.{Inner.Together.{IsProperOverview, IsWellFormed, TellsOwn, AgreesWithItself, Together}, Together.{denies_group, number_of_overview, number_in, shows_article}}
-use Rattle.nntp_theory.{specs.Together.{denies_article, GiveOne}, proofs.Members.{In, all_at, all_front, all_back, all_both, all_from, any_in, found_in}}
-use Rattle.nntp_theory.proofs.{Members.{in_map, from_map, contains_in, in_contains, first_found, first_there}, Together.ListedOverviews.{overview_at}}
-use Rattle.nntp_theory.proofs.{Together.ListedOverviews.{overview_of, told_by}, GivenNumbers.{MetNumbersStand.{asks_stand}, AskedOfAGroup.{met_by_facts}}}
+use Rattle.nntp_theory.specs.Given.{asks_of, shows_group, is_shown_group, first_given, id_of_overview, id_in, id_shown, has_overview_of, head_in}
+use Rattle.nntp_theory.specs.{Given.{fields_of_overview, fields_in, body_in}, Inner.Together.{IsProperOverview, IsWellFormed, TellsOwn, AgreesWithItself}}
+use Rattle.nntp_theory.specs.{Inner.Together.{Together}, Together.{denies_group, number_of_overview, number_in, shows_article, denies_article, GiveOne}}
+use Rattle.nntp_theory.proofs.Members.{In, all_at, all_front, all_back, all_both, all_from, any_in, found_in, in_map, from_map, contains_in, in_contains}
+use Rattle.nntp_theory.proofs.{Members.{first_found, first_there}, Together.ListedOverviews.{overview_at, overview_of, told_by}}
+use Rattle.nntp_theory.proofs.GivenNumbers.{MetNumbersStand.{asks_stand}, AskedOfAGroup.{met_by_facts}}
 use Rattle.nntp_wire.specs.{Listing.{ActiveValue, OverviewValue}, Wildmat.{MatchesName}, Decided.{matches_name}, Name.{IsGroupName}}
 use Rattle.nntp_wire.{specs.declared.command.What.{What, TheVariants.{Article}}, proofs.DecidedLemmas.{matches_name-iff}}
 
@@ -87,7 +90,8 @@ module _ (limit : ℕ) (S : Spool) (facts : List Fact) (spool : IsSpool limit S)
   overview_text : (o : OverviewValue) → HasOverview S o → (t : Text) × (get S.articles o.id ≡ Some t) × (fields_of_head t.head ≡ fields_told o)
   overview_text o h = by (get S.articles o.id) refl h
     where
-      by : (t : Option Text) → get S.articles o.id ≡ t → MatchOption t ⊥ (λ t. fields_of_head t.head ≡ fields_told o) → (t : Text) × (get S.articles o.id ≡ Some t) × (fields_of_head t.head ≡ fields_told o)
+      by : (t : Option Text) → get S.articles o.id ≡ t → MatchOption t ⊥ (λ t. fields_of_head t.head ≡ fields_told o)
+          → (t : Text) × (get S.articles o.id ≡ Some t) × (fields_of_head t.head ≡ fields_told o)
       by None e h = absurd h
       by (Some t) e h = (t, e, h)
 

@@ -5,8 +5,8 @@ use Rattle.nntp_wire.specs.{Name.{IsGroupName, IsMessageId}, Listing.{OverviewVa
 use Rattle.nntp_article.specs.{Article.{Parts.{Id, Line}, Fields.{Fields, fields_told}}, Session.Spool.{Name, Numbers, is_line}, Inner.Fields.{AreWords}}
 use Rattle.nntp_said.specs.{Asks.{Ask}, Facts.{Fact, ThereIs, IdAt, TextIs, FieldsAre, OverviewsAre, GroupsAre}}
 use Rattle.nntp_theory.specs.Given.{demand, is_denied, IsGivenNumber, HasGivenNumbers, asks_of, is_shown_group, first_given, id_of_overview, id_in}
-use Rattle.nntp_theory.specs.{Given.{is_mentioned, is_sent, head_in, fields_of_overview, fields_in, body_in}, Together.{is_possible, MeetsDemand, IsFewFor, denies_group, number_of_overview}}
-use Rattle.nntp_theory.specs.Together.{number_in, shows_article, denies_article, GiveOne}
+use Rattle.nntp_theory.specs.{Given.{is_mentioned, is_sent, head_in, fields_of_overview, fields_in, body_in}, Together.{is_possible, MeetsDemand, IsFewFor}}
+use Rattle.nntp_theory.specs.Together.{denies_group, number_of_overview, number_in, shows_article, denies_article, GiveOne}
 
 -- ---- the numbers of one group
 
@@ -69,7 +69,8 @@ pub record AgreeWithin (facts : List Fact) : Type 0 where
 
 -- ---- what is said of an id
 
--- what facts say of an id: whether they mention it, show that it has an article, or deny that, and whether a success names it; and the head and the body that are sent first, and what is told first of four headers
+-- what facts say of an id: whether they mention it, show that it has an article, or deny that, and whether a success
+-- names it; the head and the body that are sent first; and what is told first of four headers
 pub record SaidOfArticle : Type 0 where
   pub is_mentioned : Bool
   pub is_shown : Bool

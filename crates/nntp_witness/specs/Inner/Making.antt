@@ -3,7 +3,8 @@ use Rattle.std.specs.Prelude.{◌≡◌, ◌≢◌, ℕ, ◌<◌, ◌^◌, ◌==
 use Rattle.std.specs.{Prelude.{IsSome, unwrap_or, Result, Ok, Err}, List.{AllByRecursion, flat_map, list_any, Sorted.{IsStrictlySortedBy}}, Ordering.{nat_cmp}}
 use Rattle.std.specs.{Cmp.Lexicographic.{slice_cmp}, FinMap.{get}}
 use Rattle.nntp_wire.specs.declared.limit.Limit.{Limit}
-use Rattle.nntp_article.specs.{Article.{Parts.{Id}, Fields.{made_head}}, Session.{Machine.{is_same}, Spool.{Spool, Name, Numbers, Text, IsGroup, IsNumber, numbers}}}
+use Rattle.nntp_article.specs.{Article.{Parts.{Id}, Fields.{made_head}}, Session.{Machine.{is_same}, Spool.{Spool, Name, Numbers, Text, IsGroup, IsNumber}}}
+use Rattle.nntp_article.specs.Session.Spool.{numbers}
 use Rattle.nntp_said.specs.Facts.{Fact}
 use Rattle.nntp_theory.specs.{Given.{id_shown, is_mentioned, invented, AreInvented}, Together.{shows_article}}
 use Rattle.nntp_facts.specs.Inner.Readers.{ShownGroup, ShownArticle, HasShownNumbers, IsShownArticle}

@@ -1,4 +1,4 @@
-use Rattle.nntp_explain.{proofs.SaysLemmas.{words_begin, word_told}}
+use Rattle.nntp_explain.proofs.SaysLemmas.{words_begin, word_told}
 use Rattle.nntp_explain.proofs.said_fields.put_words.Goals as goal
 
 pub loop-word-init : goal.loop-word-init

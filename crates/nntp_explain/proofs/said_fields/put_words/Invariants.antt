@@ -1,5 +1,4 @@
-use Rattle.std.proofs.Common.{◌≡◌, ◌∷◌, ◌++◌, take}
-use Rattle.std.specs.List.{flat_map}
+use Rattle.std.{proofs.Common.{◌≡◌, ◌∷◌, ◌++◌, take}, specs.List.{flat_map}}
 use Rattle.nntp_wire.specs.Octets.{space}
 use Rattle.nntp_printing.specs.{Printing.{escaped}, BadAnswer.{shown}}
 use Rattle.nntp_explain.specs.Says.{spaced}

@@ -1,7 +1,6 @@
 use Rattle.std.proofs.Common.{rules, ◌≡◌, ◌<◌, ◌^◌, ap, arith, length}
 use Rattle.nntp_wire.specs.declared.overviews.Overviews.TheVariants.{Opaque}
-use Rattle.nntp_check.specs.Capture.{sessions_as}
-use Rattle.nntp_check.{specs.declared.session_printer.SessionPrinter.{SessionPrinter}, proofs.ShowLemmas.{many-fits, session-ended}}
+use Rattle.nntp_check.{specs.{Capture.{sessions_as}, declared.session_printer.SessionPrinter.{SessionPrinter}}, proofs.ShowLemmas.{many-fits, session-ended}}
 use Rattle.nntp_check.proofs.session_printer.SessionPrinter.end_session.Goals as goal
 
 pub overflow_add-self : goal.overflow_add-self

@@ -11,7 +11,8 @@ pub read-requires : goal.read-requires
 read-requires g c = (
   profile_kept c.args.self.now.facts,
   alone,
-  told_alone (profile_kept c.args.self.now.facts) (kept_of c.args.self.now) (kept_of c.begin.new.self) c.args.self.now.text.items c.begin.new.self.text.items (taken c.args.overviews c.args.client.now)
+  told_alone (profile_kept c.args.self.now.facts) (kept_of c.args.self.now) (kept_of c.begin.new.self) c.args.self.now.text.items c.begin.new.self.text.items
+      (taken c.args.overviews c.args.client.now)
       c.args.server.now
       c.requires.0 c.requires.1 c.requires.2 c.begin.ensures.kept c.begin.ensures.text,
 )
@@ -20,7 +21,8 @@ pub returns : goal.returns
 returns g c =
     let facts = c.args.self.now.facts in
     let profile = profile_kept facts in
-    let told = told_alone profile (kept_of c.args.self.now) (kept_of c.begin.new.self) c.args.self.now.text.items c.begin.new.self.text.items (taken c.args.overviews c.args.client.now) c.args.server.now
+    let told = told_alone profile (kept_of c.args.self.now) (kept_of c.begin.new.self) c.args.self.now.text.items c.begin.new.self.text.items
+    (taken c.args.overviews c.args.client.now) c.args.server.now
     c.requires.0 c.requires.1 c.requires.2 c.begin.ensures.kept c.begin.ensures.text in
     if_ok c.finish.result c.finish.ensures.text c.finish.ensures.is_without_fault
     (λ found text good. explained_alone facts.limit facts.marks (taken c.args.overviews c.args.client.now) c.args.server.now (kept_of c.read.new.self) c.read.new.self.text.items

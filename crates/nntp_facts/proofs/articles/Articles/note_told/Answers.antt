@@ -1,5 +1,4 @@
-use Rattle.std.proofs.Common.{true, Some, sym, subst, ◌∙◌}
-use Rattle.std.specs.List.{AllByRecursion}
+use Rattle.std.{proofs.Common.{true, Some, sym, subst, ◌∙◌}, specs.List.{AllByRecursion}}
 use Rattle.nntp_wire.specs.{Listing.{OverviewValue, overviews_of}, Inner.View.{overview_value}}
 use Rattle.nntp_article.specs.{Article.Fields.{fields_told}, Inner.Fields.{AreWords}}
 use Rattle.nntp_theory.proofs.OkResults.{if_ok}

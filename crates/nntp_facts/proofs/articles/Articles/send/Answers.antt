@@ -1,7 +1,7 @@
 use Rattle.std.{proofs.Common.{◌≡◌, ℕ, List, Some, rules, refl, ap, sym, subst, ◌∙◌}, specs.Prelude.{unwrap_or}}
-use Rattle.nntp_facts.specs.Inner.{Kept.{IsAddedIf}, KeptSaying.{kept_by}, Saying.{Sends}, Articles.{MayBeSent, with_sent}, ArticleView.{is_added, known_article}}
-use Rattle.nntp_facts.{specs.declared.articles.known.KnownArticle.TheVariants.{Unsent}, proofs.Keeping.NotedArticles.{sent_noted, of_denied}}
-use Rattle.nntp_facts.proofs.Keeping.NamedArticles.{text_cmp, put_in, had, same_key}
+use Rattle.nntp_facts.specs.Inner.{Kept.{IsAddedIf}, KeptSaying.{kept_by}, Saying.{Sends}, Articles.{MayBeSent, with_sent}, ArticleView.{is_added}}
+use Rattle.nntp_facts.specs.{Inner.ArticleView.{known_article}, declared.articles.known.KnownArticle.TheVariants.{Unsent}}
+use Rattle.nntp_facts.proofs.Keeping.{NotedArticles.{sent_noted, of_denied}, NamedArticles.{text_cmp, put_in, had, same_key}}
 use Rattle.nntp_facts.proofs.articles.Articles.send.Goals as goal
 
 pub returns-then-is_denied-clause-added : goal.returns-then-is_denied-clause-added

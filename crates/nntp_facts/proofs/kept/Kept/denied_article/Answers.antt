@@ -1,8 +1,9 @@
 use Rattle.std.{proofs.Common.{rules, ◌≡◌, cond, ap, refl, sym, ◌∙◌, None, Some}, specs.Prelude.{option_map}}
 use Rattle.nntp_wire.specs.Listing.{overviews_of}
 use Rattle.nntp_theory.specs.{Given.{first_given}, Conflict.{Article}}
-use Rattle.nntp_facts.specs.Inner.{Saying.{Lacks, Exists, Sends, Describes}, SayingView.{article_said, overviews_said}, PointView.{point_of}, StatementView.{statement_of}}
-use Rattle.nntp_facts.proofs.{Keeping.KeptArticles.{shown_kept, denied_kept}, PointsFound.ArticlesBeside.{lacks, has, listed_article, no_article}}
+use Rattle.nntp_facts.specs.Inner.{Saying.{Lacks, Exists, Sends, Describes}, SayingView.{article_said, overviews_said}, PointView.{point_of}}
+use Rattle.nntp_facts.{specs.Inner.StatementView.{statement_of}, proofs.{Keeping.KeptArticles.{shown_kept, denied_kept}, PointsFound.ArticlesBeside.{lacks}}}
+use Rattle.nntp_facts.proofs.PointsFound.ArticlesBeside.{has, listed_article, no_article}
 use Rattle.nntp_facts.proofs.kept.Kept.denied_article.Goals as goal
 
 pub returns-in-Some : goal.returns-in-Some

@@ -3,8 +3,8 @@ use Rattle.nntp_wire.specs.Listing.{overviews_of}
 use Rattle.nntp_article.specs.Inner.Listed.{lists}
 use Rattle.nntp_said.specs.Facts.{GroupsAre}
 use Rattle.nntp_theory.specs.Inner.Together.{IsWellFormed}
-use Rattle.nntp_facts.specs.Inner.{ListedGroups.{MayList}, Kept.{AreAdded}, SayingView.{active_said}}
-use Rattle.nntp_facts.{specs.Inner.SayingView.{of_group, saying_of}, proofs.Keeping.NotedParts.{list_added, lists_none, overviews_added}}
+use Rattle.nntp_facts.specs.Inner.{ListedGroups.{MayList}, Kept.{AreAdded}, SayingView.{active_said, of_group, saying_of}}
+use Rattle.nntp_facts.proofs.Keeping.NotedParts.{list_added, lists_none, overviews_added}
 use Rattle.nntp_facts.proofs.kept.Kept.note.Goals as goal
 
 pub returns-in-None-None : goal.returns-in-None-None

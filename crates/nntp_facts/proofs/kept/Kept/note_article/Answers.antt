@@ -1,8 +1,8 @@
 use Rattle.std.{proofs.Common.{◌≡◌, true, Some, sym, subst, ◌∙◌}, specs.Prelude.{IfSome, option_map}}
 use Rattle.nntp_theory.{specs.Inner.Together.{said_of}, proofs.OkResults.{if_ok}}
 use Rattle.nntp_facts.specs.Inner.{SayingView.{article_said}, ArticleView.{is_added}, Kept.{AreKeptArticles}, KeptSaying.{MayBeSaid, IsThereAlready}}
-use Rattle.nntp_facts.{specs.{Inner.{Saying.{IsToExist}, KeptSaying.{IsArticleAdded}}, declared.joins.Joins.TheVariants.{Again}}, proofs.Keeping.SaidOfArticles.{nothing_more}}
-use Rattle.nntp_facts.proofs.Keeping.SaidOfArticles.{nothing_joins}
+use Rattle.nntp_facts.specs.{Inner.{KeptSaying.{IsArticleAdded}, Saying.{IsToExist}}, declared.joins.Joins.TheVariants.{Again}}
+use Rattle.nntp_facts.proofs.Keeping.SaidOfArticles.{nothing_more, nothing_joins}
 use Rattle.nntp_facts.proofs.kept.Kept.note_article.Goals as goal
 
 pub returns-in-Some-clause-added : goal.returns-in-Some-clause-added

@@ -1,7 +1,8 @@
 use Rattle.std.{proofs.Common.{rules, ◌≡◌, None, Some, refl, ap}, specs.Prelude.{option_map}}
 use Rattle.nntp_wire.specs.Listing.{overviews_of}
-use Rattle.nntp_facts.specs.Inner.{Saying.{Lacks, Exists, Sends, Describes}, SayingView.{article_said, overviews_said}, PointView.{point_of}, StatementView.{statement_of}}
-use Rattle.nntp_facts.proofs.PointsFound.FieldsBeside.{listed_field, no_field, field_point, head_point, overview_point}
+use Rattle.nntp_facts.specs.Inner.{Saying.{Lacks, Exists, Sends, Describes}, SayingView.{article_said, overviews_said}, PointView.{point_of}}
+use Rattle.nntp_facts.{specs.Inner.StatementView.{statement_of}, proofs.PointsFound.FieldsBeside.{listed_field, no_field, field_point, head_point}}
+use Rattle.nntp_facts.proofs.PointsFound.FieldsBeside.{overview_point}
 use Rattle.nntp_facts.proofs.kept.Kept.other_field.Goals as goal
 
 pub returns-in-Some : goal.returns-in-Some

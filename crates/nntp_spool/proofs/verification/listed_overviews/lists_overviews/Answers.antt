@@ -1,5 +1,4 @@
-use Rattle.std.proofs.Common.{◌↔◌, IsTrue, subst}
-use Rattle.std.specs.List.{AllByRecursion}
+use Rattle.std.{proofs.Common.{◌↔◌, IsTrue, subst}, specs.List.{AllByRecursion}}
 use Rattle.nntp_wire.specs.Listing.{overviews_of}
 use Rattle.nntp_article.specs.Session.Spool.{Spool}
 use Rattle.nntp_spool.specs.Inner.ListedOverviews.{StandsIn}

@@ -1,5 +1,4 @@
-use Rattle.std.proofs.Common.{◌≡◌, ◌↔◌}
-use Rattle.std.specs.List.{AllByRecursion}
+use Rattle.std.{proofs.Common.{◌≡◌, ◌↔◌}, specs.List.{AllByRecursion}}
 use Rattle.nntp_wire.specs.Listing.{overviews_of}
 use Rattle.nntp_spool.specs.Inner.ListedOverviews.{StandsIn}
 use Rattle.nntp_spool.proofs.verification.listed_overviews.stand_in.Given as goal

@@ -1,7 +1,5 @@
-use Rattle.std.proofs.Common.{IsTrue, ap, length, arith, subst}
-use Rattle.std.specs.List.{list_all}
-use Rattle.nntp_wire.specs.{Inner.{Octets.{are_octets}}}
-use Rattle.nntp_wire.proofs.ListingLemmas.{overviews_of-few}
+use Rattle.std.{proofs.Common.{IsTrue, ap, length, arith, subst}, specs.List.{list_all}}
+use Rattle.nntp_wire.{specs.Inner.Octets.{are_octets}, proofs.ListingLemmas.{overviews_of-few}}
 use Rattle.nntp_wire.proofs.block.Block.overviews.Goals as goal
 
 pub returns-clause-octets : goal.returns-clause-octets

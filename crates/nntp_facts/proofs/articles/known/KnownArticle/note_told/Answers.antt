@@ -1,7 +1,6 @@
 use Rattle.std.proofs.Common.{◌≡◌, None, Some, sym, subst, arith}
 use Rattle.nntp_theory.specs.Inner.Together.{AreSame}
-use Rattle.nntp_facts.specs.Inner.{Articles.{with_told}, ArticleView.{known_article}}
-use Rattle.nntp_facts.proofs.Keeping.WordsTold.{untold, not_denied}
+use Rattle.nntp_facts.{specs.Inner.{Articles.{with_told}, ArticleView.{known_article}}, proofs.Keeping.WordsTold.{untold, not_denied}}
 use Rattle.nntp_facts.proofs.articles.known.KnownArticle.note_told.Goals as goal
 
 pub returns-then-is_none : goal.returns-then-is_none

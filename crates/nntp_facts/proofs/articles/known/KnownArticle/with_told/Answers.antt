@@ -1,4 +1,4 @@
-use Rattle.std.{proofs.{Common.{ap, ◌∙◌, arith}, lemmas.Result.{IfOk-weaker}}}
+use Rattle.std.proofs.{Common.{ap, ◌∙◌, arith}, lemmas.Result.{IfOk-weaker}}
 use Rattle.nntp_article.{specs.Article.Fields.{fields_of_head}, proofs.ArticleLemmas.FieldLemmas.{lines_tell}}
 use Rattle.nntp_facts.proofs.articles.known.KnownArticle.with_told.Goals as goal
 
