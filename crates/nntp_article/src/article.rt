@@ -12,6 +12,7 @@ mod missing_headers;
 mod parts;
 mod required_headers;
 mod said_id;
+mod told_fields;
 
 pub use control_headers::control;
 pub use control_message::Control;
@@ -19,8 +20,9 @@ pub use field::Field;
 pub use fields::{FieldWords, Fields};
 pub use head::Head;
 pub use header::{Header, Headers, content};
-pub use made_heads::{field_lines, made_head};
+pub use made_heads::made_head;
 pub use missing_headers::Missing;
 pub use parts::Parts;
 pub use required_headers::missing;
 pub use said_id::lines_say;
+pub use told_fields::ToldFields;

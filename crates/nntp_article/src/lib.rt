@@ -7,7 +7,7 @@ pub mod article;
 pub mod session;
 
 pub use article::{
-    Control, Field, FieldWords, Fields, Head, Header, Headers, Missing, Parts, content, control,
-    field_lines, lines_say, made_head, missing,
+    Control, Field, FieldWords, Fields, Head, Header, Headers, Missing, Parts, ToldFields, content,
+    control, lines_say, made_head, missing,
 };
 pub use session::{Listed, Misfit, Profile, Visible, is_article_number, is_generic_failure};

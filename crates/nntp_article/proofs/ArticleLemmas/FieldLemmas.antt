@@ -139,6 +139,10 @@ module _ (fields : Fields) (words : AreWords fields) where
   pub lines_tell : fields_of_head (field_lines fields) ≡ fields
   lines_tell = λ i. record { subject = subject_told i; from = from_told i; date = date_told i; references = references_told i }
 
+  -- so lines that are these are those of what they tell
+  pub lines_held : (lines : List Line) → lines ≡ field_lines fields → lines ≡ field_lines (fields_of_head lines)
+  lines_held lines is = is ∙ ap field_lines (sym (ap fields_of_head is ∙ lines_tell))
+
   -- ---- behind the line of an id
 
   abbrev made : List ℕ → List Line

@@ -57,9 +57,3 @@ id_octets_of id h = (and_parts (nat_le 3 (length id) && nat_le (length id) 250) 
 -- the line of an id holds no NUL, CR or LF
 pub id_line_clean : (id : List ℕ) → IsMessageId id → is_clean (codes "Message-ID: " ++ id) ≡ true
 id_line_clean id h = id_octets_clean id (id_octets_of id h)
-
--- ---- what is told
-
--- fields that may be told have words
-pub told_words : (told : Option Fields) (fields inside : Fields) → IfSome told AreWords → told ≡ Some fields → inside ≡ fields → AreWords inside
-told_words told fields inside are is same = rw same (rw is at are)

@@ -3,7 +3,7 @@ use Rattle.std.proofs.Common.{◌≡◌, ℕ, zero, suc, ◌+◌, Bool, true, fa
 use Rattle.std.proofs.lemmas.{Bool.{and_parts, and_from, Decides.{nat_tests}}, List.{Folds.{list_all-append}, Splits.{slice_split-cons_yes}}}
 use Rattle.std.{proofs.lemmas.List.Splits.{slice_split-cons_no}, specs.{Prelude.{◌==◌, codes, IfSome}, List.{list_all, flat_map, filter, slice_split}}}
 use Rattle.std.specs.List.{onto_first, position_or_len, AllByRecursion, cons_option}
-use Rattle.nntp_wire.specs.{Octets.{is_blank, tab}, Words.{words_of, is_some_octets}, Listing.{OverviewValue, overview_by, overview_of, overview_of_fields}}
+use Rattle.nntp_wire.specs.{Octets.{is_blank, is_clean, tab}, Inner.Octets.{are_octets}, Block.{AreClean}, Words.{words_of, is_some_octets}, Listing.{OverviewValue, overview_by, overview_of, overview_of_fields}}
 use Rattle.nntp_wire.specs.Listing.{overviews_of, first_words, fields_of, number_alone, id_alone}
 use Rattle.nntp_article.specs.Article.{Parts.{Line, Header, is_colon, with_line, headers, is_named}, Fields.{Word, words_in, words_of_header, words_named}}
 use Rattle.nntp_article.specs.{Article.Fields.{fields_told, fields_of_head}, Inner.Fields.{is_word, AreWords}, Session.Spool.{is_line}}
@@ -145,3 +145,20 @@ overview_has_words (line ∷ lines) h = by (overview_of line) (fields_words (fie
       → AllByRecursion (λ o. AreWords (fields_told o)) (cons_option o (overviews_of lines))
   by (Some o) is more = (is, more)
   by None is more = more
+
+-- ---- those of a block
+
+-- clean octets are lines
+are_lines : (lines : List Line) → AreClean lines → IsTrue (list_all are_octets lines) → AllByRecursion (λ line. IsTrue (is_line line)) lines
+are_lines [] clean octets = tt
+are_lines (line ∷ lines) clean octets =
+    let p = and_parts (are_octets line) (list_all are_octets lines) octets in
+    (and_from (is_clean line) (are_octets line) clean.0 p.0, are_lines lines clean.1 p.1)
+
+-- what the overviews of a block tell
+pub overviews_words : (lines : List Line) → AreClean lines → IsTrue (list_all are_octets lines) → AllByRecursion (λ o. AreWords (fields_told o)) (overviews_of lines)
+overviews_words lines clean octets = overview_has_words lines (are_lines lines clean octets)
+
+-- what a block tells as a head
+pub head_words : (lines : List Line) → AreClean lines → IsTrue (list_all are_octets lines) → AreWords (fields_of_head lines)
+head_words lines clean octets = head_has_words lines (are_lines lines clean octets)

@@ -1,6 +1,6 @@
 use Rattle.std.proofs.Common.{sym, subst}
 use Rattle.nntp_article.specs.{Inner.Fields.{AreWords}, declared.article.field.Field.TheVariants.{Subject, From, Date, References}}
-use Rattle.nntp_article.proofs.article.made_heads.push_fields.Goals as goal
+use Rattle.nntp_article.proofs.article.told_fields.push_fields.Goals as goal
 
 pub push_field-requires : goal.push_field-requires
 push_field-requires g c = subst AreWords (sym c.told.view_is) c.requires Subject

@@ -1,6 +1,6 @@
 use Rattle.std.proofs.Common.{rules}
 use Rattle.nntp_article.proofs.ArticleLemmas.MadeHeadLemmas.{first_written, word_written, line_clean}
-use Rattle.nntp_article.proofs.article.made_heads.push_field.Goals as goal
+use Rattle.nntp_article.proofs.article.told_fields.push_field.Goals as goal
 
 pub loop-word-init : goal.loop-word-init
 loop-word-init g c = search (rules, first_written)
