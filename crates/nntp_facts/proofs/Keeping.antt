@@ -22,7 +22,6 @@ pub mod NamedArticles
 pub mod NotedArticles
 pub mod NotedExchange
 pub mod NotedParts
-pub mod WordsTold
 pub mod NotedSessions
 pub mod OverviewsJoin
 pub mod OverviewsTold

@@ -29,6 +29,7 @@ mod added;
 mod known;
 mod sent;
 mod shown_articles;
+mod taken_articles;
 
 use crate::joins::Joins;
 use crate::saying::ArticlePart;
@@ -42,7 +43,8 @@ use std::alloc::{AllocError, Allocator, Global};
 use std::collections::{BTreeMap, BTreeSet};
 use std::marker::Model;
 use std::rc::RcStr;
-use std::str;
+use std::{mem, str};
+pub use taken_articles::{TakenArticle, TakenArticles};
 
 /// What all answers so far say of articles, by message-id.
 #[derive(Drop)]
@@ -155,6 +157,14 @@ impl<A: Allocator + Copy> Articles<A> {
             known: BTreeMap::new(alloc),
             denied: BTreeSet::new(alloc),
         }
+    }
+
+    /// Gives the ids that have articles away, in byte order, with what is known of each. None is left.
+    pub(crate) fn take(&mut self) -> TakenArticles<A>
+        ensures { result ≡ shown_articles self.old }
+    {
+        let known = mem::replace(&mut self.known, BTreeMap::new(self.alloc));
+        TakenArticles::new(known.into_iter())
     }
 
     /// Adds what is said of an id, if it may be so. Where what is said of a group is kept already, so

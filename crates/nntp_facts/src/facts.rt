@@ -17,7 +17,7 @@ ghost use Rattle.nntp_facts.specs.Inner.Noted.{HasNoted, HasNotedBehind, IsDue, 
 ghost use Rattle.nntp_theory.specs.Inner.Exchanged.{said_behind};
 ghost use Rattle.nntp_facts.specs.Inner.Readers.{ShownGroup as GroupValue, ShownArticle as ArticleValue, AreShownGroups, AreShownArticles};
 
-use crate::articles::{ShownArticle, ShownArticles};
+use crate::articles::{ShownArticle, ShownArticles, TakenArticles};
 use crate::facts_error::FactsError;
 use crate::kept::Kept;
 use crate::placed::Placed;
@@ -215,6 +215,14 @@ impl<A: Allocator + Copy> Facts<A> {
         ensures limit { self.new.limit ≡ self.old.limit }
     {
         self.kept.take_groups()
+    }
+
+    /// Gives away the articles that the accepted answers of all sessions show, in byte order of their message-ids, with
+    /// what is kept of them. Of the facts then nothing that they say of ids and articles is of use.
+    pub fn take_articles(&mut self) -> TakenArticles<A>
+        ensures { (facts : List Fact) → AreKeptArticles facts self.old.kept.articles → AreShownArticles facts result }
+    {
+        self.kept.take_articles()
     }
 
     /// Puts a bad answer beside all that the accepted ones of all sessions say, to tell about what they conflict.

@@ -26,7 +26,7 @@ mod noted;
 mod points;
 mod told;
 
-use crate::articles::{Added, Articles, ShownArticles};
+use crate::articles::{Added, Articles, ShownArticles, TakenArticles};
 use crate::groups::Groups;
 use crate::joins::Joins;
 use crate::names::Names;
@@ -261,6 +261,13 @@ impl<A: Allocator + Copy> Kept<A> {
         ensures articles { self.new.articles ≡ self.old.articles }
     {
         self.groups.take()
+    }
+
+    /// Gives away the articles that are shown, in byte order of their message-ids. None is left.
+    pub(crate) fn take_articles(&mut self) -> TakenArticles<A>
+        ensures { result ≡ shown_articles self.old.articles }
+    {
+        self.articles.take()
     }
 }
 

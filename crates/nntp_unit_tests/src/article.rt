@@ -1,5 +1,5 @@
 //! What heads and overviews tell of four headers, where they differ, and heads that are made of it.
-use nntp_article::{Field, FieldWords, Fields, made_head};
+use nntp_article::{Field, FieldWords, Fields, ToldFields, made_head};
 use nntp_refusing::{Refusal, Refusing};
 use nntp_wire::{Answer, Block, Command, MessageId, OwnedBlock, Prompt, frame, overview_line};
 use std::alloc::{AllocError, Allocator};
@@ -198,7 +198,8 @@ fn made_of<A: Allocator + Copy>(
     lines: &Block<'_>,
 ) -> Result<OwnedBlock<A>, AllocError> {
     let lines = lines.to_owned(alloc)?;
-    made_head(alloc, id, Some(Fields::of_head(&lines.as_block())))
+    let told = ToldFields::of(alloc, Fields::of_head(&lines.as_block()))?;
+    made_head(alloc, id, Some(&told))
 }
 
 #[test]

@@ -1,12 +1,11 @@
 //! The parts of the articles of the given spool, of which less may be shown than they have.
-ghost use Rattle.std.specs.Prelude.{◌≡◌, [], IfOk, IfSome, unwrap_or};
+ghost use Rattle.std.specs.Prelude.{◌≡◌, [], IfOk, option_map, unwrap_or};
 ghost use Rattle.std.specs.Rc.{rc_str_bytes};
 ghost use Rattle.nntp_wire.specs.Name.{IsMessageId};
 ghost use Rattle.nntp_article.specs.Article.Fields.{made_head};
-ghost use Rattle.nntp_article.specs.Inner.Fields.{AreWords};
 ghost use Rattle.nntp_witness.specs.Inner.Making.{Makes};
 
-use nntp_article::{Fields, made_head};
+use nntp_article::{ToldFields, made_head};
 use nntp_facts::ShownArticle;
 use nntp_spool::SpoolFault;
 use nntp_wire::{MessageId, OwnedBlock};
@@ -22,7 +21,7 @@ pub(crate) fn given_head<A: Allocator + Copy>(
 {
     match shown.head() {
         Some(head) => shared(head),
-        None => head_of(alloc, shown.id(), shown.fields()),
+        None => head_of(alloc, shown.id(), shown.told()),
     }
 }
 
@@ -64,10 +63,9 @@ pub(crate) fn no_lines<A: Allocator + Copy>(alloc: A) -> Result<Rc<OwnedBlock<A>
 pub(crate) fn head_of<A: Allocator + Copy>(
     alloc: A,
     id: &RcStr<A>,
-    told: Option<Fields<'_>>,
+    told: Option<&ToldFields<A>>,
 ) -> Result<Rc<OwnedBlock<A>, A>, SpoolFault>
-    requires { IfSome told AreWords }
-    ensures { IsMessageId (rc_str_bytes id.now) → Makes result (λ head. head.value ≡ made_head (rc_str_bytes id.now) told.entry) }
+    ensures { IsMessageId (rc_str_bytes id.now) → Makes result (λ head. head.value ≡ made_head (rc_str_bytes id.now) (option_map (λ told. told.now) told.entry)) }
 {
     let Some(id) = MessageId::parse(id.as_str().as_bytes()) else {
         return Err(SpoolFault::BadId);
@@ -82,10 +80,9 @@ pub(crate) fn head_of<A: Allocator + Copy>(
 fn shared_head<A: Allocator + Copy>(
     alloc: A,
     id: &MessageId<'_>,
-    told: Option<Fields<'_>>,
+    told: Option<&ToldFields<A>>,
 ) -> Result<Rc<OwnedBlock<A>, A>, AllocError>
-    requires { IfSome told AreWords }
-    ensures { IfOk result (λ head. head.value ≡ made_head id.now told.entry) }
+    ensures { IfOk result (λ head. head.value ≡ made_head id.now (option_map (λ told. told.now) told.entry)) }
 {
     Ok(Rc::new(alloc, made_head(alloc, id, told)?)?)
 }

@@ -22,9 +22,9 @@ use std::alloc::{AllocError, Allocator};
 /// needs it has one number more, and a number has a message-id of the form `<wK@invented.invalid>`
 /// where none is shown.
 ///
-/// The facts must not have failed. They give each group away as it is made, so no group is left of
-/// them, and what is said of groups isn't held beside the spool. It takes time in the order of what
-/// the facts hold, but for logarithms.
+/// The facts must not have failed. They give each group and each article away as it is made, so
+/// none is left of them, and what is said isn't held beside the spool. It takes time in the order of
+/// what the facts hold, but for logarithms.
 ///
 /// # Errors
 ///
@@ -51,6 +51,6 @@ fn make<A: Allocator + Copy>(alloc: A, facts: &mut Facts<A>) -> Result<Spool<A>,
 {
     let groups = facts.take_groups();
     let mut maker = SpoolMaker::of_groups(alloc, facts, groups)?;
-    maker.add_articles(facts)?;
+    maker.add_articles(facts.take_articles())?;
     maker.finish()
 }

@@ -4,7 +4,7 @@ ghost use Rattle.nntp_wire.specs.declared.limit.Limit.{Limit};
 ghost use Rattle.nntp_article.specs.Article.Parts.{Id};
 ghost use Rattle.nntp_article.specs.Session.Spool.{Spool as SpoolValue};
 ghost use Rattle.nntp_said.specs.Facts.{Fact};
-ghost use Rattle.nntp_facts.specs.Inner.Readers.{ShownGroup as GroupValue, ShownArticle as ArticleValue, AreShownGroups};
+ghost use Rattle.nntp_facts.specs.Inner.Readers.{ShownGroup as GroupValue, ShownArticle as ArticleValue, AreShownArticles, AreShownGroups};
 ghost use Rattle.nntp_facts.specs.Inner.ReadersView.{number_value};
 ghost use Rattle.nntp_spool.specs.Inner.Text.{IsWritten};
 ghost use Rattle.nntp_witness.specs.Inner.Witness.{HaveArticles, IsGivenSpool};
@@ -12,7 +12,9 @@ ghost use Rattle.nntp_witness.specs.Inner.Making.{Makes, unseen_number, GroupsLe
 
 use crate::article::{given_body, given_head, head_of, no_lines};
 use crate::invented::invent;
-use nntp_facts::{Facts, ShownArticle, ShownGroup, ShownNumber, ShownNumbers, TakenGroups};
+use nntp_facts::{
+    Facts, ShownArticle, ShownGroup, ShownNumber, ShownNumbers, TakenArticles, TakenGroups,
+};
 use nntp_spool::{Spool, SpoolBuilder, SpoolFault};
 use nntp_wire::OwnedBlock;
 use std::alloc::Allocator;
@@ -139,16 +141,15 @@ impl<A: Allocator + Copy> SpoolMaker<A> {
             .article_sharing(&invented.id, &head, &self.no_lines)
     }
 
-    /// Adds the articles that are shown.
-    pub(crate) fn add_articles(&mut self, facts: &Facts<A>) -> Result<(), SpoolFault>
-        ensures { (said : List Fact) (G : SpoolValue) → HaveArticles facts.now said
-            → IsGivenSpool facts.now.limit said G
-            → GroupsLeft facts.now.limit said G [] self.old.builder self.old.next
-            → Makes result (λ _. ArticlesLeft facts.now.limit said G [] self.new.builder) }
+    /// Adds the articles that are shown, which the facts have given away.
+    pub(crate) fn add_articles(&mut self, mut articles: TakenArticles<A>) -> Result<(), SpoolFault>
+        ensures { (limit : Limit) (said : List Fact) (G : SpoolValue) → AreShownArticles said articles
+            → IsGivenSpool limit said G
+            → GroupsLeft limit said G [] self.old.builder self.old.next
+            → Makes result (λ _. ArticlesLeft limit said G [] self.new.builder) }
     {
-        let mut articles = facts.articles();
         while let Some(article) = articles.next() {
-            self.add_article(&article)?;
+            self.add_article(&article.shown())?;
         }
         Ok(())
     }

@@ -44,3 +44,7 @@ module _ {A : Type 0} (es : List (RcStr A × KnownArticle A)) (ks : List (Vec �
 -- the text of the entry is that of the id
 pub same_key : {A : Type 0} (key held text : RcStr A) (id : Id) → text_cmp key held ≡ Equal → rc_str_bytes key ≡ id → rc_str_bytes text ≡ rc_str_bytes held → rc_str_bytes text ≡ id
 same_key key held text id equal is cloned = cloned ∙ sym (slice_cmp-IsAntisymmetric nat_cmp-IsAntisymmetric (rc_str_bytes key) (rc_str_bytes held) equal) ∙ is
+
+-- an article that is known has one
+pub not_denied : {A : Type 0} (a : KnownArticle A) → (known_article a).is_denied ≡ false
+not_denied a = grind arith

@@ -1,6 +1,6 @@
 -- What the code's values keep of articles.
 use Rattle.std.specs.{Prelude.{Bool, true, false, List, Option, None, Some, option_map, map, refl}, Option.{option_or}, Coded.{Coded, code_by, coded×, coded_ℕ}}
-use Rattle.std.specs.{Coded.{coded_list, coded_option, coded_bool}, declared.rc.{Rc.{Rc}, RcStr.{RcStr}}, Rc.{rc_str_bytes}}
+use Rattle.std.specs.{Coded.{coded_list, coded_option, coded_bool}, declared.{boxed.Box.{Box}, rc.{Rc.{Rc}, RcStr.{RcStr}}}, Rc.{rc_str_bytes}}
 use Rattle.nntp_article.specs.Article.{Parts.{Id, Line}, Fields.{Fields, fields_of_head}}
 use Rattle.nntp_facts.specs.{Inner.{Kept.{KeptArticle}, Articles.{unsent, telling}}, declared.articles.known.KnownArticle.{KnownArticle, TheVariants.{Unsent}}}
 use Rattle.nntp_facts.specs.declared.articles.{known.KnownArticle.TheVariants.{Listed, Named, Told, Head, Body, ToldBody, Whole}, added.Added.{Added}}
@@ -11,27 +11,31 @@ use Rattle.nntp_facts.specs.declared.articles.added.Added.TheVariants as adds
 abbrev pub lines_held : {A : Type 0} → Option (Rc (List Line) A) → Option (List Line)
 lines_held held = option_map (λ block. block.value) held
 
--- what is kept of an article that a success named: these lines of its head were sent, or else these tell what overviews told, and these of its body were sent
-abbrev pub of_parts : Option (List Line) → Option (List Line) → Option (List Line) → KeptArticle
-of_parts head told body = record { is_denied = false; is_sent = true; head = head; fields = option_map fields_of_head (option_or head told); body = body }
+-- what overviews told that is held, if they told
+abbrev pub fields_kept : {A : Type 0} → Option (Box Fields A) → Option Fields
+fields_kept held = option_map (λ told. told.value) held
+
+-- what is kept of an article that a success named: these lines of its head were sent, or else overviews told this, and these of its body were sent
+abbrev pub of_parts : Option (List Line) → Option Fields → Option (List Line) → KeptArticle
+of_parts head told body = record { is_denied = false; is_sent = true; head = head; fields = option_or (option_map fields_of_head head) told; body = body }
 
 -- what is kept of an article
 abbrev pub known_article : {A : Type 0} → KnownArticle A → KeptArticle
 known_article Unsent = unsent
-known_article (Listed told) = telling false (Some (fields_of_head told.value))
+known_article (Listed told) = telling false (Some told.value)
 known_article Named = telling true None
-known_article (Told told) = telling true (Some (fields_of_head told.value))
+known_article (Told told) = telling true (Some told.value)
 known_article (Head head) = of_parts (Some head.value) None None
 known_article (Body body) = of_parts None None (Some body.value)
-known_article (ToldBody lines) = of_parts None (Some lines.value.head.value) (Some lines.value.body.value)
+known_article (ToldBody article) = of_parts None (Some article.value.told.value) (Some article.value.body.value)
 known_article (Whole lines) = of_parts (Some lines.value.head.value) None (Some lines.value.body.value)
 
--- the lines that stand for what overviews told, where no head was sent
-abbrev pub lines_told : {A : Type 0} → KnownArticle A → Option (List Line)
-lines_told (Listed told) = Some told.value
-lines_told (Told told) = Some told.value
-lines_told (ToldBody lines) = Some lines.value.head.value
-lines_told article = None
+-- what overviews told, where no head was sent
+abbrev pub fields_held : {A : Type 0} → KnownArticle A → Option Fields
+fields_held (Listed told) = Some told.value
+fields_held (Told told) = Some told.value
+fields_held (ToldBody article) = Some article.value.told.value
+fields_held article = None
 
 -- what is kept of articles, one after the other
 abbrev pub entries_value : {A : Type 0} → List (RcStr A × KnownArticle A) → List (Id × KeptArticle)

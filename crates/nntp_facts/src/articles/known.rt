@@ -5,10 +5,10 @@ ghost use Rattle.nntp_article.specs.Inner.Fields.{AreWords};
 ghost use Rattle.nntp_theory.specs.Inner.Together.{AreSame};
 ghost use Rattle.nntp_facts.specs.Inner.Articles.{MayBeSent, MayBeTold, telling, with_sent, with_told};
 ghost use Rattle.nntp_facts.specs.Inner.Kept.{IsAddedIf};
-ghost use Rattle.nntp_facts.specs.Inner.ArticleView.{known_article, lines_held, lines_told, of_parts};
+ghost use Rattle.nntp_facts.specs.Inner.ArticleView.{fields_held, fields_kept, known_article, lines_held, of_parts};
 
 use crate::articles::sent::Sent;
-use nntp_article::{Field, Fields, field_lines};
+use nntp_article::{Field, Fields, ToldFields};
 use nntp_wire::{Block, OwnedBlock};
 use std::alloc::{AllocError, Allocator};
 use std::boxed::Box;
@@ -21,18 +21,18 @@ pub(crate) enum KnownArticle<A: Allocator> {
     /// No success of ARTICLE, HEAD, BODY, STAT or of OVER or XOVER without a range named the article, and no overview told of
     /// it.
     Unsent,
-    /// No such success named the article. Overviews of a range told what these lines of headers do.
-    Listed(Rc<OwnedBlock<A>, A>),
+    /// No such success named the article. Overviews of a range told this.
+    Listed(Box<ToldFields<A>, A>),
     /// A success named the article, none of its lines were sent, and no overview told of it.
     Named,
-    /// A success named the article, and none of its lines were sent. Overviews told what these lines of headers do.
-    Told(Rc<OwnedBlock<A>, A>),
+    /// A success named the article, and none of its lines were sent. Overviews told this.
+    Told(Box<ToldFields<A>, A>),
     /// The lines of the head were sent, and none of the body.
     Head(Rc<OwnedBlock<A>, A>),
     /// The lines of the body were sent, and none of the head, and no overview told of the article.
     Body(Rc<OwnedBlock<A>, A>),
-    /// The lines of the body were sent, and none of the head. In its place are lines of headers that tell what overviews did.
-    ToldBody(Box<WholeArticle<A>, A>),
+    /// The lines of the body were sent, and none of the head. Overviews told of the article.
+    ToldBody(Box<ToldArticle<A>, A>),
     /// The lines of both were sent.
     Whole(Box<WholeArticle<A>, A>),
 }
@@ -46,6 +46,15 @@ pub(crate) struct WholeArticle<A: Allocator> {
     body: Rc<OwnedBlock<A>, A>,
 }
 
+/// The lines of an article's body, and what overviews told of it.
+#[derive(Drop)]
+pub(crate) struct ToldArticle<A: Allocator> {
+    /// What overviews told.
+    told: Box<ToldFields<A>, A>,
+    /// The lines of the body.
+    body: Rc<OwnedBlock<A>, A>,
+}
+
 /// Tells whether lines that are sent are those that are held, where there are both.
 fn are_same<A: Allocator>(sent: &Option<Block<'_>>, held: Option<&Rc<OwnedBlock<A>, A>>) -> bool
     ensures { IsTrue result ↔ AreSame sent.now (option_map (λ block. block.now.value) held.entry) }
@@ -54,14 +63,6 @@ fn are_same<A: Allocator>(sent: &Option<Block<'_>>, held: Option<&Rc<OwnedBlock<
         (Some(sent), Some(held)) => sent.is_same(&held.as_ref().as_block()),
         _ => true,
     }
-}
-
-/// What lines that are held tell of the four headers.
-fn fields_of<A: Allocator>(lines: &Rc<OwnedBlock<A>, A>) -> Fields<'_>
-    ensures fields { result ≡ fields_of_head lines.now.value }
-    ensures words { AreWords result }
-{
-    Fields::of_head(&lines.as_ref().as_block())
 }
 
 /// Copies lines, if they are sent.
@@ -102,42 +103,32 @@ impl<A: Allocator> KnownArticle<A> {
     {
         match self {
             KnownArticle::Body(body) => Some(body),
-            KnownArticle::ToldBody(lines) => Some(&lines.as_ref().body),
+            KnownArticle::ToldBody(article) => Some(&article.as_ref().body),
             KnownArticle::Whole(lines) => Some(&lines.as_ref().body),
             _ => None,
         }
     }
 
-    /// Returns the lines of headers that tell what overviews told, if no head was sent and one told of the article.
-    fn told(&self) -> Option<&Rc<OwnedBlock<A>, A>>
-        ensures { option_map (λ told. told.now.value) result ≡ lines_told self.now }
+    /// Returns what overviews told, if no head was sent and one told of the article.
+    pub(crate) fn told(&self) -> Option<&ToldFields<A>>
+        ensures { option_map (λ told. told.now) result ≡ fields_held self.now }
     {
         match self {
-            KnownArticle::Listed(told) => Some(told),
-            KnownArticle::Told(told) => Some(told),
-            KnownArticle::ToldBody(lines) => Some(&lines.as_ref().head),
+            KnownArticle::Listed(told) => Some(told.as_ref()),
+            KnownArticle::Told(told) => Some(told.as_ref()),
+            KnownArticle::ToldBody(article) => Some(article.as_ref().told.as_ref()),
             _ => None,
-        }
-    }
-
-    /// Returns the lines that tell of the four headers: those of the head, or of what overviews told.
-    fn telling(&self) -> Option<&Rc<OwnedBlock<A>, A>>
-        ensures { option_map (λ lines. fields_of_head lines.now.value) result ≡ (known_article self.now).fields }
-    {
-        match self.head() {
-            Some(head) => Some(head),
-            None => self.told(),
         }
     }
 
     /// Returns what a head that was sent or overviews tell of the four headers, if anything tells of them.
     pub(crate) fn fields(&self) -> Option<Fields<'_>>
-        ensures fields { result ≡ (known_article self.now).fields }
-        ensures words { IfSome result AreWords }
+        ensures { result ≡ (known_article self.now).fields }
     {
-        match self.telling() {
-            Some(lines) => Some(fields_of(lines)),
-            None => None,
+        match (self.head(), self.told()) {
+            (Some(head), _) => Some(Fields::of_head(&head.as_ref().as_block())),
+            (None, Some(told)) => Some(told.fields()),
+            (None, None) => None,
         }
     }
 
@@ -161,11 +152,11 @@ impl<A: Allocator> KnownArticle<A> {
 
     /// Tells whether a head that is sent tells what overviews told, where no head was sent before.
     fn may_tell(&self, sent: &Sent<'_>) -> bool
-        ensures { IsTrue result ↔ AreSame (option_map fields_of_head sent.now.head) (option_map fields_of_head (lines_told self.now)) }
+        ensures { IsTrue result ↔ AreSame (option_map fields_of_head sent.now.head) (fields_held self.now) }
     {
         match (&sent.head, self.told()) {
             (Some(head), Some(told)) => Fields::of_head(head)
-                .first_difference(fields_of(told))
+                .first_difference(told.fields())
                 .is_none(),
             _ => true,
         }
@@ -213,22 +204,22 @@ impl<A: Allocator + Copy> KnownArticle<A> {
             }
             KnownArticle::Listed(told) => KnownArticle::with_both(alloc, sent, Some(told)),
             KnownArticle::Told(told) => KnownArticle::with_both(alloc, sent, Some(told)),
-            KnownArticle::ToldBody(lines) => {
-                Ok(KnownArticle::with_head(lines, copied(alloc, &sent.head)?))
+            KnownArticle::ToldBody(article) => {
+                KnownArticle::with_head(alloc, article, copied(alloc, &sent.head)?)
             }
             KnownArticle::Whole(lines) => Ok(KnownArticle::Whole(lines)),
             _ => KnownArticle::with_both(alloc, sent, None),
         }
     }
 
-    /// Returns what is known of an article of which none was sent before these parts, and of which lines of headers tell
-    /// what overviews told, if they told of it.
+    /// Returns what is known of an article of which none was sent before these parts, and of which overviews told this, if
+    /// they told of it.
     fn with_both(
         alloc: A,
         sent: &Sent<'_>,
-        told: Option<Rc<OwnedBlock<A>, A>>,
+        told: Option<Box<ToldFields<A>, A>>,
     ) -> Result<KnownArticle<A>, AllocError>
-        ensures { IfOk result (λ article. known_article article ≡ of_parts sent.now.head (lines_held told) sent.now.body) }
+        ensures { IfOk result (λ article. known_article article ≡ of_parts sent.now.head (fields_kept told) sent.now.body) }
     {
         KnownArticle::of_parts(
             alloc,
@@ -240,30 +231,26 @@ impl<A: Allocator + Copy> KnownArticle<A> {
 
     /// Returns what is known of an article whose body was sent, and of which overviews told, once this head is sent, if one is.
     fn with_head(
-        lines: Box<WholeArticle<A>, A>,
+        alloc: A,
+        article: Box<ToldArticle<A>, A>,
         head: Option<Rc<OwnedBlock<A>, A>>,
-    ) -> KnownArticle<A>
-        ensures { known_article result ≡ of_parts (lines_held head) (Some lines.value.head.value) (Some lines.value.body.value) }
+    ) -> Result<KnownArticle<A>, AllocError>
+        ensures { IfOk result (λ known. known_article known
+            ≡ of_parts (lines_held head) (Some article.value.told.value) (Some article.value.body.value)) }
     {
-        let mut lines = lines;
-        match head {
-            Some(head) => {
-                lines.as_mut().head = head;
-                KnownArticle::Whole(lines)
-            }
-            None => KnownArticle::ToldBody(lines),
-        }
+        let ToldArticle { told, body } = Box::into_inner(article);
+        KnownArticle::of_parts(alloc, head, Some(told), Some(body))
     }
 
-    /// Returns what is known of an article that a success named, and of which these parts were sent. Where no head was, lines
-    /// of headers tell what overviews told, if they told of it.
+    /// Returns what is known of an article that a success named, and of which these parts were sent, and overviews told
+    /// this, if they told of it.
     fn of_parts(
         alloc: A,
         head: Option<Rc<OwnedBlock<A>, A>>,
-        told: Option<Rc<OwnedBlock<A>, A>>,
+        told: Option<Box<ToldFields<A>, A>>,
         body: Option<Rc<OwnedBlock<A>, A>>,
     ) -> Result<KnownArticle<A>, AllocError>
-        ensures { IfOk result (λ article. known_article article ≡ of_parts (lines_held head) (lines_held told) (lines_held body)) }
+        ensures { IfOk result (λ article. known_article article ≡ of_parts (lines_held head) (fields_kept told) (lines_held body)) }
     {
         match (head, told, body) {
             (Some(head), _, Some(body)) => {
@@ -271,9 +258,9 @@ impl<A: Allocator + Copy> KnownArticle<A> {
                 Ok(KnownArticle::Whole(lines))
             }
             (Some(head), _, None) => Ok(KnownArticle::Head(head)),
-            (None, Some(head), Some(body)) => {
-                let lines = Box::new(alloc, WholeArticle { head, body })?;
-                Ok(KnownArticle::ToldBody(lines))
+            (None, Some(told), Some(body)) => {
+                let article = Box::new(alloc, ToldArticle { told, body })?;
+                Ok(KnownArticle::ToldBody(article))
             }
             (None, Some(told), None) => Ok(KnownArticle::Told(told)),
             (None, None, Some(body)) => Ok(KnownArticle::Body(body)),
@@ -294,7 +281,7 @@ impl<A: Allocator + Copy> KnownArticle<A> {
         ensures { IfOk result (λ may. IsAddedIf (MayBeTold (known_article self.old) told.entry)
             (λ article. article ≡ with_told (known_article self.old) is_sent told.entry) (known_article self.old) (known_article self.new) may) }
     {
-        if self.telling().is_none() {
+        if self.fields().is_none() {
             *self = mem::replace(self, KnownArticle::Unsent).with_told(alloc, told, is_sent)?;
             return Ok(true);
         }
@@ -318,28 +305,25 @@ impl<A: Allocator + Copy> KnownArticle<A> {
         ensures { IfOk result (λ article. (known_article self).fields ≡ None
             → known_article article ≡ with_told (known_article self) is_sent told.entry) }
     {
-        let lines = Rc::new(alloc, field_lines(alloc, told)?)?;
+        let told = Box::new(alloc, ToldFields::of(alloc, told)?)?;
         match self {
-            KnownArticle::Unsent => Ok(KnownArticle::first_told(lines, is_sent)),
-            KnownArticle::Named => Ok(KnownArticle::Told(lines)),
-            KnownArticle::Body(body) => KnownArticle::of_parts(
-                alloc,
-                None,
-                Some(lines),
-                Some(body),
-            ),
+            KnownArticle::Unsent => Ok(KnownArticle::first_told(told, is_sent)),
+            KnownArticle::Named => Ok(KnownArticle::Told(told)),
+            KnownArticle::Body(body) => {
+                KnownArticle::of_parts(alloc, None, Some(told), Some(body))
+            }
             other => Ok(other),
         }
     }
 
-    /// Returns what is known of an article of which overviews alone tell what these lines do.
-    fn first_told(lines: Rc<OwnedBlock<A>, A>, is_sent: bool) -> KnownArticle<A>
-        ensures { known_article result ≡ telling is_sent (Some (fields_of_head lines.value)) }
+    /// Returns what is known of an article of which overviews alone told this.
+    fn first_told(told: Box<ToldFields<A>, A>, is_sent: bool) -> KnownArticle<A>
+        ensures { known_article result ≡ telling is_sent (Some told.value) }
     {
         if is_sent {
-            KnownArticle::Told(lines)
+            KnownArticle::Told(told)
         } else {
-            KnownArticle::Listed(lines)
+            KnownArticle::Listed(told)
         }
     }
 

@@ -1,13 +1,12 @@
 //! The articles that answers show, one after the other.
-ghost use Rattle.std.specs.Prelude.{◌≡◌, IfSome, option_map};
+ghost use Rattle.std.specs.Prelude.{◌≡◌, None, MatchOption, option_map};
 ghost use Rattle.std.specs.Iterator.{YieldsFirst, item_count};
 ghost use Rattle.std.specs.Rc.{rc_str_bytes};
-ghost use Rattle.nntp_article.specs.Inner.Fields.{AreWords};
-ghost use Rattle.nntp_facts.specs.Inner.Readers.{articles_shown_in};
-ghost use Rattle.nntp_facts.specs.Inner.ArticleView.{entries_value};
+ghost use Rattle.nntp_facts.specs.Inner.Readers.{articles_shown_in, shown_article};
+ghost use Rattle.nntp_facts.specs.Inner.ArticleView.{entries_value, known_article};
 
 use crate::articles::known::KnownArticle;
-use nntp_article::Fields;
+use nntp_article::ToldFields;
 use nntp_wire::OwnedBlock;
 use std::alloc::{Allocator, Global};
 use std::collections::btree_map;
@@ -35,6 +34,13 @@ impl<'a, A: Allocator> Model for ShownArticle<'a, A> {
 }
 
 impl<'a, A: Allocator> ShownArticle<'a, A> {
+    /// Shows what is known of the article of an id.
+    pub(crate) fn new(id: &'a RcStr<A>, article: &'a KnownArticle<A>) -> ShownArticle<'a, A>
+        ensures { result ≡ shown_article (rc_str_bytes id.now) (known_article article.now) }
+    {
+        ShownArticle { id, article }
+    }
+
     /// Returns the article's message-id, with the angle brackets (RFC 3977, section 3.6).
     pub fn id(&self) -> &'a RcStr<A>
         ensures { rc_str_bytes result.now ≡ self.now.id }
@@ -57,12 +63,12 @@ impl<'a, A: Allocator> ShownArticle<'a, A> {
         self.article.head()
     }
 
-    /// Returns what the article's head or overviews tell of four headers, or `None` if no answer sent a head or told of them.
-    pub fn fields(&self) -> Option<Fields<'a>>
-        ensures fields { result ≡ self.now.fields }
-        ensures words { IfSome result AreWords }
+    /// Returns what overviews told of four headers, or `None` if an answer sent the article's head, or no overview told of
+    /// them.
+    pub fn told(&self) -> Option<&'a ToldFields<A>>
+        ensures { MatchOption self.now.head (option_map (λ told. told.now) result ≡ self.now.fields) (λ head. result ≡ None) }
     {
-        self.article.fields()
+        self.article.told()
     }
 
     /// Returns the lines of the article's body, or `None` if no answer sent them.
@@ -111,6 +117,6 @@ impl<'a, A: Allocator> Iterator for ShownArticles<'a, A> {
 
     fn next(&mut self) -> Option<ShownArticle<'a, A>> {
         let (id, article) = self.rest.next()?;
-        Some(ShownArticle { id, article })
+        Some(ShownArticle::new(id, article))
     }
 }

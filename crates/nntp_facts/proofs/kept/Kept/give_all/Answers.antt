@@ -4,7 +4,7 @@ use Rattle.nntp_article.specs.{Article.Fields.{fields_told}, Inner.Fields.{AreWo
 use Rattle.nntp_theory.specs.Inner.Together.{said_of}
 use Rattle.nntp_facts.{specs.Inner.{Kept.{AreKept}, KeptSaying.{MayGive, with_overviews}, ListedOverviews.{HaveOwn}}, proofs.Keeping.OverviewsJoin.{none_yet}}
 use Rattle.nntp_facts.proofs.Keeping.{OverviewsJoin.{so_far, AreGiven, said_so_far, said_next, may_give_next, one_more_given}, SaidOfArticles.{nothing_more}}
-use Rattle.nntp_facts.proofs.Keeping.WordsTold.{overviews_words}
+use Rattle.nntp_article.proofs.ArticleLemmas.WordsOfLines.{overviews_words}
 use Rattle.nntp_facts.proofs.kept.Kept.give_all.Goals as goal
 
 pub loop-overview-init : goal.loop-overview-init
