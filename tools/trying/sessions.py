@@ -44,7 +44,7 @@ def expect_text(trial: Trial, name: str, page: PageReader, *texts: str) -> None:
 def try_examples(trial: Trial) -> None:
     paths = sorted(glob.glob("examples/**/*.capture", recursive=True))
     trial.page("all examples", joined(*paths), "--show-passwords")
-    trial.page("all examples", joined(*paths, *paths), "--strict-marks", "--wide")
+    trial.page("all examples", joined(*paths, *paths), "--strict-marks", "--wide", "--overview")
     page = trial.page("inn-between", joined(*sorted(glob.glob("examples/inn-between/*.capture"))))
     wanted = "says nothing, accepted, named, says nothing; says nothing, Contradiction, says nothing"
     trial.expect(states_of(page) == wanted, f"inn-between: {states_of(page)}")

@@ -28,6 +28,8 @@ SAYING_CODES = {
     **dict.fromkeys((b"NEXT", b"LAST"), STEP_CODES),
     **dict.fromkeys((b"ARTICLE", b"HEAD", b"BODY", b"STAT"), ARTICLE_CODES),
 }
+# Those of answers to OVER and XOVER, where these are judged.
+OVERVIEW_CODES = frozenset(b"224 420 423 430".split())
 
 
 class Disagreement(Exception):
@@ -71,11 +73,14 @@ class Exchange:
         """The code of the answer; no octets if it has none."""
         return code_of(self.initial or b"")
 
-    def says_nothing(self) -> bool:
-        """Whether the answer says nothing of any group, number or article, by the rule of tools/judge."""
+    def says_nothing(self, has_overviews: bool) -> bool:
+        """Whether the answer says nothing of any group, number or article, by the rule of tools/judge. OVER and XOVER
+        may be judged or not."""
         word, *arguments = [word.upper() for word in self.words()] or [b""]
         if word == b"LIST":
             return self.code() != b"215" or arguments[:1] not in ([], [b"ACTIVE"])
+        if word in (b"OVER", b"XOVER"):
+            return not (has_overviews and are_overviewed(arguments)) or self.code() not in OVERVIEW_CODES
         return self.code() not in SAYING_CODES.get(word, ())
 
     def as_shown(self) -> str:
@@ -121,6 +126,13 @@ def is_list_group(line: bytes) -> bool:
     if UNCLEAN.search(line) or len(line) > 510 or not 1 <= len(words) <= 3:
         return False
     return words[0].upper() == b"LISTGROUP" and (len(words) < 3 or bool(RANGE.fullmatch(words[2])))
+
+
+def are_overviewed(arguments: List[bytes]) -> bool:
+    """Whether OVER asks for overviews by these words: by none, by an id, or by a range."""
+    if len(arguments) != 1:
+        return not arguments
+    return arguments[0].startswith(b"<") or bool(RANGE.fullmatch(arguments[0]))
 
 
 def is_block_due(line: Optional[bytes], initial: bytes) -> bool:

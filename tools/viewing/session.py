@@ -43,6 +43,8 @@ class Judgement:
 
     sessions: List[Session]
     explanation: Explanation
+    # Whether OVER and XOVER are judged.
+    has_overviews: bool
     # Which answers are bad, in their order.
     bad: List[Place] = field(init=False)
     # The answers that are named behind `because`, each with the bad ones that name it.
@@ -87,11 +89,11 @@ class Judgement:
             return bad.kind
         if exchange.place() in self.named_by:
             return "named"
-        return "says nothing" if exchange.says_nothing() else "accepted"
+        return "says nothing" if exchange.says_nothing(self.has_overviews) else "accepted"
 
 
-def judgement_of(capture: bytes, show: str, explain: str, has_passwords: bool) -> Judgement:
-    """What these reports of `show` and `explain` say of a capture."""
+def judgement_of(capture: bytes, show: str, explain: str, has_overviews: bool, has_passwords: bool) -> Judgement:
+    """What these reports of `show` and `explain` say of a capture, the second by judging OVER and XOVER or not."""
     explanation = explanation_of(explain)
     sessions = list(sessions_of(capture, show, explanation))
     agree(sessions, explanation)
@@ -100,7 +102,7 @@ def judgement_of(capture: bytes, show: str, explain: str, has_passwords: bool) -
         told.lines = told.lines[FRONT:]
     if not has_passwords:
         blot_out(sessions, explanation)
-    return Judgement(sessions, explanation)
+    return Judgement(sessions, explanation, has_overviews)
 
 
 def sessions_of(capture: bytes, show: str, explanation: Explanation) -> Iterator[Session]:
