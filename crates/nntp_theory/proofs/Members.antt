@@ -118,21 +118,12 @@ first_there {A} f (w ∷ xs) x y i e = by (f w) refl (first_there f xs x y)
 
 -- where nothing is given, no element gives something
 pub none_there : {A B : Type 0} (f : B → Option A) (xs : List B) (x : B) → In x xs → first_given f xs ≡ None → f x ≡ None
-none_there {A} f xs x i none = by (f x) refl
-  where
-    by : (o : Option A) → f x ≡ o → o ≡ None
-    by None e = refl
-    by (Some y) e = let z = first_there f xs x y i e in let same : None ≡ Some z.0 = sym none ∙ z.1 in cc
+none_there {A} f xs x i none = grind (arith, first_there f xs x)
 
 -- a part of what is given is that of the first
 pub part_first : {A B C : Type 0} (part : A → C) (f : B → Option A) (xs : List B) → first_given (λ x. option_map part (f x)) xs ≡ option_map part (first_given f xs)
 part_first part f [] = refl
-part_first {A} {B} {C} part f (x ∷ xs) = by (f x) (part_first part f xs)
-  where
-    by : (o : Option A) → first_given (λ x. option_map part (f x)) xs ≡ option_map part (first_given f xs)
-        → option_or (option_map part o) (first_given (λ x. option_map part (f x)) xs) ≡ option_map part (option_or o (first_given f xs))
-    by None e = e
-    by (Some y) e = refl
+part_first part f (x ∷ xs) = grind (arith, part_first part f xs)
 
 -- a list where each passes
 pub every : {A : Type 0} (p : A → Bool) (xs : List A) → ((x : A) → In x xs → IsTrue (p x)) → IsTrue (list_all p xs)
