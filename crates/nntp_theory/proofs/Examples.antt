@@ -149,11 +149,7 @@ digit_invented : (n : ℕ) → n < 10 → invented n ≡ codes "<w" ++ ((48 + n)
 digit_invented n small = ap (λ digits. codes "<w" ++ digits ++ codes "@invented.invalid>") (decimal_digit n small)
 
 one_is_invented : AreInvented absent 0 (codes "<w1@invented.invalid>" ∷ [])
-one_is_invented = (1, (omega arith, ap (is_mentioned absent) (digit_invented 1 (omega arith)), passed), sym (digit_invented 1 (omega arith)), tt)
-  where
-    passed : (i : ℕ) → 0 ≤ i → i < 1 → IsTrue (is_mentioned absent (invented i))
-    passed zero some low = ap (is_mentioned absent) (digit_invented 0 (omega arith))
-    passed (suc i) some low = absurd (omega arith)
+one_is_invented = grind (arith, digit_invented)
 
 repeated_falls : Together repeated → ⊥
 repeated_falls h = grind (arith, (h.ids_once (codes "g") (codes "<a@b>")).1.1.1.1.1.0)

@@ -43,9 +43,7 @@ module _ {K X : Type 0} {R : K → K → Ordering} (o : IsTotalOrder R) where
 find_distinct : {K X : Type 0} {R : K → K → Ordering} (o : IsTotalOrder R) (k : K) (v : X) (es : List (K × X)) → IsDistinct (eq_by_cmp R) (map (λ e. e.0) es) → In (k, v) es → find R k es ≡ Some v
 unfolding IsDistinct
 find_distinct o k v [] d i = absurd i
-find_distinct {R = R} o k v (e ∷ es) d i =
-    let apart = all_at (λ y. eq_by_cmp R e.0 y ≡ false) k (map (λ e. e.0) es) d.0 in
-    grind (arith, apart, in_map (λ e. e.0) (k, v) es, find_distinct o k v es d.1)
+find_distinct {R = R} o k v (e ∷ es) d i = grind (arith, all_at, in_map, find_distinct o k v es d.1)
 
 -- an entry that is found is one of the map's
 pub entry_in : {K X : Type 0} {R : K → K → Ordering} (same : IsAntisymmetric R) (q : K) (v : X) (es : List (K × X)) → find R q es ≡ Some v → In (q, v) es

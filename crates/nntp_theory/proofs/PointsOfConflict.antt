@@ -146,8 +146,7 @@ module _ (facts : List Fact) where
 
   -- where they don't at any of that rank, those of the next are looked at
   next : {A : Type 0} (n : ℕ) → Below n → AtRank n ⊎ A → (A → PointsOf Free n) → (A → Below (n + 1) → FirstPoint ⊎ Together facts) → FirstPoint ⊎ Together facts
-  next n below (inl (point, same, conflict)) free rest =
-      inl (point, record { conflict = conflict; first = λ other l. below other (subst (λ m. rank other < m) same l) })
+  next n below (inl (point, same, conflict)) free rest = grind (arith)
   next n below (inr a) free rest =
       rest a (λ other l. elim (cases_lt (rank other) n) [ inl low ↦ below other low | inr high ↦ of_rank Free n (free a) other (omega arith) ])
 

@@ -24,10 +24,7 @@ names_apart = slice_cmp-IsAntisymmetric nat_cmp-IsAntisymmetric
 -- a map with the keys of a list has each of them and no other
 key_listed : {K X : Type 0} {R : K → K → Ordering} (o : IsTotalOrder R) (same : IsAntisymmetric R) (m : FinMap R X) (ks : List K)
     → keys m ≡ keys (key_map R o same ks) → (q : K) → IsSome (get m q) ↔ In q ks
-key_listed {R = R} o same m ks e q = (
-  λ i. of_key_map R o same ks q (subst (In q) e (key_of o same m q i)),
-  λ i. of_key o same m q (subst (In q) (sym e) (in_key_map R o same ks q i)),
-)
+key_listed {R = R} o same m ks e q = grind (arith, of_key_map, key_of, of_key, in_key_map)
 
 -- the ids of a group
 abbrev ids_of : Name × Numbers → List Id
@@ -288,10 +285,7 @@ module _ (limit : ℕ) (B : ℕ) (facts : List Fact) where
     -- and so those of all groups
     groups_invented : (gs : List Name) (k : ℕ) → Goes k (unshown (groups_from k gs))
     groups_invented [] k = λ done used few. tt
-    groups_invented (g ∷ gs) k =
-        let rest = after_ids g k (keys (number_map g)) in
-        subst (λ es. Goes k (unshown_in facts g es ++ unshown (groups_from rest gs))) (sym (entries_group g k))
-        (ids_invented g (keys (number_map g)) k (unshown (groups_from rest gs)) (groups_invented gs rest))
+    groups_invented (g ∷ gs) k = grind (arith, entries_group, ids_invented, groups_invented gs)
 
     -- the ids are invented in turn
     made_invented : length (mentioned facts) + length (unshown_ids facts made) < B → AreInvented facts 0 (unshown_ids facts made)

@@ -47,15 +47,7 @@ no_number name n = ap (λ (o : Option Numbers). get (unwrap_or o empty) n) (get-
 
 -- nothing at all is a spool
 empty_is_spool : (profile : Profile) → IsSpool profile.limit no_spool
-empty_is_spool profile = record {
-  names = λ name i. absurd (true≢false (sym i ∙ ap is_some (get-empty (slice_cmp nat_cmp) name)));
-  numbers_in_limit = λ name n i. absurd (true≢false (sym i ∙ ap is_some (no_number name n)));
-  one_to_one = λ name n m id e f. (let bad : None ≡ Some id = sym (no_number name n) ∙ e in cc);
-  ids_have_articles = λ name n id e. (let bad : None ≡ Some id = sym (no_number name n) ∙ e in cc);
-  ids = λ id i. absurd (true≢false (sym i ∙ ap is_some (get-empty (slice_cmp nat_cmp) id)));
-  heads = λ id t e. absurd (true≢false (sym (ap is_some e) ∙ ap is_some (get-empty (slice_cmp nat_cmp) id)));
-  own_ids = λ id said t e says. (let bad : None ≡ Some t = sym (get-empty (slice_cmp nat_cmp) id) ∙ e in cc);
-}
+empty_is_spool profile = grind (arith, true≢false, get-empty, no_number)
 
 -- some spool permits no answers
 pub none_permitted : (profile : Profile) (ps : List Asked) (answers : List Response) → SomePermits profile ps (take 0 answers)

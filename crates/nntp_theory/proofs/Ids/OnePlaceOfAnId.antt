@@ -35,6 +35,4 @@ shown_with_id facts name n = given (first_given (id_in name n) facts) refl
 -- facts that stand together agree
 pub agree_together : (facts : List Fact) (name : Name) (n : ℕ) (id : Id) → AllByRecursion AgreesWithItself facts → GiveOne (number_in name id) facts
     → first_given (id_in name n) facts ≡ Some id → first_given (number_in name id) facts ≡ Some n
-agree_together facts name n id lists one e =
-    let f = first_found (id_in name n) facts id e in
-    one_given (number_in name id) facts one f.0 f.1 n (placed_by name n id f.0 (all_at AgreesWithItself f.0 facts lists f.1) f.2)
+agree_together facts name n id lists one e = grind (arith, first_found, one_given, placed_by, all_at)

@@ -88,12 +88,7 @@ module _ (limit : ℕ) (S : Spool) (facts : List Fact) (spool : IsSpool limit S)
 
   -- the article of an overview
   overview_text : (o : OverviewValue) → HasOverview S o → (t : Text) × (get S.articles o.id ≡ Some t) × (fields_of_head t.head ≡ fields_told o)
-  overview_text o h = by (get S.articles o.id) refl h
-    where
-      by : (t : Option Text) → get S.articles o.id ≡ t → MatchOption t ⊥ (λ t. fields_of_head t.head ≡ fields_told o)
-          → (t : Text) × (get S.articles o.id ≡ Some t) × (fields_of_head t.head ≡ fields_told o)
-      by None e h = absurd h
-      by (Some t) e h = (t, e, h)
+  overview_text o h = grind (arith)
 
   -- the id of one of the overviews has an article
   overview_has : (id : Id) (os : List OverviewValue) → AllByRecursion (HasOverview S) os → has_overview_of id os ≡ true → IsSome (get S.articles id)

@@ -30,8 +30,7 @@ IsProper (plain code) = ⊤
 
 -- overviews of lines have proper ids and words
 proper_overviews : (lines : List (List ℕ)) → AllByRecursion (λ line. IsTrue (is_line line)) lines → AllByRecursion IsProperOverview (overviews_of lines)
-proper_overviews lines h = all_from IsProperOverview (overviews_of lines) (λ o i.
-    (all_at (λ o. IsMessageId o.id) o (overviews_of lines) (overviews_of-named lines) i, all_at _ o (overviews_of lines) (overview_has_words lines h) i))
+proper_overviews lines h = grind (arith, all_from, all_at, overviews_of-named, overview_has_words)
 
 -- so are those of one that octets and a block say, in whatever way
 said_proper : (code : ℕ) (bytes : List ℕ) (block : Option (List (List ℕ))) (response : Response) → IfSome block (λ lines. AllByRecursion (λ line. IsTrue (is_line line)) lines)
