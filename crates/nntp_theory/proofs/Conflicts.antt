@@ -178,12 +178,8 @@ pub core_step : (profile : Profile) (bad : Placed) (answers : List Placed) (boun
     → IsPartOfCore profile bad answers bound places → k < bound → bound ≤ length answers
     → SomeHas profile (told_with profile bad answers (below k ++ places))
     → (SomeHas profile (told_with profile bad answers (below (k + 1) ++ places)) → ⊥) → IsPartOfCore profile bad answers k (k ∷ places)
-core_step profile bad answers bound k places p l within stands none = record {
-  there = (omega arith, p.there);
-  conflict = λ h. none (fewer_places profile bad answers (below (k + 1) ++ places) (below k ++ k ∷ places)
-      (λ j i. grind (arith, low_from j k (k ∷ places), low_cases j (k + 1) places i)) h);
-  found = (omega arith, stands, lower (StandsWith profile bad answers) bound (k + 1) places (omega arith) p.found);
-}
+core_step profile bad answers bound k places p l within stands none =
+    grind (arith, p.there, fewer_places profile bad answers (below (k + 1) ++ places) (below k ++ k ∷ places), low_from, low_cases, lower (StandsWith profile bad answers) bound (k + 1) places)
 
 pub core_done : (profile : Profile) (bad : Placed) (answers : List Placed) (bound : ℕ) (places : List ℕ)
     → IsPartOfCore profile bad answers bound places → (SomeHas profile (told_with profile bad answers places) → ⊥) → IsCore profile bad answers places
@@ -232,21 +228,7 @@ told_holds : (profile : Profile) (S : Spool) (all : List Fact) → IsSpool profi
     → AllByRecursion (IsPlaced profile.marks all) (facts_from profile.marks v at ps answers)
     → AllByRecursion (Holds S) (flat_map (told profile) (placed_from v at ps answers))
 told_holds profile S all spool holds v at (q ∷ ps) (a ∷ more) h p =
-    let here : Placed = record { selected = v.selected; position = at; asked = q; response = a } in
-    let own = facts_of profile.marks v at q a in
-    let rest = facts_from profile.marks (visible_after v q a) (position_after at q a) ps more in
-    let later = told_holds profile S all spool holds (visible_after v q a) (position_after at q a) ps more in
-    grind (
-      arith,
-      there_said profile.marks here v refl,
-      with_holds profile S all spool holds own,
-      all_both,
-      all_front (Holds S) own rest h,
-      all_back (Holds S) own rest h,
-      all_front (IsPlaced profile.marks all) own rest p,
-      all_back (IsPlaced profile.marks all) own rest p,
-      later,
-    )
+    grind (arith, v.selected, told_holds profile S all spool holds (visible_after v q a) (position_after at q a) ps more, there_said, with_holds profile S all spool holds, all_both, all_front (Holds S), all_back (Holds S), all_front, IsPlaced, all_back)
 told_holds profile S all spool holds v at ps answers h p = tt
 
 -- a session that fits is permitted exactly if some spool has what is told of it
@@ -327,9 +309,7 @@ found_in_each profile bad answers bound places some k p among none i =
 
 -- what conflicts somewhere doesn't stand together
 pub at_point : (facts : List Fact) (point : Point) → ConflictAt facts point → Together facts → ⊥
-at_point facts (Step name) h t =
-    let f = found_in (λ ask. not (is_possible ask)) (asks_of name facts) h in
-    true≢false (sym (all_at (λ ask. IsTrue (is_possible ask)) f.0 (asks_of name facts) (t.numbers name).possible f.1) ∙ not-true _ f.2)
+at_point facts (Step name) h t = grind (arith, found_in, true≢false, all_at, t.numbers name, not-true)
 at_point facts (Group name) h t = true≢false (sym h.1 ∙ t.groups name h.0)
 at_point facts (Number name n) h t = true≢false (sym h.1 ∙ (t.numbers name).not_denied n (inl h.0))
 at_point facts (Count name) h t = h.2 ((t.numbers name).few h.0 h.1)

@@ -68,8 +68,7 @@ to_flat f x y (z ∷ xs) i j = grind (arith, in_front, in_back, to_flat f x y xs
 -- an element of the joined parts is one of a part
 pub from_flat : {A B : Type 0} (f : A → List B) (y : B) (xs : List A) → In y (flat_map f xs) → (x : A) × In x xs × In y (f x)
 from_flat f y [] i = absurd i
-from_flat f y (x ∷ xs) i =
-    elim (in_cases y (f x) (flat_map f xs) i) [ inl j ↦ (x, inl refl, j) | inr j ↦ (let r = from_flat f y xs j in (r.0, inr r.1, r.2)) ]
+from_flat f y (x ∷ xs) i = grind (arith, in_cases y (f x) (flat_map f xs) i, from_flat f y xs)
 
 -- membership by places
 pub contains_in : {A : Type 0} (x : A) (xs : List A) → In x xs → Contains xs x

@@ -147,8 +147,7 @@ module _ (facts : List Fact) where
   -- where they don't at any of that rank, those of the next are looked at
   next : {A : Type 0} (n : ℕ) → Below n → AtRank n ⊎ A → (A → PointsOf Free n) → (A → Below (n + 1) → FirstPoint ⊎ Together facts) → FirstPoint ⊎ Together facts
   next n below (inl (point, same, conflict)) free rest = grind (arith)
-  next n below (inr a) free rest =
-      rest a (λ other l. elim (cases_lt (rank other) n) [ inl low ↦ below other low | inr high ↦ of_rank Free n (free a) other (omega arith) ])
+  next n below (inr a) free rest = grind (arith, cases_lt, of_rank Free n (free a))
 
   -- of a key of a fact the one is so, or of each key and fact the other
   each_key : {K : Type 0} (keys : Fact → List K) (C : Type 0) (P : K → Fact → Type 0) → ((k : K) (fact : Fact) → P k fact ⊎ In k (keys fact))
@@ -331,8 +330,4 @@ pub point_of_conflict : (profile : Profile) (bad : Placed) (answers : List Place
     → AllByRecursion IsWellFormed (told_with profile bad answers places) → size (told_with profile bad answers places) < 2 ^ 210
     → (SomeHas profile (told_with profile bad answers places) → ⊥) → (point : Point) × IsFirstPoint (told_with profile bad answers places) point
 point_of_conflict profile bad answers places fit fits formed small none =
-    let facts = told_with profile bad answers places in
-    let t = with_told profile bad answers places fit fits in
-    let fitting = told_fit profile facts t in
-    elim (stand_or_conflict profile Lenient facts fitting.0 fitting.1 formed)
-    [ inl c ↦ c | inr together ↦ absurd (none ((told_together profile facts t small).1 together)) ]
+    grind (arith, with_told profile bad answers places fit fits, told_fit profile, stand_or_conflict profile Lenient, told_together profile)

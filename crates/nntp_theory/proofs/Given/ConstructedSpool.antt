@@ -220,10 +220,8 @@ module _ (limit : ℕ) (B : ℕ) (facts : List Fact) where
   -- those ids have articles
   pub made_article : (id : Id) → IsSome (get made.articles id) ↔ (IsUsed made id ⊎ IsTrue (is_sent facts id))
   unfolding made
-  made_article id = (
-    λ i. (let t = some_is (get made.articles id) i in (id_made id).0 (get-made_of nat_list_cmp_total names_apart text_for made_ids id t.0 t.1).0),
-    λ h. in-made_of nat_list_cmp_total names_apart text_for made_ids id ((id_made id).1 h),
-  )
+  made_article id =
+      grind (arith, some_is, id_made id, get-made_of nat_list_cmp_total names_apart text_for made_ids id, in-made_of nat_list_cmp_total names_apart text_for made_ids id)
 
   -- and the articles are the given ones
   made_text : (id : Id) (t : Text) → get made.articles id ≡ Some t → t ≡ text_for id

@@ -146,8 +146,7 @@ module _ (profile : Profile) (B : ℕ) (G : Spool) (facts : List Fact) (s : Sett
 
   -- an article of G whose head is sent has that head
   head_is : (id : Id) (u : Text) (lines : List Line) (fact : Fact) → In fact facts → get G.articles id ≡ Some u → head_in id fact ≡ Some lines → u.head ≡ lines
-  head_is id u lines fact i there e = s.given.heads id u there
-      ∙ ap (λ o. unwrap_or o (made_head id (first_given (fields_in id) facts))) (one_given (head_in id) facts (s.together.heads id) fact i lines e)
+  head_is id u lines fact i there e = grind (arith, s.given.heads id u there, one_given (head_in id) facts, s.together.heads id)
 
   -- and that body
   body_is : (id : Id) (u : Text) (lines : List Line) (fact : Fact) → In fact facts → get G.articles id ≡ Some u → body_in id fact ≡ Some lines → u.body ≡ lines
@@ -156,17 +155,7 @@ module _ (profile : Profile) (B : ℕ) (G : Spool) (facts : List Fact) (s : Sett
   -- what was sent of an article is what G has of it
   text_is : (what : What) (id : Id) (lines : Option (List Line)) (u : Text) → In (TextIs what id lines) facts → head_fits what id lines ≡ true → get G.articles id ≡ Some u → text_of what u ≡ lines
   text_is what id (Some ls) u i f at =
-      let said : Fact = TextIs what id (Some ls) in
-      grind (
-        arith,
-        head_is id u ls said i at,
-        head_is id u (head_part ls) said i at,
-        body_is id u ls said i at,
-        body_is id u (body_part ls) said i at,
-        same_itself id,
-        and_parts,
-        parts_joined,
-      )
+      grind (arith, head_is id u ls, head_is id u (head_part ls), body_is id u ls, body_is id u (body_part ls), same_itself id, and_parts, parts_joined)
   text_is what id None u i f at = grind arith
 
   -- a group of G isn't denied
@@ -226,9 +215,8 @@ module _ (profile : Profile) (B : ℕ) (G : Spool) (facts : List Fact) (s : Sett
     same_itself name,
     eq-eqb,
   )
-  fact_holds (FieldsAre os) i f p = all_from (HasOverview G) os (λ o j.
-      overview_tells os (FieldsAre os) i (λ id. refl) (all_at AgreesWithItself (FieldsAre os) facts s.together.lists i) (all_at IsWellFormed (FieldsAre os) facts s.together.well_formed i) o j
-      ((s.given.articles o.id).1 (inr (any_in (gives_article o.id) (FieldsAre os) facts i (any_in (λ p. is_same p.id o.id) o os j (same_itself o.id))))))
+  fact_holds (FieldsAre os) i f p =
+      grind (arith, all_from (HasOverview G) os, overview_tells os (FieldsAre os) i, all_at AgreesWithItself (FieldsAre os) facts, all_at IsWellFormed (FieldsAre os) facts, s.given.articles, any_in, same_itself)
   fact_holds (TextIs what id lines) i f p = grind (arith, some_is, any_in, same_itself, text_is)
   fact_holds (NoArticle id) i f p = none_of (get G.articles id) (λ g.
       elim ((s.given.articles id).0 g) [

@@ -67,16 +67,12 @@ module _ (facts : List Fact) (G H : Spool) (given : IsGiven facts G) (other : Is
 
   -- ids that are shown stand in the entries
   agrees : (S : Spool) → IsGiven facts S → (name : Name) (N : Numbers) → In (name, N) (entries S.groups) → Agree facts name (entries N)
-  agrees S s name N i n id shown j e =
-      grind (arith, numbers_at S name N i, in_get nat_cmp_total nat_cmp-IsAntisymmetric N n id j, s.ids_shown name n shown)
+  agrees S s name N i n id shown j e = grind (arith, numbers_at S name N i, in_get nat_cmp_total nat_cmp-IsAntisymmetric N n id j, s.ids_shown name n shown)
 
   -- a group has the same numbers in both
   same_numbers : (name : Name) (N M : Numbers) → In (name, N) (entries G.groups) → In (name, M) (entries H.groups) → keys N ≡ keys M
   same_numbers name N M i j =
-      let a = numbers_at G name N i in
-      let b = numbers_at H name M j in
-      let same : (n : ℕ) → IsNumber N n ↔ IsNumber M n = λ n. grind (arith, a, b, given.numbers_given name a.0 n, other.numbers_given name b.0 n) in
-      same_keys nat_cmp_total nat_cmp-IsAntisymmetric N M (λ n. (same n).0) (λ n. (same n).1)
+      grind (arith, numbers_at G name N i, numbers_at H name M j, given.numbers_given name, other.numbers_given name, same_keys nat_cmp_total nat_cmp-IsAntisymmetric N M)
 
   -- the groups are the same
   groups_alike : G.groups ≡ H.groups

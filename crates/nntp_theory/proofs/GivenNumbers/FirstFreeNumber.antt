@@ -21,8 +21,4 @@ free_none taken (suc k) n e m a b = grind (arith, cases_lt, free_none taken k (n
 
 -- where one isn't taken, there is a first, and it is no greater
 pub first_free : (taken : ℕ → Bool) (k c : ℕ) → k ≤ c → IsFalse (taken c) → (n : ℕ) × IsFirstFree taken k n × (n ≤ c)
-first_free taken k c from is_free = by (free taken (c + 1) k) refl
-  where
-    by : (o : Option ℕ) → free taken (c + 1) k ≡ o → (n : ℕ) × IsFirstFree taken k n × (n ≤ c)
-    by None e = absurd (true≢false (sym (free_none taken (c + 1) k e c from (omega arith)) ∙ is_free))
-    by (Some n) e = grind (arith, free_is, cases_lt, true≢false)
+first_free taken k c from is_free = grind (arith, true≢false, free_none taken (c + 1) k, free_is, cases_lt)

@@ -42,9 +42,5 @@ more_is limit asks n e = grind (arith, false_from_ne_true, true≢false, any_in,
 
 -- and it is found, if it is within the limit
 pub more_found : (limit : ℕ) (asks : List Ask) (n : ℕ) → IsOneMore asks n → n ≤ limit → more limit asks ≡ Some n
-more_found limit asks n x within = by (is_met asks) refl (free (is_denied asks) limit 1) refl
-  where
-    by : (b : Bool) → is_met asks ≡ b → (o : Option ℕ) → free (is_denied asks) limit 1 ≡ o → cond b None (if_wanted (demand asks) o) ≡ Some n
-    by true t o is = grind (arith, found_in, known_list, true≢false, from_known_list)
-    by false none None is = let low = x.first.0 in absurd (true≢false (sym (free_none (is_denied asks) limit 1 is n low (omega arith)) ∙ x.first.1))
-    by false none (Some m) is = grind (arith, first_free_once, free_is)
+more_found limit asks n x within =
+    grind (arith, found_in, true≢false, from_known_list, x.first.0, free_none (is_denied asks) limit 1, x.first.1, first_free_once, free_is)

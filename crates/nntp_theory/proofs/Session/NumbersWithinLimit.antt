@@ -40,17 +40,7 @@ module _ (profile : Profile) (facts : List Fact) (how : Marks) (fitting : AllByR
 
   -- a number that is shown is one
   shown_num : (name : Name) (n : ℕ) → IsTrue (is_shown (asks_of name facts) n) → IsTrue (is_article_number profile.limit n)
-  shown_num name n t =
-      let f = found_in (λ ask. shows ask n) (asks_of name facts) t in
-      let g = from_flat (asks_in name) f.0 facts f.1 in
-      by g.0 (fits g.0 g.1) f.0 g.2 f.2
-    where
-      by : (fact : Fact) → IsFitting profile fact → (ask : Ask) → In ask (asks_in name fact) → shows ask n ≡ true → IsTrue (is_article_number profile.limit n)
-      by (OverviewsAre g r os) h ask i t = grind (arith, num_of name (ListsIn r (overview_numbers os)) n h.0)
-      by (GroupsAre p lines) h ask i t =
-          let f = from_flat (λ (line : ActiveValue). cond (is_same line.name name) (Bounds line.low line.high ∷ []) []) ask lines i in
-          grind (arith, f.2, true≢false)
-      by fact h ask i t = grind (arith, num_of)
+  shown_num name n t = grind (arith, found_in, from_flat (asks_in name), fits, num_of name, from_flat, true≢false, num_of)
 
   -- and so is one of all
   pub end_in_limit : (name : Name) (n count : ℕ) → IsTrue (list_any (λ ask. is_end ask n) (asks_of name facts))

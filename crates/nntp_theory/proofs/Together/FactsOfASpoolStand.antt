@@ -142,10 +142,7 @@ module _ (limit : ℕ) (S : Spool) (facts : List Fact) (spool : IsSpool limit S)
   -- what overviews tell of an id does
   fields_by_overviews : (id : Id) (fields : Fields) (os : List OverviewValue) → AllByRecursion (HasOverview S) os → first_given (fields_of_overview id) os ≡ Some fields → HasFields id fields
   unfolding HasFields
-  fields_by_overviews id fields os h e =
-      let f = told_by os id fields e in
-      let t = overview_text f.overview (all_at (HasOverview S) f.overview os h f.there) in
-      (t.0, subst (λ id. get S.articles id ≡ Some t.0) f.same_id t.1, t.2 ∙ f.told)
+  fields_by_overviews id fields os h e = grind (arith, told_by os id fields e, overview_text, all_at (HasOverview S))
 
   -- so does what one fact tells
   fields_by_one : (id : Id) (fields : Fields) (fact : Fact) → Holds S fact → fields_in id fact ≡ Some fields → HasFields id fields
