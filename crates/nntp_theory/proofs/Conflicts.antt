@@ -1,20 +1,20 @@
 -- With which earlier answers a bad answer conflicts.
-use Rattle.std.proofs.Common.{append-nil, map, length-append, ◌≡◌, ℕ, zero, suc, ◌+◌, ◌<◌, ◌≤◌, ◌^◌, ◌⊎◌, ◌↔◌, IsTrue, List, [], ◌∷◌, ◌++◌, length, Option}
-use Rattle.std.proofs.{Common.{None, option_map, Some, inl, inr, refl, sym, ap, subst, ◌∙◌, arith}, lemmas.{Grind.{flat_map-append}, Bool.{cases_lt, cases_eq}}}
-use Rattle.std.{proofs.lemmas.{Bool.{true≢false, not-true}, List.{length-map}}, specs.{Prelude.{not, IfSome, Contains}, List.{AllByRecursion, flat_map}}}
+use Rattle.std.proofs.Common.{append-nil, map, length-append, ◌≡◌, ℕ, zero, suc, ◌+◌, ◌<◌, ◌≤◌, ◌^◌, ◌⊎◌, ◌↔◌, List, [], ◌∷◌, ◌++◌, length, Option, None}
+use Rattle.std.proofs.{Common.{option_map, Some, inl, inr, refl, sym, ap, subst, ◌∙◌, arith}, lemmas.{Grind.{flat_map-append}, Bool.{cases_lt, cases_eq}}}
+use Rattle.std.{proofs.lemmas.{Bool.{true≢false, not-true}, List.{length-map}}, specs.{Prelude.{IfSome, Contains}, List.{AllByRecursion, flat_map}}}
 use Rattle.std.specs.{Cmp.{nat_cmp_total}, FinMap.{len-entries}}
 use Rattle.nntp_said.specs.{declared.position.Position.{Position, TheVariants.{Nowhere}}, Asks.{position_after}, Facts.{Fact, Holds, ThereIs, Asks, IdAt}}
 use Rattle.nntp_said.specs.{Facts.{OverviewsAre, facts_of, facts_from, group_of}, Inner.Facts.{FitsAll}}
 use Rattle.nntp_theory.specs.{Classes.{visible_from, position_from, asked_next}, Inner.{Permits.{SomePermits}, Given.{size}, Together.{Together}}}
-use Rattle.nntp_theory.specs.{Inner.Conflict.{FitsThere, AreFound, IsPartOfCore}, Given.{asks_of, first_given, fields_in}, Together.{is_possible}}
-use Rattle.nntp_theory.specs.Conflict.{Placed, placed_from, words_told, said as said_there, a_group, the_group, with_group, told, SomeHas, told_at, told_with}
-use Rattle.nntp_theory.specs.Conflict.{below, IsCore, Point, Step, Group, Number, Count, First, IdOf, PlaceOf, Article, HeadOf, BodyOf, FieldOf, ConflictAt}
-use Rattle.nntp_theory.{specs.Conflict.{AreAmong, IsEndOfCore}, proofs.{PointsByRank.{each}, Maps.{keys_among}, Given.GivenPermits.{said, permits}}}
-use Rattle.nntp_theory.proofs.Given.{ConstructedSpool.{made}, GivenHasFacts.{given_of_facts, given_has}, GivenHolds.{one_given}}
-use Rattle.nntp_theory.proofs.Session.{OneMoreAnswer.{facts_grow}, NumbersOfShownGroups.{Placed as IsPlaced, Among, session_placed}}
-use Rattle.nntp_theory.proofs.{Session.{GroupOfAnAnswer.{same_selected}, FittingFacts.{IsFitting, answer_fitting}}, Members.{In, all_at, all_from, all_both}}
-use Rattle.nntp_theory.proofs.Members.{all_front, all_back, in_front, in_back, in_cases, in_map, found_in, to_flat, from_flat, contains_in, in_contains}
-use Rattle.nntp_theory.proofs.{Members.{all_part, all_parts, part_first}, Together.FactsOfASpoolStand.{stand}}
+use Rattle.nntp_theory.specs.{Inner.Conflict.{FitsThere, AreFound, IsPartOfCore}, Given.{first_given, fields_in}, Conflict.{Placed, placed_from, words_told}}
+use Rattle.nntp_theory.specs.Conflict.{said as said_there, a_group, the_group, with_group, told, SomeHas, told_at, told_with, below, IsCore, Point, Step, Group}
+use Rattle.nntp_theory.specs.Conflict.{Number, Count, First, IdOf, PlaceOf, Article, HeadOf, BodyOf, FieldOf, ConflictAt, AreAmong, IsEndOfCore}
+use Rattle.nntp_theory.proofs.{PointsByRank.{each}, Maps.{keys_among}, Given.{GivenPermits.{said, permits}, ConstructedSpool.{made}}}
+use Rattle.nntp_theory.proofs.{Given.{GivenHasFacts.{given_of_facts, given_has}, GivenHolds.{one_given}}, Session.OneMoreAnswer.{facts_grow}}
+use Rattle.nntp_theory.proofs.Session.{NumbersOfShownGroups.{Placed as IsPlaced, Among, session_placed}, GroupOfAnAnswer.{same_selected}}
+use Rattle.nntp_theory.proofs.{Session.FittingFacts.{IsFitting, answer_fitting}, Members.{In, all_at, all_from, all_both, all_front, all_back, in_front}}
+use Rattle.nntp_theory.proofs.Members.{in_back, in_cases, in_map, found_in, to_flat, from_flat, contains_in, in_contains, all_part, all_parts, part_first}
+use Rattle.nntp_theory.proofs.Together.FactsOfASpoolStand.{stand}
 use Rattle.nntp_wire.specs.{Answer.{Asked, Response}, declared.marks.Marks.{Marks, TheVariants.{Lenient}}}
 use Rattle.nntp_article.specs.Session.{Spool.{Spool, IsSpool, IsGroup, IsNumber, numbers, Name}, Machine.{Visible, visible_after, start, fits}}
 use Rattle.nntp_article.specs.{Article.Fields.{Fields, words_in}, declared.session.profile.Profile.{Profile}}

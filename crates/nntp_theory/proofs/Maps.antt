@@ -1,5 +1,5 @@
 -- Maps: their keys, their entries, and maps made of lists of keys.
-use Rattle.std.proofs.Common.{◌≡◌, ℕ, ◌≤◌, false, cond, T, List, [], ◌∷◌, length, map, None, Some, is_some, IsSome, refl, sym, ap, subst, ◌∙◌, arith}
+use Rattle.std.proofs.Common.{◌≡◌, ℕ, ◌≤◌, cond, T, List, [], ◌∷◌, length, map, None, Some, is_some, IsSome, refl, sym, ap, subst, ◌∙◌, arith}
 use Rattle.std.proofs.lemmas.{List.{length-map, map-id}, Map.{Keys.{IsDistinct-from_sorted}, Made.{length-le_from_is_member, keys_of-map_values}}}
 use Rattle.std.specs.{List.{IsDistinct, AllByRecursion, Sorted.{IsStrictlySortedBy}}, declared.cmp.Ordering.{Ordering, TheVariants.{Less}}}
 use Rattle.std.specs.{Ordering.{eq_by_cmp}, Cmp.{IsTotalOrder, eq_by_cmp_equiv}, FinMap.{FinMap, get, len, find, is_sorted, keys, entries, entries_sorted}}

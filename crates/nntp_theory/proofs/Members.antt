@@ -1,6 +1,6 @@
 -- Membership by recursion, and what holds of each element of a list.
 use Rattle.std.proofs.Common.{◌≡◌, ◌+◌, ◌≤◌, suc, length, length-append, map, arith, Bool, ◌⊎◌, IsTrue, List, [], ◌∷◌, ◌++◌, Option, None, Some, option_map}
-use Rattle.std.proofs.{Common.{inl, inr, refl, sym, ◌∙◌}, lemmas.{Bool.{or_left, or_right, or_cases, and_from, and_parts}, List.Folds.{list_any-append}}}
+use Rattle.std.proofs.{Common.{inl, inr, refl, ◌∙◌}, lemmas.{Bool.{or_left, or_right, or_cases, and_from, and_parts}, List.Folds.{list_any-append}}}
 use Rattle.std.specs.{List.{AllByRecursion, list_any, list_all, flat_map}, Prelude.{Contains}, Option.{option_or}}
 use Rattle.nntp_said.proofs.FiniteMapsDecided.{Dec}
 use Rattle.nntp_theory.specs.Given.{first_given}

@@ -1,8 +1,8 @@
 -- What stands together holds of the spool that is given for it.
 use Rattle.std.proofs.Common.{◌≡◌, ℕ, ◌+◌, ◌<◌, ◌⊎◌, true, false, IsTrue, List, [], ◌∷◌, ◌++◌, map, length, Option, None, Some, is_some, inl, inr, refl, sym}
 use Rattle.std.proofs.{Common.{ap, subst, ◌∙◌, arith}, lemmas.Bool.{true≢false, and_parts, false_from_ne_true, eqb-true, eq-eqb}}
-use Rattle.std.{proofs.lemmas.List.Elements.{All-from_recursion}, specs.Prelude.{IsFalse, IfSome, IsSome, MatchOption, option_map, unwrap_or}}
-use Rattle.std.specs.{List.{AllByRecursion, list_any}, Ordering.{nat_cmp}, FinMap.{get, empty, entries, get-entries, get-empty, nat_cmp-IsAntisymmetric}}
+use Rattle.std.{proofs.lemmas.List.Elements.{All-from_recursion}, specs.{Prelude.{IsFalse, IfSome, IsSome, MatchOption, unwrap_or}, List.{AllByRecursion}}}
+use Rattle.std.specs.{List.{list_any}, Ordering.{nat_cmp}, FinMap.{get, empty, entries, get-entries, get-empty, nat_cmp-IsAntisymmetric}}
 use Rattle.std.specs.FinMap.{slice_cmp-IsAntisymmetric}
 use Rattle.nntp_article.specs.Article.{Parts.{head_part, body_part, is_empty, Id, Line}, Fields.{Fields, fields_of_head, fields_told, made_head}}
 use Rattle.nntp_article.specs.Session.{Spool.{Spool, Text, Numbers, IsNumber, IsGroup, numbers, text_of, Lists, Name}, Machine.{is_same, overview_numbers}}
@@ -44,9 +44,7 @@ one_given f facts one fact i x e = subst (λ o. IfSome o (λ x. first_given f fa
 
 -- what sends a head tells what the head tells
 head_tells : (id : Id) (fact : Fact) (lines : List Line) → head_in id fact ≡ Some lines → fields_in id fact ≡ Some (fields_of_head lines)
-head_tells id (FieldsAre os) lines e = cc
-head_tells id (OverviewsAre name r os) lines e = cc
-head_tells id fact lines e = ap (option_map fields_of_head) e
+head_tells id fact lines e = grind arith
 
 -- the fact that shows the id for the number
 pub record ShownAt (facts : List Fact) (name : Name) (n : ℕ) (id : Id) : Type 0 where

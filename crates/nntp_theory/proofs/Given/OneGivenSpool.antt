@@ -1,8 +1,8 @@
 -- There is one given spool at most.
-use Rattle.std.proofs.Common.{◌↔◌, ◌≡◌, ℕ, cond, List, [], ◌∷◌, ◌++◌, map, Option, None, Some, is_some, inl, inr, refl, sym, ap, subst, ◌∙◌, arith}
+use Rattle.std.proofs.Common.{◌≡◌, ℕ, cond, List, [], ◌∷◌, ◌++◌, map, Option, None, Some, is_some, inl, inr, refl, sym, ap, subst, ◌∙◌, arith}
 use Rattle.std.{proofs.lemmas.Bool.{true≢false}, specs.{Prelude.{unwrap_or}, List.{flat_map}, Cmp.{nat_cmp_total, Lexicographic.{nat_list_cmp_total}}}}
 use Rattle.std.specs.FinMap.{keys, entries, empty, same_entries_map, same_map, nat_cmp-IsAntisymmetric}
-use Rattle.nntp_article.specs.{Session.Spool.{Spool, Numbers, IsNumber, IsGroup, numbers, Name}, Article.Parts.{Id}}
+use Rattle.nntp_article.specs.{Session.Spool.{Spool, Numbers, IsGroup, numbers, Name}, Article.Parts.{Id}}
 use Rattle.nntp_said.specs.Facts.{Fact}
 use Rattle.nntp_theory.{specs.Given.{id_shown, is_mentioned, invented, AreInvented, unshown_in, IsGiven}, proofs.GivenNumbers.FirstFreeNumber.{first_free_once}}
 use Rattle.nntp_theory.proofs.{Members.{In}, Maps.{same_keys, in_get}, Given.ConstructedSpool.{names_apart}}

@@ -1,6 +1,5 @@
 -- The first number from one on that isn't taken: the search for it, and that there is one at most.
-use Rattle.std.proofs.{Common.{◌≡◌, ℕ, zero, suc, ◌+◌, ◌<◌, ◌≤◌, Bool, true, Option, None, Some, refl, sym, ◌∙◌, arith}, lemmas.Bool.{cases_lt, true≢false}}
-use Rattle.std.specs.Prelude.{IsFalse}
+use Rattle.std.{proofs.{Common.{◌≡◌, ℕ, zero, suc, ◌+◌, ◌<◌, ◌≤◌, Bool, true, None, Some, arith}, lemmas.Bool.{cases_lt, true≢false}}, specs.Prelude.{IsFalse}}
 use Rattle.nntp_theory.specs.{Given.{IsFirstFree}, Inner.OneMore.{free}}
 
 -- there is one at most

@@ -37,9 +37,7 @@ module _ (B : ℕ) (small : (i : ℕ) → i < B → invented_number (invented i)
 
   -- and so one that a fact mentions
   counted_one : (i : ℕ) (fact : Fact) → i < B → mentions (invented i) fact ≡ true → list_any (eqb i) (mentioned_number fact) ≡ true
-  counted_one i (FieldsAre os) l t = counted_of i os l t
-  counted_one i (OverviewsAre name r os) l t = counted_of i os l t
-  counted_one i fact l t = grind (arith, or_left, same_number)
+  counted_one i fact l t = grind (arith, counted_of, or_left, same_number)
 
   -- and one of the facts
   pub counted : (i : ℕ) (facts : List Fact) → i < B → is_mentioned facts (invented i) ≡ true → list_any (eqb i) (mentioned facts) ≡ true

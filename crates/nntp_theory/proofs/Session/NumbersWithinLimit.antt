@@ -5,9 +5,8 @@ use Rattle.nntp_theory.specs.{Inner.Estimates.{estimate_in, is_within}, Given.{i
 use Rattle.nntp_theory.{specs.Given.{shows_group, is_end}, proofs.Members.{In, all_at, any_in, found_in, to_flat, from_flat}}
 use Rattle.nntp_theory.proofs.Session.{NumbersOfShownGroups.{Placed}, FittingFacts.{IsFitting}}
 use Rattle.nntp_wire.specs.{declared.marks.Marks.{Marks}, Listing.{ActiveValue}}
-use Rattle.nntp_article.specs.Session.{Spool.{Name}, Machine.{is_same, is_article_number, active_fits, overview_numbers}}
-use Rattle.nntp_article.specs.declared.session.profile.Profile.{Profile}
-use Rattle.nntp_said.specs.{Asks.{Ask, Estimates, Bounds, ListsIn}, Facts.{Fact, ThereIs, Asks, OverviewsAre, GroupsAre}}
+use Rattle.nntp_article.specs.{Session.{Spool.{Name}, Machine.{is_same, is_article_number, active_fits}}, declared.session.profile.Profile.{Profile}}
+use Rattle.nntp_said.specs.{Asks.{Ask, Estimates, Bounds}, Facts.{Fact, ThereIs, Asks, GroupsAre}}
 
 module _ (profile : Profile) (facts : List Fact) (how : Marks) (fitting : AllByRecursion (IsFitting profile) facts) (placed : AllByRecursion (Placed how facts) facts) where
   fits : (fact : Fact) → In fact facts → IsFitting profile fact

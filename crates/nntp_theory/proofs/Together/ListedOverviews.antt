@@ -1,13 +1,12 @@
 -- What overviews of a range give: an id at a number, a number for an id.
-use Rattle.std.proofs.Common.{◌≡◌, ℕ, Bool, true, false, cond, not, IsTrue, List, [], ◌∷◌, Some, None, inl, inr, refl, sym, subst, arith}
-use Rattle.std.{proofs.lemmas.Bool.{and_parts, eqb-true, not-true}, specs.{Option.{option_or}, List.{list_all}, Cmp.Lexicographic.{same_text}}}
-use Rattle.std.specs.Cmp.Lexicographic.{nat_list_eq_equiv}
+use Rattle.std.proofs.{Common.{◌≡◌, ℕ, true, cond, IsTrue, List, [], ◌∷◌, Some, None, inl, inr, refl, arith}, lemmas.Bool.{and_parts, eqb-true, not-true}}
+use Rattle.std.specs.Cmp.Lexicographic.{same_text, nat_list_eq_equiv}
 use Rattle.nntp_wire.specs.{Listing.{OverviewValue}, declared.range.Range.{Range}}
 use Rattle.nntp_article.specs.{Article.{Parts.{Id}, Fields.{Fields, fields_told}}, Session.{Spool.{Name}, Machine.{is_same, is_ascending, all_differ}}}
 use Rattle.nntp_article.specs.Session.Machine.{overview_numbers, overview_ids}
 use Rattle.nntp_said.specs.Facts.{FieldsAre, OverviewsAre}
-use Rattle.nntp_theory.specs.{Given.{first_given, id_of_overview, id_in, fields_of_overview}, Together.{number_of_overview, number_in}}
-use Rattle.nntp_theory.{specs.Inner.Together.{AgreesWithItself}, proofs.Members.{In, all_from, in_map, each_of, first_found}}
+use Rattle.nntp_theory.specs.{Given.{first_given, id_of_overview, id_in, fields_of_overview}, Together.{number_in}, Inner.Together.{AgreesWithItself}}
+use Rattle.nntp_theory.proofs.Members.{In, all_from, in_map, each_of, first_found}
 
 -- ---- what is given, one of them has
 
