@@ -44,12 +44,14 @@ told_own profile S facts h = all_back (Holds S) (the_group profile (group_of fac
 
 -- facts that come from answers that fit
 pub record AreTold (profile : Profile) (facts : List Fact) : Type 0 where
-  pub source : (fact : Fact) → In fact facts → (a : Placed) × FitsThere profile a × In fact (told profile a) × ((other : Fact) → In other (told profile a) → In other facts)
+  pub source : (fact : Fact) → In fact facts
+      → (a : Placed) × FitsThere profile a × In fact (told profile a) × ((other : Fact) → In other (told profile a) → In other facts)
 
 -- what each such answer's facts have, they have
 pub each_told : (profile : Profile) (facts : List Fact) (P : Fact → Type 0) → AreTold profile facts
     → ((a : Placed) → FitsThere profile a → AllByRecursion (Among facts) (told profile a) → AllByRecursion P (told profile a)) → AllByRecursion P facts
-each_told profile facts P t h = all_from P facts (λ fact i. let s = t.source fact i in all_at P fact (told profile s.0) (h s.0 s.1 (all_from (Among facts) (told profile s.0) s.3)) s.2)
+each_told profile facts P t h =
+    all_from P facts (λ fact i. let s = t.source fact i in all_at P fact (told profile s.0) (h s.0 s.1 (all_from (Among facts) (told profile s.0) s.3)) s.2)
 
 -- they fit, and are placed
 pub told_fit : (profile : Profile) (facts : List Fact) → AreTold profile facts
@@ -110,8 +112,7 @@ session_fits profile v at ps answers f = tt
 -- and what is told of them has what they say
 pub session_told : (profile : Profile) (S : Spool) (v : Visible) (at : Position) (ps : List Asked) (answers : List Response)
     → AllByRecursion (Holds S) (flat_map (told profile) (placed_from v at ps answers)) → AllByRecursion (Holds S) (facts_from profile.marks v at ps answers)
-session_told profile S v at (p ∷ ps) (a ∷ more) h =
-    grind (arith, all_front, all_back, all_both, there_said, told_own, session_told profile S (visible_after v p a) (position_after at p a) ps more)
+session_told profile S v at (p ∷ ps) (a ∷ more) h = grind (arith, session_told profile S (visible_after v p a) (position_after at p a) ps more)
 session_told profile S v at ps answers h = tt
 
 -- ---- fewer facts
@@ -175,7 +176,7 @@ pub core_step : (profile : Profile) (bad : Placed) (answers : List Placed) (boun
     → SomeHas profile (told_with profile bad answers (below k ++ places))
     → (SomeHas profile (told_with profile bad answers (below (k + 1) ++ places)) → ⊥) → IsPartOfCore profile bad answers k (k ∷ places)
 core_step profile bad answers bound k places p l within stands none =
-    grind (arith, p.there, fewer_places profile bad answers (below (k + 1) ++ places) (below k ++ k ∷ places), low_from, low_cases, lower (StandsWith profile bad answers) bound (k + 1) places)
+    grind (arith, fewer_places profile bad answers (below (k + 1) ++ places) (below k ++ k ∷ places), low_from, low_cases, lower)
 
 pub core_done : (profile : Profile) (bad : Placed) (answers : List Placed) (bound : ℕ) (places : List ℕ)
     → IsPartOfCore profile bad answers bound places → (SomeHas profile (told_with profile bad answers places) → ⊥) → IsCore profile bad answers places
@@ -224,7 +225,7 @@ told_holds : (profile : Profile) (S : Spool) (all : List Fact) → IsSpool profi
     → AllByRecursion (IsPlaced profile.marks all) (facts_from profile.marks v at ps answers)
     → AllByRecursion (Holds S) (flat_map (told profile) (placed_from v at ps answers))
 told_holds profile S all spool holds v at (q ∷ ps) (a ∷ more) h p =
-    grind (arith, v.selected, told_holds profile S all spool holds (visible_after v q a) (position_after at q a) ps more, there_said, with_holds profile S all spool holds, all_both, all_front (Holds S), all_back (Holds S), all_front, IsPlaced, all_back)
+    grind (arith, told_holds profile S all spool holds (visible_after v q a) (position_after at q a) ps more, with_holds profile S all spool holds)
 told_holds profile S all spool holds v at ps answers h p = tt
 
 -- a session that fits is permitted exactly if some spool has what is told of it
@@ -261,15 +262,14 @@ pub contradicts : (profile : Profile) (ps : List Asked) (answers : List Response
       response = response;
     })
     (placed_from start.visible Nowhere ps answers) (below (length (placed_from start.visible Nowhere ps answers)))) → ⊥
-contradicts profile ps answers asked response comes fits none (S, spool, holds) =
-    let v = visible_from start.visible ps answers in
+contradicts profile ps answers asked response comes fits none (S, spool, holds) = let v = visible_from start.visible ps answers in
     let bad : Placed = record { selected = v.selected; position = position_from Nowhere ps answers; asked = asked; response = response } in
     let placed = placed_from start.visible Nowhere ps answers in
     let others = flat_map (told_at profile placed) (below (length placed)) in
     let own = told_own profile S (said_there profile.marks bad) (all_front (Holds S) (told profile bad) others holds) in
     let before = session_told profile S start.visible Nowhere ps answers (all_places profile S placed (all_back (Holds S) (told profile bad) others holds)) in
     let all : AllByRecursion (Holds S) (facts_from profile.marks start.visible Nowhere ps (answers ++ response ∷ [])) =
-    grind (arith, facts_grow profile.marks start.visible Nowhere ps answers asked response comes, all_both, there_said profile.marks bad v refl, before, own) in
+    grind (arith, facts_grow profile.marks start.visible Nowhere ps answers asked response comes, all_both) in
     none (S, spool, permits profile S ps (answers ++ response ∷ []) fits all)
 
 -- ---- what is found is in each conflict
@@ -284,20 +284,12 @@ split_at k (x ∷ xs) (inr i) = let r = split_at k xs i in (x ∷ r.0, r.1, ap (
 pub found_in_each : (profile : Profile) (bad : Placed) (answers : List Placed) (bound : ℕ) (places some : List ℕ) (k : ℕ)
     → IsPartOfCore profile bad answers bound places → ((j : ℕ) → In j some → In j (below bound ++ places))
     → (SomeHas profile (told_with profile bad answers some) → ⊥) → In k places → In k some
-found_in_each profile bad answers bound places some k p among none i =
-    let at = split_at k places i in
+found_in_each profile bad answers bound places some k p among none i = let at = split_at k places i in
     let cut = split (StandsWith profile bad answers) bound at.0 at.1 k (subst (AreFound (StandsWith profile bad answers) bound) at.2 p.found) in
     elim (each (In k some) (λ j. j ≡ k → ⊥) some (λ j t. elim (cases_eq j k) [ inl e ↦ inl (subst (λ j. In j some) e t) | inr ne ↦ inr ne ])) [
       | inl there ↦ there
-      | inr out ↦ absurd (none (fewer_places profile bad answers some (below k ++ at.1) (λ j t. grind (
-        arith,
-        low_cases j bound places (among j t),
-        all_at (λ j. j ≡ k → ⊥) j some out t,
-        low_from j k at.1,
-        subst (In j) at.2,
-        in_cases j at.0 (k ∷ at.1),
-        all_at (λ j. j < k) j at.0 cut.0,
-      )) cut.2))
+      | inr out ↦ absurd (none (fewer_places profile bad answers some (below k ++ at.1)
+          (λ j t. grind (arith, low_cases, all_at, low_from, in_cases j at.0 (k ∷ at.1))) cut.2))
     ]
 
 -- ---- where facts conflict
@@ -323,13 +315,9 @@ at_point facts (FieldOf id field) h t = h (part_given (λ fields. words_in field
 -- each conflict among those below the bound and those at the places has one below the bound
 pub one_below : (profile : Profile) (bad : Placed) (answers : List Placed) (bound : ℕ) (places some : List ℕ) → IsEndOfCore profile bad answers bound places
     → AreAmong some (below bound ++ places) → (SomeHas profile (told_with profile bad answers some) → ⊥) → (k : ℕ) × (k < bound) × Contains some k
-one_below profile bad answers bound places some e among none =
-    elim (each ((k : ℕ) × (k < bound) × Contains some k) (λ k. bound ≤ k) some (λ k i.
+one_below profile bad answers bound places some e among none = elim (each ((k : ℕ) × (k < bound) × Contains some k) (λ k. bound ≤ k) some (λ k i.
     elim (cases_lt k bound) [ inl l ↦ inl (k, l, contains_in k some i) | inr le ↦ inr le ])) [
       | inl there ↦ there
-      | inr high ↦ absurd (none (fewer_places profile bad answers some places (λ k i. grind (
-        arith,
-        all_at (λ k. bound ≤ k) k some high i,
-        low_cases k bound places (in_contains k (below bound ++ places) (among k (contains_in k some i))),
-      )) e.stand))
+      | inr high ↦ absurd (none (fewer_places profile bad answers some places
+          (λ k i. grind (arith, all_at, low_cases k bound places (in_contains k (below bound ++ places) (among k (contains_in k some i))))) e.stand))
     ]

@@ -136,7 +136,9 @@ module _ (facts : List Fact) where
       → ((k : K) (fact : Fact) (x : A) → f k fact ≡ Some x → In k (keys fact))
       → (C : Type 0) → ((k : K) → (GiveOne (f k) facts → ⊥) → C) → C ⊎ ((k : K) → GiveOne (f k) facts)
   each_given {A} {K} keys f d keyed C point = each_key (flat_map keys facts) C (λ k. GiveOne (f k) facts) own
-      (λ k. elim (dec_all (IsFirst (f k)) (λ fact. dec_if (f k fact) _ (dec_some d (first_given (f k) facts))) facts) [ inl one ↦ inr one | inr out ↦ inl (point k out) ])
+      (λ k.
+      let each_first = dec_all (IsFirst (f k)) (λ fact. dec_if (f k fact) _ (dec_some d (first_given (f k) facts))) facts in
+      elim each_first [ inl one ↦ inr one | inr out ↦ inl (point k out) ])
     where
       own : (k : K) → In k (flat_map keys facts) ⊎ GiveOne (f k) facts
       own k = each (In k (flat_map keys facts)) (IsFirst (f k)) facts (λ fact i. grind (arith, to_flat keys fact k facts i, keyed k fact))
@@ -192,7 +194,8 @@ module _ (facts : List Fact) where
     places = each_given place_keys (λ k. number_in k.0 k.1) cases_eq place_keyed (AtRank 6) (λ k c. (PlaceOf k.0 k.1, refl, c))
 
     articles : AtRank 7 ⊎ ((id : Id) → IsTrue (list_any (shows_article id) facts) → IsFalse (list_any (denies_article id) facts))
-    articles = each_key (flat_map article_keys facts) (AtRank 7) (λ id. IsTrue (list_any (shows_article id) facts) → IsFalse (list_any (denies_article id) facts))
+    articles =
+        each_key (flat_map article_keys facts) (AtRank 7) (λ id. IsTrue (list_any (shows_article id) facts) → IsFalse (list_any (denies_article id) facts))
         (λ id. elim (cases_Bool (list_any (shows_article id) facts)) [
           | inl t ↦ (let f = found_in (shows_article id) facts t in inl (to_flat article_keys f.0 id facts f.1 (article_keyed id f.0 f.2)))
           | inr f ↦ inr (λ t. absurd (true≢false (sym t ∙ f)))

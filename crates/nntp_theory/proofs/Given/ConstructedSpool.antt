@@ -147,18 +147,9 @@ module _ (limit : ℕ) (B : ℕ) (facts : List Fact) where
       let g = made_numbers name i in
       let asks = asks_of name facts in
       let listed = key_listed nat_cmp_total nat_cmp-IsAntisymmetric (group_from name g.0) (numbers_of name) (keys_group name g.0) in
-      subst (HasGivenNumbers asks) (sym g.1) (λ n. grind (
-        arith,
-        listed n,
-        in_cases n (option_to_list (more limit asks)) (known_list asks),
-        in_front,
-        in_back,
-        more_is limit asks n,
-        from_known_list,
-        in_known_list,
-        more_found limit asks n,
-        low n,
-      ))
+      subst (HasGivenNumbers asks) (sym g.1) (λ n.
+      let there = in_cases n (option_to_list (more limit asks)) (known_list asks) in
+      grind (arith, listed n, there, in_front, in_back, more_is limit asks n, from_known_list, in_known_list, more_found limit asks n, low n))
 
   -- ---- ids
 
@@ -220,8 +211,7 @@ module _ (limit : ℕ) (B : ℕ) (facts : List Fact) where
   -- those ids have articles
   pub made_article : (id : Id) → IsSome (get made.articles id) ↔ (IsUsed made id ⊎ IsTrue (is_sent facts id))
   unfolding made
-  made_article id =
-      grind (arith, some_is, id_made id, get-made_of nat_list_cmp_total names_apart text_for made_ids id, in-made_of nat_list_cmp_total names_apart text_for made_ids id)
+  made_article id = grind (arith, id_made id, get-made_of, in-made_of)
 
   -- and the articles are the given ones
   made_text : (id : Id) (t : Text) → get made.articles id ≡ Some t → t ≡ text_for id
@@ -256,7 +246,7 @@ module _ (limit : ℕ) (B : ℕ) (facts : List Fact) where
         by (Some j) e =
             let f = free_is (λ j. is_mentioned facts (invented j)) B k j e in
             let before = used_before k j done used f.2 in
-            grind (arith, free_is, used_before, cases_lt, not_all_used, or_right, or_left, eq-eqb, any_in, found_in, in_front, in_back, in_cases, same_itself)
+            grind (arith, not_all_used)
 
     -- ids are invented in turn from k on, whatever was invented before
     abbrev Goes : ℕ → List Id → Type 0

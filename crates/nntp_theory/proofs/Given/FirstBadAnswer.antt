@@ -87,5 +87,4 @@ never_both profile ps answers k h bad =
 
 -- one answer is bad at most
 pub one_bad : (profile : Profile) (ps : List Asked) (answers : List Response) (k j : ℕ) → IsFirstUnpermitted profile ps answers k → IsFirstUnpermitted profile ps answers j → k ≡ j
-one_bad profile ps answers k j bad other =
-    grind (arith, cases_order k j, fewer_permitted profile ps answers (k + 1) j, fewer_permitted profile ps answers (j + 1) k)
+one_bad profile ps answers k j bad other = grind (arith, fewer_permitted profile ps answers (k + 1) j, fewer_permitted profile ps answers (j + 1) k)

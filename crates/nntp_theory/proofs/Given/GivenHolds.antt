@@ -153,7 +153,7 @@ module _ (profile : Profile) (B : ℕ) (G : Spool) (facts : List Fact) (s : Sett
   -- what was sent of an article is what G has of it
   text_is : (what : What) (id : Id) (lines : Option (List Line)) (u : Text) → In (TextIs what id lines) facts → head_fits what id lines ≡ true → get G.articles id ≡ Some u → text_of what u ≡ lines
   text_is what id (Some ls) u i f at =
-      grind (arith, head_is id u ls, head_is id u (head_part ls), body_is id u ls, body_is id u (body_part ls), same_itself id, and_parts, parts_joined)
+      grind (arith, head_is id u ls, head_is id u (head_part ls), body_is id u ls, body_is id u (body_part ls), same_itself, parts_joined)
   text_is what id None u i f at = grind arith
 
   -- a group of G isn't denied
@@ -205,27 +205,14 @@ module _ (profile : Profile) (B : ℕ) (G : Spool) (facts : List Fact) (s : Sett
   fact_holds (ThereIs name) i f p = (s.given.groups name).1 (any_in (shows_group name) (ThereIs name) facts i (same_itself name))
   fact_holds (ThereIsNo name) i f p = none_of (get G.groups name) (λ g. true≢false (sym (same_itself name) ∙ not_denied_group name (ThereIsNo name) i g))
   fact_holds (Asks name ask) i f p = grind (arith, asked name (Asks name ask) i (group_there name p), same_itself name)
-  fact_holds (IdAt name n id) i f p = grind (
-    arith,
-    asked name (IdAt name n id) i (group_there name p),
-    s.given.ids_shown name n id,
-    one_given (id_in name n) facts (s.together.ids name n) (IdAt name n id) i id,
-    same_itself name,
-    eq-eqb,
-  )
-  fact_holds (FieldsAre os) i f p =
-      grind (arith, all_from (HasOverview G) os, overview_tells os (FieldsAre os) i, all_at AgreesWithItself (FieldsAre os) facts, all_at IsWellFormed (FieldsAre os) facts, s.given.articles, any_in, same_itself)
+  fact_holds (IdAt name n id) i f p =
+      let first = one_given (id_in name n) facts (s.together.ids name n) (IdAt name n id) i id in
+      grind (arith, asked name (IdAt name n id) i (group_there name p), s.given.ids_shown name n id, first, same_itself)
+  fact_holds (FieldsAre os) i f p = grind (arith, all_from, overview_tells os (FieldsAre os) i, all_at, any_in, same_itself)
   fact_holds (TextIs what id lines) i f p = grind (arith, some_is, any_in, same_itself, text_is)
   fact_holds (NoArticle id) i f p = none_of (get G.articles id) (λ g.
       elim ((s.given.articles id).0 g) [
-        | inl used ↦ grind (
-          arith,
-          id_cases used.0 used.1 id used.2,
-          shown_at used.0 used.1 id,
-          not_denied id,
-          any_in (mentions id) (NoArticle id) facts i (same_itself id),
-          true≢false,
-        )
+        | inl used ↦ grind (arith, id_cases, shown_at used.0 used.1 id, not_denied, any_in (mentions id) (NoArticle id) facts i (same_itself id))
         | inr sent ↦ (let f = found_in (gives_article id) facts sent in not_denied id f.0 f.1 (grind (arith, f.2)) i)
       ])
   fact_holds (OverviewsAre name r os) i f p =

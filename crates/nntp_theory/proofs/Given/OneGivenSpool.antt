@@ -71,8 +71,7 @@ module _ (facts : List Fact) (G H : Spool) (given : IsGiven facts G) (other : Is
 
   -- a group has the same numbers in both
   same_numbers : (name : Name) (N M : Numbers) → In (name, N) (entries G.groups) → In (name, M) (entries H.groups) → keys N ≡ keys M
-  same_numbers name N M i j =
-      grind (arith, numbers_at G name N i, numbers_at H name M j, given.numbers_given name, other.numbers_given name, same_keys nat_cmp_total nat_cmp-IsAntisymmetric N M)
+  same_numbers name N M i j = grind (arith, numbers_at, numbers_at, same_keys nat_cmp_total nat_cmp-IsAntisymmetric N M)
 
   -- the groups are the same
   groups_alike : G.groups ≡ H.groups

@@ -42,5 +42,4 @@ more_is limit asks n e = grind (arith, false_from_ne_true, true≢false, any_in,
 
 -- and it is found, if it is within the limit
 pub more_found : (limit : ℕ) (asks : List Ask) (n : ℕ) → IsOneMore asks n → n ≤ limit → more limit asks ≡ Some n
-more_found limit asks n x within =
-    grind (arith, found_in, true≢false, from_known_list, x.first.0, free_none (is_denied asks) limit 1, x.first.1, first_free_once, free_is)
+more_found limit asks n x within = grind (arith, found_in, from_known_list, free_none (is_denied asks) limit 1, free_is)

@@ -24,7 +24,7 @@ module _ (profile : Profile) (facts : List Fact) (how : Marks) (fitting : AllByR
       by (ThereIs g) j t =
           let s = all_at (Placed how facts) (ThereIs g) facts placed j in
           let most = (fits (Asks g (Estimates how s.marks)) s.estimated).0 in
-          grind (arith, most, denied_by name (Asks g (Estimates how s.marks)) s.estimated (Estimates how s.marks), or_right, lt-ltb)
+          grind (arith, denied_by name (Asks g (Estimates how s.marks)) s.estimated (Estimates how s.marks))
       by (GroupsAre p lines) j t =
           let f = found_in (λ line. is_same line.name name) lines t in
           let within = all_at (λ line. IsTrue (active_fits profile p line)) f.0 lines (fits (GroupsAre p lines) j) f.1 in

@@ -37,7 +37,7 @@ spelled_snoc ps answers octets b asked a s e t = grind (arith, append-nil)
 pub same_first : (p : Asked) (x y : Response) (b d s t rest more sp tp : List ℕ)
     → Spells p x b → Spells p y d → sp ≡ b ++ s → tp ≡ d ++ t → sp ++ rest ≡ tp ++ more → (x ≡ y) × (b ≡ d) × (s ++ rest ≡ t ++ more)
 same_first p x y b d s t rest more sp tp first second whole whole' e =
-    grind (arith, append_assoc b s rest, append_assoc d t more, one-spelling p x y b d (s ++ rest) (t ++ more) first second, append_cancel_left b (s ++ rest) (t ++ more))
+    grind (arith, append_assoc, one-spelling p x y b d (s ++ rest) (t ++ more) first second, append_cancel_left)
 
 -- of a reading that is one answer longer, the answers before are the same
 pub record OneMore (ps : List Asked) (answers others : List Response) (rest more : List ℕ) : Type 0 where
@@ -145,8 +145,7 @@ before_bad P profile client server k ((S, rest, p, x, some), none) = grind arith
 
 -- the reading of both streams stays, with more octets left
 before_longer : (client : ClientStream) (server more_client more_server : List ℕ) (k : ℕ) → AnswersFirst client server k → AnswersFirst (further client more_client) (server ++ more_server) k
-before_longer client server more_client more_server k b =
-    grind (arith, prompts_joined client more_client, b.answers, b.octets, b.rest, b.count, spelled_longer (prompts_of client), append_assoc)
+before_longer client server more_client more_server k b = grind (arith, prompts_joined client more_client, spelled_longer (prompts_of client), append_assoc)
 
 -- and so does the visible state that it leaves
 visible_stays : (client : ClientStream) (server more_client : List ℕ) (k : ℕ) (b : AnswersFirst client server k)

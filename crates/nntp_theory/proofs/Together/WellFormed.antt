@@ -13,7 +13,7 @@ use Rattle.nntp_theory.{specs.Inner.Together.{IsProperOverview, IsWellFormed}, p
 -- the lines of octets that send them are lines
 sent_lines : (lines : List (List ℕ)) → AreClean lines → are_octets (sent lines) ≡ true → AllByRecursion (λ line. IsTrue (is_line line)) lines
 sent_lines [] clean h = tt
-sent_lines (line ∷ lines) clean h = grind (arith, octets-parts, unstuffed-octets, sent_lines lines clean.1 (octets-parts (stuffed line ++ crlf) (sent lines) h).1)
+sent_lines (line ∷ lines) clean h = grind (arith, octets-parts, sent_lines lines clean.1 (octets-parts (stuffed line ++ crlf) (sent lines) h).1)
 
 -- and so those of a block
 block_lines : (block : Option (List (List ℕ))) → IsCleanBlock block → are_octets (block_octets block) ≡ true → IfSome block (λ lines. AllByRecursion (λ line. IsTrue (is_line line)) lines)
