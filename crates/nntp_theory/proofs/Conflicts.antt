@@ -1,23 +1,23 @@
 -- With which earlier answers a bad answer conflicts.
-use Rattle.std.proofs.Common.{append-nil, map, length-append, ◌≡◌, ℕ, zero, suc, ◌+◌, ◌<◌, ◌≤◌, ◌^◌, ◌⊎◌, ◌↔◌, IsTrue, List, [], ◌∷◌, ◌++◌, length, Option}
-use Rattle.std.proofs.{Common.{None, option_map, Some, inl, inr, refl, sym, ap, subst, ◌∙◌, arith}, lemmas.{Grind.{flat_map-append}, Bool.{cases_lt, cases_eq}}}
-use Rattle.std.{proofs.lemmas.{Bool.{true≢false, not-true}, List.{length-map}}, specs.{Prelude.{not, IfSome, Contains}, List.{AllByRecursion, flat_map}}}
-use Rattle.std.specs.{Cmp.{nat_cmp_total}, FinMap.{len-entries}}
+use Rattle.std.proofs.Common.{append-nil, map, length-append, ◌≡◌, ℕ, zero, suc, ◌+◌, ◌<◌, ◌≤◌, ◌^◌, ◌⊎◌, ◌↔◌, List, [], ◌∷◌, ◌++◌, length, Option, option_map}
+use Rattle.std.proofs.{Common.{Some, inl, inr, refl, sym, ap, subst, ◌∙◌, arith}, lemmas.{Grind.{flat_map-append}, Bool.{cases_lt, cases_eq, true≢false}}}
+use Rattle.std.{proofs.lemmas.{Bool.{not-true}, List.{length-map}}, specs.{Prelude.{Contains}, List.{AllByRecursion, flat_map}, Cmp.{nat_cmp_total}}}
+use Rattle.std.specs.FinMap.{len-entries}
 use Rattle.nntp_said.specs.{declared.position.Position.{Position, TheVariants.{Nowhere}}, Asks.{position_after}, Facts.{Fact, Holds, ThereIs, Asks, IdAt}}
 use Rattle.nntp_said.specs.{Facts.{OverviewsAre, facts_of, facts_from, group_of}, Inner.Facts.{FitsAll}}
 use Rattle.nntp_theory.specs.{Classes.{visible_from, position_from, asked_next}, Inner.{Permits.{SomePermits}, Given.{size}, Together.{Together}}}
-use Rattle.nntp_theory.specs.{Inner.Conflict.{FitsThere, AreFound, IsPartOfCore}, Given.{asks_of, first_given, fields_in}, Together.{is_possible}}
-use Rattle.nntp_theory.specs.Conflict.{Placed, placed_from, words_told, said as said_there, a_group, the_group, with_group, told, SomeHas, told_at, told_with}
-use Rattle.nntp_theory.specs.Conflict.{below, IsCore, Point, Step, Group, Number, Count, First, IdOf, PlaceOf, Article, HeadOf, BodyOf, FieldOf, ConflictAt}
-use Rattle.nntp_theory.{specs.Conflict.{AreAmong, IsEndOfCore}, proofs.{PointsByRank.{each}, Maps.{keys_among}, Given.GivenPermits.{said, permits}}}
-use Rattle.nntp_theory.proofs.Given.{ConstructedSpool.{made}, GivenHasFacts.{given_of_facts, given_has}, GivenHolds.{one_given}}
-use Rattle.nntp_theory.proofs.Session.{OneMoreAnswer.{facts_grow}, NumbersOfShownGroups.{Placed as IsPlaced, Among, session_placed}}
-use Rattle.nntp_theory.proofs.{Session.{GroupOfAnAnswer.{same_selected}, FittingFacts.{IsFitting, answer_fitting}}, Members.{In, all_at, all_from, all_both}}
-use Rattle.nntp_theory.proofs.Members.{all_front, all_back, in_front, in_back, in_cases, in_map, found_in, to_flat, from_flat, contains_in, in_contains}
-use Rattle.nntp_theory.proofs.{Members.{all_part, all_parts, part_first}, Together.FactsOfASpoolStand.{stand}}
+use Rattle.nntp_theory.specs.{Inner.Conflict.{FitsThere, AreFound, IsPartOfCore}, Given.{fields_in}, Conflict.{Placed, placed_from, said as said_there}}
+use Rattle.nntp_theory.specs.Conflict.{a_group, the_group, with_group, told, SomeHas, told_at, told_with, below, IsCore, Point, Step, Group, Number, Count}
+use Rattle.nntp_theory.specs.{Conflict.{First, IdOf, PlaceOf, Article, HeadOf, BodyOf, FieldOf, ConflictAt, AreAmong, IsEndOfCore}, Together.{GiveOne}}
+use Rattle.nntp_theory.proofs.{PointsByRank.{each}, Maps.{keys_among}, Given.{GivenPermits.{said, permits}, ConstructedSpool.{made}}}
+use Rattle.nntp_theory.proofs.{Given.{GivenHasFacts.{given_of_facts, given_has}, GivenHolds.{one_given}}, Session.OneMoreAnswer.{facts_grow}}
+use Rattle.nntp_theory.proofs.Session.{NumbersOfShownGroups.{Placed as IsPlaced, Among, session_placed}, GroupOfAnAnswer.{same_selected}}
+use Rattle.nntp_theory.proofs.{Session.FittingFacts.{IsFitting, answer_fitting}, Members.{In, all_at, all_from, all_both, all_front, all_back, in_front}}
+use Rattle.nntp_theory.proofs.Members.{in_back, in_cases, in_map, found_in, to_flat, from_flat, contains_in, in_contains, all_part, all_parts, part_first}
+use Rattle.nntp_theory.proofs.Together.FactsOfASpoolStand.{stand}
 use Rattle.nntp_wire.specs.{Answer.{Asked, Response}, declared.marks.Marks.{Marks, TheVariants.{Lenient}}}
 use Rattle.nntp_article.specs.Session.{Spool.{Spool, IsSpool, IsGroup, IsNumber, numbers, Name}, Machine.{Visible, visible_after, start, fits}}
-use Rattle.nntp_article.specs.{Article.Fields.{Fields, words_in}, declared.session.profile.Profile.{Profile}}
+use Rattle.nntp_article.specs.{Article.Fields.{words_in}, declared.session.profile.Profile.{Profile}}
 
 -- ---- what answers say, where each fits
 
@@ -32,10 +32,7 @@ there_said how a v e = same_selected how v (record start.visible { selected = a.
 -- what an answer says fits
 pub told_fitting : (profile : Profile) (a : Placed) → FitsThere profile a → AllByRecursion (IsFitting profile) (told profile a)
 told_fitting profile a f =
-    let own = said_there profile.marks a in
-    all_both (IsFitting profile) (the_group profile (group_of own)) own
-    (group_fitting profile (group_of own))
-    (subst (AllByRecursion (IsFitting profile)) (there_said profile.marks a f.0 f.1) (answer_fitting profile f.0 a.position a.asked a.response f.2))
+    grind (arith, all_both, group_fitting, there_said profile.marks a f.0 f.1, answer_fitting profile f.0 a.position a.asked a.response f.2)
 
 -- and is placed among all facts that it is among
 pub told_placed : (profile : Profile) (all : List Fact) (a : Placed) → AllByRecursion (Among all) (told profile a) → AllByRecursion (IsPlaced Lenient all) (told profile a)
@@ -47,12 +44,14 @@ told_own profile S facts h = all_back (Holds S) (the_group profile (group_of fac
 
 -- facts that come from answers that fit
 pub record AreTold (profile : Profile) (facts : List Fact) : Type 0 where
-  pub source : (fact : Fact) → In fact facts → (a : Placed) × FitsThere profile a × In fact (told profile a) × AllByRecursion (Among facts) (told profile a)
+  pub source : (fact : Fact) → In fact facts
+      → (a : Placed) × FitsThere profile a × In fact (told profile a) × ((other : Fact) → In other (told profile a) → In other facts)
 
 -- what each such answer's facts have, they have
 pub each_told : (profile : Profile) (facts : List Fact) (P : Fact → Type 0) → AreTold profile facts
     → ((a : Placed) → FitsThere profile a → AllByRecursion (Among facts) (told profile a) → AllByRecursion P (told profile a)) → AllByRecursion P facts
-each_told profile facts P t h = all_from P facts (λ fact i. let s = t.source fact i in all_at P fact (told profile s.0) (h s.0 s.1 s.3) s.2)
+each_told profile facts P t h =
+    all_from P facts (λ fact i. let s = t.source fact i in all_at P fact (told profile s.0) (h s.0 s.1 (all_from (Among facts) (told profile s.0) s.3)) s.2)
 
 -- they fit, and are placed
 pub told_fit : (profile : Profile) (facts : List Fact) → AreTold profile facts
@@ -78,7 +77,7 @@ pub all_told : (profile : Profile) (answers : List Placed) → AllByRecursion (F
 all_told profile answers fits = record {
   source = λ fact i.
       let f = from_flat (told profile) fact answers i in
-      (f.0, all_at (FitsThere profile) f.0 answers fits f.1, f.2, all_from (Among (flat_map (told profile) answers)) (told profile f.0) (λ other j. to_flat (told profile) f.0 other answers f.1 j));
+      (f.0, all_at (FitsThere profile) f.0 answers fits f.1, f.2, λ other j. to_flat (told profile) f.0 other answers f.1 j);
 }
 
 -- what is told at a place is told by an answer, or nothing is
@@ -113,8 +112,7 @@ session_fits profile v at ps answers f = tt
 -- and what is told of them has what they say
 pub session_told : (profile : Profile) (S : Spool) (v : Visible) (at : Position) (ps : List Asked) (answers : List Response)
     → AllByRecursion (Holds S) (flat_map (told profile) (placed_from v at ps answers)) → AllByRecursion (Holds S) (facts_from profile.marks v at ps answers)
-session_told profile S v at (p ∷ ps) (a ∷ more) h =
-    grind (arith, all_front, all_back, all_both, there_said, told_own, session_told profile S (visible_after v p a) (position_after at p a) ps more)
+session_told profile S v at (p ∷ ps) (a ∷ more) h = grind (arith, session_told profile S (visible_after v p a) (position_after at p a) ps more)
 session_told profile S v at ps answers h = tt
 
 -- ---- fewer facts
@@ -122,19 +120,18 @@ session_told profile S v at ps answers h = tt
 pub fewer : (profile : Profile) (facts more : List Fact) → ((fact : Fact) → In fact facts → In fact more) → SomeHas profile more → SomeHas profile facts
 fewer profile facts more sub h = (h.0, h.1, all_from (Holds h.0) facts (λ fact i. all_at (Holds h.0) fact more h.2 (sub fact i)))
 
+-- parts at fewer places, behind the same
+fewer_told : (own : List Fact) (at : ℕ → List Fact) (xs ys : List ℕ) (fact : Fact) → ((k : ℕ) → In k xs → In k ys)
+    → In fact (own ++ flat_map at xs) → In fact (own ++ flat_map at ys)
+fewer_told own at xs ys fact sub i = grind (arith, in_cases fact own (flat_map at xs) i, in_front, in_back, from_flat at fact xs, to_flat, sub)
+
 -- ---- finding a core
 
 module _ (profile : Profile) (bad : Placed) (answers : List Placed) where
   -- fewer places
   pub fewer_places : (xs ys : List ℕ) → ((k : ℕ) → In k xs → In k ys) → SomeHas profile (told_with profile bad answers ys) → SomeHas profile (told_with profile bad answers xs)
-  fewer_places xs ys sub (S, spool, h) =
-      let at = told_at profile answers in
-      let others = all_back (Holds S) (told profile bad) (flat_map at ys) h in (
-        S,
-        spool,
-        all_both (Holds S) (told profile bad) (flat_map at xs) (all_front (Holds S) (told profile bad) (flat_map at ys) h)
-            (all_parts (Holds S) at xs (λ k i. all_part (Holds S) at k ys (sub k i) others)),
-      )
+  fewer_places xs ys sub = fewer profile (told_with profile bad answers xs) (told_with profile bad answers ys)
+      (λ fact i. fewer_told (told profile bad) (told_at profile answers) xs ys fact sub i)
 
 -- what stands at places with the bad answer
 abbrev StandsWith : Profile → Placed → List Placed → List ℕ → Type 0
@@ -152,7 +149,7 @@ from_below k (suc bound) i = elim (in_cases k (below bound) (bound ∷ []) i) [ 
 
 -- one of those below a bound and of others is below it or one of the others
 low_cases : (k bound : ℕ) (xs : List ℕ) → In k (below bound ++ xs) → (k < bound) ⊎ In k xs
-low_cases k bound xs i = elim (in_cases k (below bound) xs i) [ inl low ↦ inl (from_below k bound low) | inr there ↦ inr there ]
+low_cases k bound xs i = grind (arith, in_cases k (below bound) xs i, from_below)
 
 -- and back
 low_from : (k bound : ℕ) (xs : List ℕ) → (k < bound) ⊎ In k xs → In k (below bound ++ xs)
@@ -178,12 +175,8 @@ pub core_step : (profile : Profile) (bad : Placed) (answers : List Placed) (boun
     → IsPartOfCore profile bad answers bound places → k < bound → bound ≤ length answers
     → SomeHas profile (told_with profile bad answers (below k ++ places))
     → (SomeHas profile (told_with profile bad answers (below (k + 1) ++ places)) → ⊥) → IsPartOfCore profile bad answers k (k ∷ places)
-core_step profile bad answers bound k places p l within stands none = record {
-  there = (omega arith, p.there);
-  conflict = λ h. none (fewer_places profile bad answers (below (k + 1) ++ places) (below k ++ k ∷ places)
-      (λ j i. grind (arith, low_from j k (k ∷ places), low_cases j (k + 1) places i)) h);
-  found = (omega arith, stands, lower (StandsWith profile bad answers) bound (k + 1) places (omega arith) p.found);
-}
+core_step profile bad answers bound k places p l within stands none =
+    grind (arith, fewer_places profile bad answers (below (k + 1) ++ places) (below k ++ k ∷ places), low_from, low_cases, lower)
 
 pub core_done : (profile : Profile) (bad : Placed) (answers : List Placed) (bound : ℕ) (places : List ℕ)
     → IsPartOfCore profile bad answers bound places → (SomeHas profile (told_with profile bad answers places) → ⊥) → IsCore profile bad answers places
@@ -232,21 +225,7 @@ told_holds : (profile : Profile) (S : Spool) (all : List Fact) → IsSpool profi
     → AllByRecursion (IsPlaced profile.marks all) (facts_from profile.marks v at ps answers)
     → AllByRecursion (Holds S) (flat_map (told profile) (placed_from v at ps answers))
 told_holds profile S all spool holds v at (q ∷ ps) (a ∷ more) h p =
-    let here : Placed = record { selected = v.selected; position = at; asked = q; response = a } in
-    let own = facts_of profile.marks v at q a in
-    let rest = facts_from profile.marks (visible_after v q a) (position_after at q a) ps more in
-    let later = told_holds profile S all spool holds (visible_after v q a) (position_after at q a) ps more in
-    grind (
-      arith,
-      there_said profile.marks here v refl,
-      with_holds profile S all spool holds own,
-      all_both,
-      all_front (Holds S) own rest h,
-      all_back (Holds S) own rest h,
-      all_front (IsPlaced profile.marks all) own rest p,
-      all_back (IsPlaced profile.marks all) own rest p,
-      later,
-    )
+    grind (arith, told_holds profile S all spool holds (visible_after v q a) (position_after at q a) ps more, with_holds profile S all spool holds)
 told_holds profile S all spool holds v at ps answers h p = tt
 
 -- a session that fits is permitted exactly if some spool has what is told of it
@@ -283,16 +262,14 @@ pub contradicts : (profile : Profile) (ps : List Asked) (answers : List Response
       response = response;
     })
     (placed_from start.visible Nowhere ps answers) (below (length (placed_from start.visible Nowhere ps answers)))) → ⊥
-contradicts profile ps answers asked response comes fits none (S, spool, holds) =
-    let v = visible_from start.visible ps answers in
-    let at = position_from Nowhere ps answers in
-    let bad : Placed = record { selected = v.selected; position = at; asked = asked; response = response } in
+contradicts profile ps answers asked response comes fits none (S, spool, holds) = let v = visible_from start.visible ps answers in
+    let bad : Placed = record { selected = v.selected; position = position_from Nowhere ps answers; asked = asked; response = response } in
     let placed = placed_from start.visible Nowhere ps answers in
     let others = flat_map (told_at profile placed) (below (length placed)) in
     let own = told_own profile S (said_there profile.marks bad) (all_front (Holds S) (told profile bad) others holds) in
     let before = session_told profile S start.visible Nowhere ps answers (all_places profile S placed (all_back (Holds S) (told profile bad) others holds)) in
     let all : AllByRecursion (Holds S) (facts_from profile.marks start.visible Nowhere ps (answers ++ response ∷ [])) =
-    grind (arith, facts_grow profile.marks start.visible Nowhere ps answers asked response comes, all_both, there_said profile.marks bad v refl, before, own) in
+    grind (arith, facts_grow profile.marks start.visible Nowhere ps answers asked response comes, all_both) in
     none (S, spool, permits profile S ps (answers ++ response ∷ []) fits all)
 
 -- ---- what is found is in each conflict
@@ -307,29 +284,23 @@ split_at k (x ∷ xs) (inr i) = let r = split_at k xs i in (x ∷ r.0, r.1, ap (
 pub found_in_each : (profile : Profile) (bad : Placed) (answers : List Placed) (bound : ℕ) (places some : List ℕ) (k : ℕ)
     → IsPartOfCore profile bad answers bound places → ((j : ℕ) → In j some → In j (below bound ++ places))
     → (SomeHas profile (told_with profile bad answers some) → ⊥) → In k places → In k some
-found_in_each profile bad answers bound places some k p among none i =
-    let at = split_at k places i in
+found_in_each profile bad answers bound places some k p among none i = let at = split_at k places i in
     let cut = split (StandsWith profile bad answers) bound at.0 at.1 k (subst (AreFound (StandsWith profile bad answers) bound) at.2 p.found) in
     elim (each (In k some) (λ j. j ≡ k → ⊥) some (λ j t. elim (cases_eq j k) [ inl e ↦ inl (subst (λ j. In j some) e t) | inr ne ↦ inr ne ])) [
       | inl there ↦ there
-      | inr out ↦ absurd (none (fewer_places profile bad answers some (below k ++ at.1) (λ j t. grind (
-        arith,
-        low_cases j bound places (among j t),
-        all_at (λ j. j ≡ k → ⊥) j some out t,
-        low_from j k at.1,
-        subst (In j) at.2,
-        in_cases j at.0 (k ∷ at.1),
-        all_at (λ j. j < k) j at.0 cut.0,
-      )) cut.2))
+      | inr out ↦ absurd (none (fewer_places profile bad answers some (below k ++ at.1)
+          (λ j t. grind (arith, low_cases, all_at, low_from, in_cases j at.0 (k ∷ at.1))) cut.2))
     ]
 
 -- ---- where facts conflict
 
+-- where one thing is given, so is each part of it
+part_given : {A C : Type 0} (part : A → C) (f : Fact → Option A) (facts : List Fact) → GiveOne f facts → GiveOne (λ fact. option_map part (f fact)) facts
+part_given part f facts one = all_from _ facts (λ fact i. grind (arith, part_first part f facts, one_given f facts one fact i))
+
 -- what conflicts somewhere doesn't stand together
 pub at_point : (facts : List Fact) (point : Point) → ConflictAt facts point → Together facts → ⊥
-at_point facts (Step name) h t =
-    let f = found_in (λ ask. not (is_possible ask)) (asks_of name facts) h in
-    true≢false (sym (all_at (λ ask. IsTrue (is_possible ask)) f.0 (asks_of name facts) (t.numbers name).possible f.1) ∙ not-true _ f.2)
+at_point facts (Step name) h t = grind (arith, found_in, true≢false, all_at, t.numbers name, not-true)
 at_point facts (Group name) h t = true≢false (sym h.1 ∙ t.groups name h.0)
 at_point facts (Number name n) h t = true≢false (sym h.1 ∙ (t.numbers name).not_denied n (inl h.0))
 at_point facts (Count name) h t = h.2 ((t.numbers name).few h.0 h.1)
@@ -339,25 +310,14 @@ at_point facts (PlaceOf name id) h t = h (t.ids_once name id)
 at_point facts (Article id) h t = true≢false (sym h.1 ∙ t.articles id h.0)
 at_point facts (HeadOf id) h t = h (t.heads id)
 at_point facts (BodyOf id) h t = h (t.bodies id)
-at_point facts (FieldOf id field) h t = h (all_from _ facts (λ fact i. part_given fact i (fields_in id fact) refl))
-  where
-    part_given : (fact : Fact) → In fact facts → (o : Option Fields) → fields_in id fact ≡ o
-        → IfSome (option_map (λ fields. words_in fields field) o) (λ words. first_given (words_told id field) facts ≡ Some words)
-    part_given fact i None e = tt
-    part_given fact i (Some fields) e =
-        part_first (λ fields. words_in fields field) (fields_in id) facts
-        ∙ ap (option_map (λ fields. words_in fields field)) (one_given (fields_in id) facts (t.fields id) fact i fields e)
+at_point facts (FieldOf id field) h t = h (part_given (λ fields. words_in fields field) (fields_in id) facts (t.fields id))
 
 -- each conflict among those below the bound and those at the places has one below the bound
 pub one_below : (profile : Profile) (bad : Placed) (answers : List Placed) (bound : ℕ) (places some : List ℕ) → IsEndOfCore profile bad answers bound places
     → AreAmong some (below bound ++ places) → (SomeHas profile (told_with profile bad answers some) → ⊥) → (k : ℕ) × (k < bound) × Contains some k
-one_below profile bad answers bound places some e among none =
-    elim (each ((k : ℕ) × (k < bound) × Contains some k) (λ k. bound ≤ k) some (λ k i.
+one_below profile bad answers bound places some e among none = elim (each ((k : ℕ) × (k < bound) × Contains some k) (λ k. bound ≤ k) some (λ k i.
     elim (cases_lt k bound) [ inl l ↦ inl (k, l, contains_in k some i) | inr le ↦ inr le ])) [
       | inl there ↦ there
-      | inr high ↦ absurd (none (fewer_places profile bad answers some places (λ k i. grind (
-        arith,
-        all_at (λ k. bound ≤ k) k some high i,
-        low_cases k bound places (in_contains k (below bound ++ places) (among k (contains_in k some i))),
-      )) e.stand))
+      | inr high ↦ absurd (none (fewer_places profile bad answers some places
+          (λ k i. grind (arith, all_at, low_cases k bound places (in_contains k (below bound ++ places) (among k (contains_in k some i))))) e.stand))
     ]

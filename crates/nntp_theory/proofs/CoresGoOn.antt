@@ -54,8 +54,7 @@ module _ (profile : Profile) (bad : Placed) (answers more : List Placed) where
         by (k ∷ places) some there = let le = there.0.0 in let l = there.0.1 in omega (arith, le, l)
 
     pub all_there : AreThere answers (below bound ++ places)
-    all_there = all_both (λ k. k < length answers) (below bound) places
-        (all_from (λ k. k < length answers) (below bound) (λ k i. omega (arith, from_below k bound i, bound_there))) those
+    all_there = grind (arith, all_both, all_from, from_below, bound_there, those)
 
     end_still : IsEndOfCore profile bad (answers ++ more) bound places
     end_still = record {

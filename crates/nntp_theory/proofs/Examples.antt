@@ -2,8 +2,8 @@
 use Rattle.nntp_wire.specs.declared.{marks.Marks.TheVariants.{Lenient}, water_marks.WaterMarks.{WaterMarks}, command.What.TheVariants.{Head, Stat}}
 use Rattle.nntp_wire.specs.{Answer.{Response, greeting, to, group_is, numbers_are, sends, plain}, Command.{Request, by_id, by_number, current, group}}
 use Rattle.nntp_wire.specs.Command.{list_group, from_one, next, last, retrieve}
-use Rattle.std.proofs.Common.{◌≡◌, ℕ, zero, suc, ◌+◌, ◌<◌, ◌≤◌, true, false, IsTrue, List, [], ◌∷◌, ◌++◌, None, Some, map, refl, ap, sym, arith}
-use Rattle.std.{proofs.lemmas.{Bool.{le-ltb, or_cases}, Fmt.{decimal_digit}}, specs.Prelude.{codes}}
+use Rattle.std.proofs.{Common.{◌≡◌, ℕ, ◌+◌, ◌<◌, ◌≤◌, true, false, IsTrue, List, [], ◌∷◌, ◌++◌, None, Some, map, refl, ap, arith}, lemmas.Bool.{le-ltb}}
+use Rattle.std.{proofs.lemmas.{Bool.{or_cases}, Fmt.{decimal_digit}}, specs.Prelude.{codes}}
 use Rattle.nntp_said.specs.{Asks.{Ask, Estimates, StepsUp, StepsDown, StandsAt, IsTop, IsBottom, Has, Lacks}, declared.position.Position.TheVariants.{First}}
 use Rattle.nntp_said.specs.{declared.position.Position.TheVariants.{Known}, Facts.{Fact, ThereIs, Asks, IdAt}}
 use Rattle.nntp_theory.specs.{Inner.Together.{AsksStand, Together}, Given.{asks_of, is_shown, is_denied, demand, IsOneMore, AreInvented, invented}}
@@ -149,11 +149,7 @@ digit_invented : (n : ℕ) → n < 10 → invented n ≡ codes "<w" ++ ((48 + n)
 digit_invented n small = ap (λ digits. codes "<w" ++ digits ++ codes "@invented.invalid>") (decimal_digit n small)
 
 one_is_invented : AreInvented absent 0 (codes "<w1@invented.invalid>" ∷ [])
-one_is_invented = (1, (omega arith, ap (is_mentioned absent) (digit_invented 1 (omega arith)), passed), sym (digit_invented 1 (omega arith)), tt)
-  where
-    passed : (i : ℕ) → 0 ≤ i → i < 1 → IsTrue (is_mentioned absent (invented i))
-    passed zero some low = ap (is_mentioned absent) (digit_invented 0 (omega arith))
-    passed (suc i) some low = absurd (omega arith)
+one_is_invented = grind (arith, digit_invented)
 
 repeated_falls : Together repeated → ⊥
 repeated_falls h = grind (arith, (h.ids_once (codes "g") (codes "<a@b>")).1.1.1.1.1.0)

@@ -1,5 +1,5 @@
 -- Maps: their keys, their entries, and maps made of lists of keys.
-use Rattle.std.proofs.Common.{◌≡◌, ℕ, ◌≤◌, false, cond, T, List, [], ◌∷◌, length, map, None, Some, is_some, IsSome, refl, sym, ap, subst, ◌∙◌, arith}
+use Rattle.std.proofs.Common.{◌≡◌, ℕ, ◌≤◌, cond, T, List, [], ◌∷◌, length, map, None, Some, is_some, IsSome, refl, sym, ap, subst, ◌∙◌, arith}
 use Rattle.std.proofs.lemmas.{List.{length-map, map-id}, Map.{Keys.{IsDistinct-from_sorted}, Made.{length-le_from_is_member, keys_of-map_values}}}
 use Rattle.std.specs.{List.{IsDistinct, AllByRecursion, Sorted.{IsStrictlySortedBy}}, declared.cmp.Ordering.{Ordering, TheVariants.{Less}}}
 use Rattle.std.specs.{Ordering.{eq_by_cmp}, Cmp.{IsTotalOrder, eq_by_cmp_equiv}, FinMap.{FinMap, get, len, find, is_sorted, keys, entries, entries_sorted}}
@@ -28,8 +28,7 @@ module _ {K X : Type 0} {R : K → K → Ordering} (o : IsTotalOrder R) where
   -- a map whose keys stand in a list has no more keys than the list
   pub keys_among : (m : FinMap R X) (xs : List K) → ((q : K) → IsSome (get m q) → In q xs) → length (entries m) ≤ length xs
   keys_among m xs among =
-      let le = length-le_from_is_member (eq_by_cmp_equiv o) (keys m) xs (distinct_keys m) (λ q i. any_in (eq_by_cmp R q) q xs (among q (contains_key-keys m q ∙ i)) ((eq_by_cmp_equiv o).refl q)) in
-      simp length-map at le
+      grind (arith, length-le_from_is_member (eq_by_cmp_equiv o) (keys m) xs (distinct_keys m), eq_by_cmp_equiv o, any_in, contains_key-keys m, length-map)
 
   -- and no more than a map that has them all
   pub len_le : {Y : Type 0} (m : FinMap R X) (n : FinMap R Y) → ((q : K) → IsSome (get m q) → IsSome (get n q)) → len m ≤ len n
@@ -43,9 +42,7 @@ module _ {K X : Type 0} {R : K → K → Ordering} (o : IsTotalOrder R) where
 find_distinct : {K X : Type 0} {R : K → K → Ordering} (o : IsTotalOrder R) (k : K) (v : X) (es : List (K × X)) → IsDistinct (eq_by_cmp R) (map (λ e. e.0) es) → In (k, v) es → find R k es ≡ Some v
 unfolding IsDistinct
 find_distinct o k v [] d i = absurd i
-find_distinct {R = R} o k v (e ∷ es) d i =
-    let apart = all_at (λ y. eq_by_cmp R e.0 y ≡ false) k (map (λ e. e.0) es) d.0 in
-    grind (arith, apart, in_map (λ e. e.0) (k, v) es, find_distinct o k v es d.1)
+find_distinct {R = R} o k v (e ∷ es) d i = grind (arith, all_at, in_map, find_distinct o k v es d.1)
 
 -- an entry that is found is one of the map's
 pub entry_in : {K X : Type 0} {R : K → K → Ordering} (same : IsAntisymmetric R) (q : K) (v : X) (es : List (K × X)) → find R q es ≡ Some v → In (q, v) es

@@ -1,6 +1,6 @@
 -- Membership by recursion, and what holds of each element of a list.
 use Rattle.std.proofs.Common.{◌≡◌, ◌+◌, ◌≤◌, suc, length, length-append, map, arith, Bool, ◌⊎◌, IsTrue, List, [], ◌∷◌, ◌++◌, Option, None, Some, option_map}
-use Rattle.std.proofs.{Common.{inl, inr, refl, sym, ◌∙◌}, lemmas.{Bool.{or_left, or_right, or_cases, and_from, and_parts}, List.Folds.{list_any-append}}}
+use Rattle.std.proofs.{Common.{inl, inr, refl, ◌∙◌}, lemmas.{Bool.{or_left, or_right, or_cases, and_from, and_parts}, List.Folds.{list_any-append}}}
 use Rattle.std.specs.{List.{AllByRecursion, list_any, list_all, flat_map}, Prelude.{Contains}, Option.{option_or}}
 use Rattle.nntp_said.proofs.FiniteMapsDecided.{Dec}
 use Rattle.nntp_theory.specs.Given.{first_given}
@@ -68,8 +68,7 @@ to_flat f x y (z ∷ xs) i j = grind (arith, in_front, in_back, to_flat f x y xs
 -- an element of the joined parts is one of a part
 pub from_flat : {A B : Type 0} (f : A → List B) (y : B) (xs : List A) → In y (flat_map f xs) → (x : A) × In x xs × In y (f x)
 from_flat f y [] i = absurd i
-from_flat f y (x ∷ xs) i =
-    elim (in_cases y (f x) (flat_map f xs) i) [ inl j ↦ (x, inl refl, j) | inr j ↦ (let r = from_flat f y xs j in (r.0, inr r.1, r.2)) ]
+from_flat f y (x ∷ xs) i = grind (arith, in_cases y (f x) (flat_map f xs) i, from_flat f y xs)
 
 -- membership by places
 pub contains_in : {A : Type 0} (x : A) (xs : List A) → In x xs → Contains xs x
@@ -118,21 +117,12 @@ first_there {A} f (w ∷ xs) x y i e = by (f w) refl (first_there f xs x y)
 
 -- where nothing is given, no element gives something
 pub none_there : {A B : Type 0} (f : B → Option A) (xs : List B) (x : B) → In x xs → first_given f xs ≡ None → f x ≡ None
-none_there {A} f xs x i none = by (f x) refl
-  where
-    by : (o : Option A) → f x ≡ o → o ≡ None
-    by None e = refl
-    by (Some y) e = let z = first_there f xs x y i e in let same : None ≡ Some z.0 = sym none ∙ z.1 in cc
+none_there {A} f xs x i none = grind (arith, first_there f xs x)
 
 -- a part of what is given is that of the first
 pub part_first : {A B C : Type 0} (part : A → C) (f : B → Option A) (xs : List B) → first_given (λ x. option_map part (f x)) xs ≡ option_map part (first_given f xs)
 part_first part f [] = refl
-part_first {A} {B} {C} part f (x ∷ xs) = by (f x) (part_first part f xs)
-  where
-    by : (o : Option A) → first_given (λ x. option_map part (f x)) xs ≡ option_map part (first_given f xs)
-        → option_or (option_map part o) (first_given (λ x. option_map part (f x)) xs) ≡ option_map part (option_or o (first_given f xs))
-    by None e = e
-    by (Some y) e = refl
+part_first part f (x ∷ xs) = grind (arith, part_first part f xs)
 
 -- a list where each passes
 pub every : {A : Type 0} (p : A → Bool) (xs : List A) → ((x : A) → In x xs → IsTrue (p x)) → IsTrue (list_all p xs)

@@ -1,29 +1,25 @@
 -- What doesn't stand together conflicts at some point, and so at a first one.
 use Rattle.std.proofs.Common.{◌≡◌, ℕ, ◌+◌, ◌<◌, ◌^◌, ◌⊎◌, true, false, IsTrue, List, [], ◌∷◌, ◌++◌, map, Option, None, Some, inl, inr, refl, sym, ap, subst}
-use Rattle.std.{proofs.{Common.{◌∙◌, arith}, lemmas.Bool.{true≢false, cases_Bool, cases_eq, eqb-true, false_from_ne_true, cases_lt}}, specs.Prelude.{IsFalse}}
-use Rattle.std.specs.{Prelude.{IfSome, option_map, ⊤, not}, List.{AllByRecursion, list_any, flat_map}, Cmp.Lexicographic.{same_text}}
+use Rattle.std.proofs.{Common.{◌∙◌, arith, Bool}, lemmas.Bool.{true≢false, cases_Bool, cases_eq, eqb-true, false_from_ne_true, cases_lt}}
+use Rattle.std.specs.{Prelude.{IsFalse, IfSome, option_map, not}, List.{AllByRecursion, list_any, flat_map}, Cmp.Lexicographic.{same_text}}
 use Rattle.nntp_wire.specs.{declared.marks.Marks.{Marks, TheVariants.{Lenient}}, Listing.{OverviewValue}}
 use Rattle.nntp_article.specs.{Article.{Parts.{Id, Line}, Fields.{Word, Fields, words_in}}, declared.article.field.Field.{Field, TheVariants.{Subject, From}}}
 use Rattle.nntp_article.specs.{declared.{article.field.Field.TheVariants.{Date, References}, session.profile.Profile.{Profile}}, Session.Spool.{Name, Numbers}}
 use Rattle.nntp_article.specs.Session.{Spool.{numbers}, Machine.{is_same}}
-use Rattle.nntp_said.{proofs.FiniteMapsDecided.{Dec, dec_some, dec_texts, dec_lists}, specs.{Asks.{Ask}, Facts.{Fact, ThereIs, IdAt, TextIs, FieldsAre}}}
-use Rattle.nntp_said.specs.Facts.{OverviewsAre, GroupsAre}
-use Rattle.nntp_theory.specs.Given.{asks_of, is_shown_group, shows_group, first_given, id_in, has_overview_of, head_in, fields_in, body_in, is_known, is_denied}
-use Rattle.nntp_theory.specs.{Given.{demand, IsGivenNumber, HasGivenNumbers}, Inner.{Given.{size}, Together.{IsWellFormed, AgreesWithItself, Together}}}
-use Rattle.nntp_theory.specs.{Inner.Conflict.{FitsThere}, Together.{is_possible, MeetsDemand, IsFewFor, denies_group, number_in, shows_article, denies_article}}
-use Rattle.nntp_theory.specs.{Together.{GiveOne}, Conflict.{Placed, told_with, SomeHas, Point, Step, Group, Number, Count, First, IdOf, PlaceOf, Article}}
-use Rattle.nntp_theory.{specs.Conflict.{HeadOf, BodyOf, FieldOf, words_told, ConflictAt, rank, IsFirstPoint}, proofs.PointsByRank.{each, or_next, PointsOf}}
-use Rattle.nntp_theory.proofs.{PointsByRank.{of_rank}, Members.{In, all_at, all_from, in_map, any_in, found_in, first_there, part_first, to_flat}}
-use Rattle.nntp_theory.proofs.{Given.{GivenHolds.{one_given}, ConstructedSpool.{made, made_group, made_given}}, Together.ListedOverviews.{overview_at}}
-use Rattle.nntp_theory.proofs.Together.{ListedOverviews.{overview_of, told_by}, FactsOfASpoolStand.{same_itself}}
+use Rattle.nntp_said.{proofs.FiniteMapsDecided.{Dec, dec_some, dec_texts, dec_lists, dec_all}, specs.{Asks.{Ask}, Facts.{Fact, IdAt, TextIs, FieldsAre}}}
+use Rattle.nntp_said.specs.Facts.{OverviewsAre}
+use Rattle.nntp_theory.specs.Given.{asks_of, is_shown_group, first_given, id_in, head_in, fields_in, body_in, is_known, is_denied, demand, IsGivenNumber}
+use Rattle.nntp_theory.specs.{Given.{HasGivenNumbers}, Inner.{Given.{size}, Together.{IsWellFormed, AgreesWithItself, Together}, Conflict.{FitsThere}}}
+use Rattle.nntp_theory.specs.{Together.{is_possible, MeetsDemand, IsFewFor, denies_group, number_in, shows_article, denies_article, GiveOne}, Conflict.{Placed}}
+use Rattle.nntp_theory.specs.Conflict.{told_with, SomeHas, Point, Step, Group, Number, Count, First, IdOf, PlaceOf, Article, HeadOf, BodyOf, FieldOf}
+use Rattle.nntp_theory.{specs.Conflict.{words_told, ConflictAt, rank, IsFirstPoint}, proofs.{PointsByRank.{each, or_next, PointsOf, of_rank}, Members.{In}}}
+use Rattle.nntp_theory.proofs.{Members.{all_at, all_from, in_map, any_in, found_in, first_there, part_first, to_flat}, Given.GivenHolds.{one_given}}
+use Rattle.nntp_theory.proofs.{Given.ConstructedSpool.{made, made_group, made_given}, Together.ListedOverviews.{overview_at, overview_of, told_by}}
 use Rattle.nntp_theory.proofs.Session.{NumbersOfShownGroups.{Placed as IsPlaced}, NumbersWithinLimit.{free_in_limit}, FittingFacts.{IsFitting}}
 use Rattle.nntp_theory.proofs.{GivenNumbers.AsksDecided.{denied_or_not, too_many_or_not, unmet_or_met}, Conflicts.{with_told, told_together, told_fit}}
+use Rattle.nntp_theory.proofs.Ids.SmallGivenSpool.{names_of, shown_name, name_shown}
 
 -- ---- what a fact gives
-
--- whether what is given has it
-dec_if : {A : Type 0} (o : Option A) (Q : A → Type 0) → ((x : A) → Dec (Q x)) → Dec (IfSome o Q)
-dec_if o Q x = grind arith
 
 -- the numbers for which a fact shows ids
 abbrev number_keys : Fact → List (Name × ℕ)
@@ -50,10 +46,7 @@ abbrev each_field : Id → List (Id × Field)
 each_field id = (id, Subject) ∷ (id, From) ∷ (id, Date) ∷ (id, References) ∷ []
 
 in_fields : (id : Id) (field : Field) → In (id, field) (each_field id)
-in_fields id Subject = inl refl
-in_fields id From = inr (inl refl)
-in_fields id Date = inr (inr (inl refl))
-in_fields id References = inr (inr (inr (inl refl)))
+in_fields id field = grind arith
 
 -- the headers of the articles that it shows
 abbrev field_keys : Fact → List (Id × Field)
@@ -63,62 +56,43 @@ field_keys fact = flat_map each_field (article_keys fact)
 same_or_not : (x y : List ℕ) → (is_same x y ≡ false) ⊎ (x ≡ y)
 same_or_not x y = elim (cases_Bool (is_same x y)) [ inl t ↦ inr (same_text x y (sym t)) | inr f ↦ inl f ]
 
--- it gives nothing, or something, and that of which it does so
-none_or : {A R : Type 0} (o : Option A) (Q : A → Type 0) → ((x : A) → o ≡ Some x → R) → IfSome o Q ⊎ R
-none_or None Q given = inl tt
-none_or (Some x) Q given = inr (given x refl)
+-- whether what is given has it
+dec_if : {A : Type 0} (o : Option A) (Q : A → Type 0) → ((x : A) → Dec (Q x)) → Dec (IfSome o Q)
+dec_if o Q x = grind arith
+
+-- both pass, or where the one does, the other doesn't
+both_or_apart : (a b : Bool) → (IsTrue a × IsTrue b) ⊎ (IsTrue a → IsFalse b)
+both_or_apart a b = grind (arith, cases_Bool a, cases_Bool b, true≢false)
 
 -- it gives something for those alone
 number_keyed : (k : Name × ℕ) (fact : Fact) (id : Id) → id_in k.0 k.1 fact ≡ Some id → In k (number_keys fact)
-number_keyed k (IdAt g m other) id e = grind (arith, same_or_not, eqb-true)
 number_keyed k (OverviewsAre g r os) id e =
     let o = overview_at g k.0 r os k.1 id e in
     subst (λ key. In key (number_keys (OverviewsAre g r os))) (λ i. (o.same_group i, o.same_number i)) (in_map (λ (o : OverviewValue). (g, o.number)) o.overview os o.there)
-number_keyed k fact id e = cc
-
-own_number : (k : Name × ℕ) (Q : Id → Type 0) (fact : Fact) → IfSome (id_in k.0 k.1 fact) Q ⊎ In k (number_keys fact)
-own_number k Q fact = none_or (id_in k.0 k.1 fact) Q (number_keyed k fact)
+number_keyed k fact id e = grind (arith, same_or_not, eqb-true)
 
 place_keyed : (k : Name × Id) (fact : Fact) (n : ℕ) → number_in k.0 k.1 fact ≡ Some n → In k (place_keys fact)
-place_keyed k (IdAt g m other) n e = grind (arith, same_or_not)
 place_keyed k (OverviewsAre g r os) n e =
     let o = overview_of g k.0 r os k.1 n e in
     subst (λ key. In key (place_keys (OverviewsAre g r os))) (λ i. (o.same_group i, o.same_id i)) (in_map (λ (o : OverviewValue). (g, o.id)) o.overview os o.there)
-place_keyed k fact n e = cc
+place_keyed k fact n e = grind (arith, same_or_not)
 
-own_place : (k : Name × Id) (Q : ℕ → Type 0) (fact : Fact) → IfSome (number_in k.0 k.1 fact) Q ⊎ In k (place_keys fact)
-own_place k Q fact = none_or (number_in k.0 k.1 fact) Q (place_keyed k fact)
+head_keyed : (id : Id) (fact : Fact) (lines : List Line) → head_in id fact ≡ Some lines → In id (article_keys fact)
+head_keyed id fact lines e = grind (arith, same_or_not)
 
-own_head : (id : Id) (Q : List Line → Type 0) (fact : Fact) → IfSome (head_in id fact) Q ⊎ In id (article_keys fact)
-own_head id Q fact = grind (arith, same_or_not)
+body_keyed : (id : Id) (fact : Fact) (lines : List Line) → body_in id fact ≡ Some lines → In id (article_keys fact)
+body_keyed id fact lines e = grind (arith, same_or_not)
 
-own_body : (id : Id) (Q : List Line → Type 0) (fact : Fact) → IfSome (body_in id fact) Q ⊎ In id (article_keys fact)
-own_body id Q fact = grind (arith, same_or_not)
+fields_keyed : (id : Id) (fact : Fact) (fields : Fields) → fields_in id fact ≡ Some fields → In id (article_keys fact)
+fields_keyed id (FieldsAre os) fields e = grind (arith, told_by os id fields e, in_map (λ (o : OverviewValue). o.id))
+fields_keyed id (OverviewsAre name r os) fields e = grind (arith, told_by os id fields e, in_map (λ (o : OverviewValue). o.id))
+fields_keyed id fact fields e = grind (arith, same_or_not)
 
--- the id of an overview is one of them
-own_of : (id : Id) (Q : Type 0) (os : List OverviewValue) → (has_overview_of id os ≡ true → Q) ⊎ In id (map (λ o. o.id) os)
-own_of id Q os = elim (cases_Bool (has_overview_of id os)) [
-  | inl t ↦ (let f = found_in (λ o. is_same o.id id) os t in inr (subst (λ key. In key (map (λ o. o.id) os)) (same_text f.0.id id (sym f.2)) (in_map (λ (o : OverviewValue). o.id) f.0 os f.1)))
-  | inr f ↦ inl (λ t. absurd (true≢false (sym t ∙ f)))
-]
+words_keyed : (k : Id × Field) (fact : Fact) (words : List Word) → words_told k.0 k.1 fact ≡ Some words → In k (field_keys fact)
+words_keyed k fact words e = grind (arith, to_flat each_field k.0 k (article_keys fact), fields_keyed k.0 fact, in_fields k.0 k.1)
 
--- what is told of an id is told by one that has it
-told_keyed : (id : Id) (fact : Fact) (fields : Fields) → fields_in id fact ≡ Some fields → In id (article_keys fact)
-told_keyed id (FieldsAre os) fields e = let f = told_by os id fields e in subst (λ key. In key (map (λ o. o.id) os)) f.same_id (in_map (λ (o : OverviewValue). o.id) f.overview os f.there)
-told_keyed id (OverviewsAre name r os) fields e = let f = told_by os id fields e in subst (λ key. In key (map (λ o. o.id) os)) f.same_id (in_map (λ (o : OverviewValue). o.id) f.overview os f.there)
-told_keyed id fact fields e = grind (arith, same_or_not)
-
-own_words : (k : Id × Field) (Q : List Word → Type 0) (fact : Fact) → IfSome (words_told k.0 k.1 fact) Q ⊎ In k (field_keys fact)
-own_words k Q fact = by (fields_in k.0 fact) refl
-  where
-    by : (o : Option Fields) → fields_in k.0 fact ≡ o → IfSome (option_map (λ fields. words_in fields k.1) o) Q ⊎ In k (field_keys fact)
-    by None e = inl tt
-    by (Some fields) e = inr (to_flat each_field k.0 k (article_keys fact) (told_keyed k.0 fact fields e) (in_fields k.0 k.1))
-
-own_article : (id : Id) (Q : Type 0) (fact : Fact) → (shows_article id fact ≡ true → Q) ⊎ In id (article_keys fact)
-own_article id Q (FieldsAre os) = own_of id Q os
-own_article id Q (OverviewsAre name r os) = own_of id Q os
-own_article id Q fact = grind (arith, same_or_not)
+article_keyed : (id : Id) (fact : Fact) → shows_article id fact ≡ true → In id (article_keys fact)
+article_keyed id fact t = grind (arith, same_or_not, found_in, in_map (λ (o : OverviewValue). o.id))
 
 -- nothing is given by any
 flat_none : {A B : Type 0} (f : A → List B) (xs : List A) → ((x : A) → In x xs → f x ≡ []) → flat_map f xs ≡ []
@@ -146,19 +120,12 @@ module _ (facts : List Fact) where
 
   -- where they don't at any of that rank, those of the next are looked at
   next : {A : Type 0} (n : ℕ) → Below n → AtRank n ⊎ A → (A → PointsOf Free n) → (A → Below (n + 1) → FirstPoint ⊎ Together facts) → FirstPoint ⊎ Together facts
-  next n below (inl (point, same, conflict)) free rest =
-      inl (point, record { conflict = conflict; first = λ other l. below other (subst (λ m. rank other < m) same l) })
-  next n below (inr a) free rest =
-      rest a (λ other l. elim (cases_lt (rank other) n) [ inl low ↦ below other low | inr high ↦ of_rank Free n (free a) other (omega arith) ])
+  next n below (inl (point, same, conflict)) free rest = grind (arith)
+  next n below (inr a) free rest = grind (arith, cases_lt, of_rank Free n (free a))
 
-  -- of a key of a fact the one is so, or of each key and fact the other
-  each_key : {K : Type 0} (keys : Fact → List K) (C : Type 0) (P : K → Fact → Type 0) → ((k : K) (fact : Fact) → P k fact ⊎ In k (keys fact))
-      → ((k : K) (fact : Fact) → In fact facts → C ⊎ P k fact) → C ⊎ ((k : K) (fact : Fact) → In fact facts → P k fact)
-  each_key {K} keys C P own test = or_next (each C Own facts (λ fact i. each C (λ k. P k fact) (keys fact) (λ k j. test k fact i)))
-      (λ all. inr (λ k fact i. elim (own k fact) [ inl p ↦ p | inr j ↦ all_at (λ k. P k fact) k (keys fact) (all_at Own fact facts all i) j ]))
-    where
-      Own : Fact → Type 0
-      Own fact = AllByRecursion (λ k. P k fact) (keys fact)
+  -- of one of the keys the one is so, or of each the other is
+  each_key : {K : Type 0} (keys : List K) (C : Type 0) (P : K → Type 0) → ((k : K) → In k keys ⊎ P k) → ((k : K) → C ⊎ P k) → C ⊎ ((k : K) → P k)
+  each_key keys C P own test = or_next (each C P keys (λ k i. test k)) (λ all. inr (λ k. elim (own k) [ inl i ↦ all_at P k keys all i | inr p ↦ p ]))
 
   -- it is given first
   abbrev IsFirst : {A : Type 0} → (Fact → Option A) → Fact → Type 0
@@ -166,37 +133,22 @@ module _ (facts : List Fact) where
 
   -- what is given for each key is given first, or something is given twice
   each_given : {A K : Type 0} (keys : Fact → List K) (f : K → Fact → Option A) → ((x y : A) → Dec (x ≡ y))
-      → ((k : K) (Q : A → Type 0) (fact : Fact) → IfSome (f k fact) Q ⊎ In k (keys fact))
+      → ((k : K) (fact : Fact) (x : A) → f k fact ≡ Some x → In k (keys fact))
       → (C : Type 0) → ((k : K) → (GiveOne (f k) facts → ⊥) → C) → C ⊎ ((k : K) → GiveOne (f k) facts)
-  each_given keys f d own C point =
-      or_next (each_key keys C (λ k. IsFirst (f k)) (λ k. own k (λ x. first_given (f k) facts ≡ Some x)) (λ k fact i.
-      elim (dec_if (f k fact) (λ x. first_given (f k) facts ≡ Some x) (λ x. dec_some d (first_given (f k) facts) x)) [
-        | inl first ↦ inr first
-        | inr out ↦ inl (point k (λ one. out (all_at (IsFirst (f k)) fact facts one i)))
-      ])) (λ all. inr (λ k. all_from (IsFirst (f k)) facts (all k)))
+  each_given {A} {K} keys f d keyed C point = each_key (flat_map keys facts) C (λ k. GiveOne (f k) facts) own
+      (λ k.
+      let each_first = dec_all (IsFirst (f k)) (λ fact. dec_if (f k fact) _ (dec_some d (first_given (f k) facts))) facts in
+      elim each_first [ inl one ↦ inr one | inr out ↦ inl (point k out) ])
+    where
+      own : (k : K) → In k (flat_map keys facts) ⊎ GiveOne (f k) facts
+      own k = each (In k (flat_map keys facts)) (IsFirst (f k)) facts (λ fact i. grind (arith, to_flat keys fact k facts i, keyed k fact))
 
   -- ---- groups
 
-  -- each group that the fact shows has it
-  abbrev OfShown : (Name → Type 0) → Fact → Type 0
-  OfShown P (ThereIs name) = P name
-  OfShown P (GroupsAre p lines) = AllByRecursion (λ line. P line.name) lines
-  OfShown P fact = ⊤
-
   -- of a group that is shown the one is so, or of each the other is
   each_group : (C : Type 0) (P : Name → Type 0) → ((name : Name) → IsTrue (is_shown_group facts name) → C ⊎ P name) → C ⊎ ((name : Name) → IsTrue (is_shown_group facts name) → P name)
-  each_group C P test = or_next (each C (OfShown P) facts of) (λ all. inr (λ name t. let f = found_in (shows_group name) facts t in by name f.0 (all_at (OfShown P) f.0 facts all f.1) f.2))
-    where
-      of : (fact : Fact) → In fact facts → C ⊎ OfShown P fact
-      of (GroupsAre p lines) i = each C (λ line. P line.name) lines (λ line j. test line.name
-          (any_in (shows_group line.name) (GroupsAre p lines) facts i (any_in (λ other. is_same other.name line.name) line lines j (same_itself line.name))))
-      of fact i = grind (arith, any_in, same_itself)
-
-      by : (name : Name) (fact : Fact) → OfShown P fact → shows_group name fact ≡ true → P name
-      by name (GroupsAre p lines) s t =
-          let f = found_in (λ line. is_same line.name name) lines t in
-          subst P (same_text f.0.name name (sym f.2)) (all_at (λ line. P line.name) f.0 lines s f.1)
-      by name fact s t = grind (arith, same_or_not)
+  each_group C P test = or_next (each C P (names_of facts) (λ name i. test name (name_shown facts name i)))
+      (λ all. inr (λ name t. all_at P name (names_of facts) all (shown_name facts name t)))
 
   module _ (how : Marks) (placed : AllByRecursion (IsPlaced how facts) facts)
       (given : (name : Name) → IsTrue (is_shown_group facts name) → (N : Numbers) × HasGivenNumbers (asks_of name facts) N) where
@@ -236,30 +188,28 @@ module _ (facts : List Fact) where
         elim (unmet_or_met (asks_of name facts) (given name shown).0 (given name shown).1) [ inl c ↦ inl (First name, refl, c) | inr met ↦ inr met ])
 
     ids : AtRank 5 ⊎ ((k : Name × ℕ) → GiveOne (id_in k.0 k.1) facts)
-    ids = each_given number_keys (λ k. id_in k.0 k.1) dec_texts own_number (AtRank 5) (λ k c. (IdOf k.0 k.1, refl, c))
+    ids = each_given number_keys (λ k. id_in k.0 k.1) dec_texts number_keyed (AtRank 5) (λ k c. (IdOf k.0 k.1, refl, c))
 
     places : AtRank 6 ⊎ ((k : Name × Id) → GiveOne (number_in k.0 k.1) facts)
-    places = each_given place_keys (λ k. number_in k.0 k.1) cases_eq own_place (AtRank 6) (λ k c. (PlaceOf k.0 k.1, refl, c))
+    places = each_given place_keys (λ k. number_in k.0 k.1) cases_eq place_keyed (AtRank 6) (λ k c. (PlaceOf k.0 k.1, refl, c))
 
     articles : AtRank 7 ⊎ ((id : Id) → IsTrue (list_any (shows_article id) facts) → IsFalse (list_any (denies_article id) facts))
-    articles = or_next (each_key article_keys (AtRank 7) (λ id fact. shows_article id fact ≡ true → IsFalse (list_any (denies_article id) facts))
-        (λ id. own_article id (IsFalse (list_any (denies_article id) facts))) (λ id fact i.
-        elim (cases_Bool (list_any (denies_article id) facts)) [
-          | inr free ↦ inr (λ t. free)
-          | inl denied ↦ elim (cases_Bool (shows_article id fact)) [
-            | inl t ↦ inl (Article id, refl, (any_in (shows_article id) fact facts i t, denied))
-            | inr f ↦ inr (λ t. absurd (true≢false (sym t ∙ f)))
-          ]
-        ])) (λ all. inr (λ id t. let f = found_in (shows_article id) facts t in all id f.0 f.1 f.2))
+    articles =
+        each_key (flat_map article_keys facts) (AtRank 7) (λ id. IsTrue (list_any (shows_article id) facts) → IsFalse (list_any (denies_article id) facts))
+        (λ id. elim (cases_Bool (list_any (shows_article id) facts)) [
+          | inl t ↦ (let f = found_in (shows_article id) facts t in inl (to_flat article_keys f.0 id facts f.1 (article_keyed id f.0 f.2)))
+          | inr f ↦ inr (λ t. absurd (true≢false (sym t ∙ f)))
+        ])
+        (λ id. elim (both_or_apart (list_any (shows_article id) facts) (list_any (denies_article id) facts)) [ inl h ↦ inl (Article id, refl, h) | inr free ↦ inr free ])
 
     heads : AtRank 8 ⊎ ((id : Id) → GiveOne (head_in id) facts)
-    heads = each_given article_keys head_in dec_lists own_head (AtRank 8) (λ id c. (HeadOf id, refl, c))
+    heads = each_given article_keys head_in dec_lists head_keyed (AtRank 8) (λ id c. (HeadOf id, refl, c))
 
     bodies : AtRank 9 ⊎ ((id : Id) → GiveOne (body_in id) facts)
-    bodies = each_given article_keys body_in dec_lists own_body (AtRank 9) (λ id c. (BodyOf id, refl, c))
+    bodies = each_given article_keys body_in dec_lists body_keyed (AtRank 9) (λ id c. (BodyOf id, refl, c))
 
     fields : AtRank 10 ⊎ ((k : Id × Field) → GiveOne (words_told k.0 k.1) facts)
-    fields = each_given field_keys (λ k. words_told k.0 k.1) dec_lists own_words (AtRank 10) (λ k c. (FieldOf k.0 k.1, refl, c))
+    fields = each_given field_keys (λ k. words_told k.0 k.1) dec_lists words_keyed (AtRank 10) (λ k c. (FieldOf k.0 k.1, refl, c))
 
     -- where the words of each header are told in one way, so are all
     all_fields : ((k : Id × Field) → GiveOne (words_told k.0 k.1) facts) → (id : Id) → GiveOne (fields_in id) facts
@@ -332,8 +282,4 @@ pub point_of_conflict : (profile : Profile) (bad : Placed) (answers : List Place
     → AllByRecursion IsWellFormed (told_with profile bad answers places) → size (told_with profile bad answers places) < 2 ^ 210
     → (SomeHas profile (told_with profile bad answers places) → ⊥) → (point : Point) × IsFirstPoint (told_with profile bad answers places) point
 point_of_conflict profile bad answers places fit fits formed small none =
-    let facts = told_with profile bad answers places in
-    let t = with_told profile bad answers places fit fits in
-    let fitting = told_fit profile facts t in
-    elim (stand_or_conflict profile Lenient facts fitting.0 fitting.1 formed)
-    [ inl c ↦ c | inr together ↦ absurd (none ((told_together profile facts t small).1 together)) ]
+    grind (arith, with_told profile bad answers places fit fits, told_fit profile, stand_or_conflict profile Lenient, told_together profile)

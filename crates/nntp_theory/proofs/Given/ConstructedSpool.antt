@@ -24,10 +24,7 @@ names_apart = slice_cmp-IsAntisymmetric nat_cmp-IsAntisymmetric
 -- a map with the keys of a list has each of them and no other
 key_listed : {K X : Type 0} {R : K → K → Ordering} (o : IsTotalOrder R) (same : IsAntisymmetric R) (m : FinMap R X) (ks : List K)
     → keys m ≡ keys (key_map R o same ks) → (q : K) → IsSome (get m q) ↔ In q ks
-key_listed {R = R} o same m ks e q = (
-  λ i. of_key_map R o same ks q (subst (In q) e (key_of o same m q i)),
-  λ i. of_key o same m q (subst (In q) (sym e) (in_key_map R o same ks q i)),
-)
+key_listed {R = R} o same m ks e q = grind (arith, of_key_map, key_of, of_key, in_key_map)
 
 -- the ids of a group
 abbrev ids_of : Name × Numbers → List Id
@@ -150,18 +147,9 @@ module _ (limit : ℕ) (B : ℕ) (facts : List Fact) where
       let g = made_numbers name i in
       let asks = asks_of name facts in
       let listed = key_listed nat_cmp_total nat_cmp-IsAntisymmetric (group_from name g.0) (numbers_of name) (keys_group name g.0) in
-      subst (HasGivenNumbers asks) (sym g.1) (λ n. grind (
-        arith,
-        listed n,
-        in_cases n (option_to_list (more limit asks)) (known_list asks),
-        in_front,
-        in_back,
-        more_is limit asks n,
-        from_known_list,
-        in_known_list,
-        more_found limit asks n,
-        low n,
-      ))
+      subst (HasGivenNumbers asks) (sym g.1) (λ n.
+      let there = in_cases n (option_to_list (more limit asks)) (known_list asks) in
+      grind (arith, listed n, there, in_front, in_back, more_is limit asks n, from_known_list, in_known_list, more_found limit asks n, low n))
 
   -- ---- ids
 
@@ -223,10 +211,7 @@ module _ (limit : ℕ) (B : ℕ) (facts : List Fact) where
   -- those ids have articles
   pub made_article : (id : Id) → IsSome (get made.articles id) ↔ (IsUsed made id ⊎ IsTrue (is_sent facts id))
   unfolding made
-  made_article id = (
-    λ i. (let t = some_is (get made.articles id) i in (id_made id).0 (get-made_of nat_list_cmp_total names_apart text_for made_ids id t.0 t.1).0),
-    λ h. in-made_of nat_list_cmp_total names_apart text_for made_ids id ((id_made id).1 h),
-  )
+  made_article id = grind (arith, id_made id, get-made_of, in-made_of)
 
   -- and the articles are the given ones
   made_text : (id : Id) (t : Text) → get made.articles id ≡ Some t → t ≡ text_for id
@@ -261,7 +246,7 @@ module _ (limit : ℕ) (B : ℕ) (facts : List Fact) where
         by (Some j) e =
             let f = free_is (λ j. is_mentioned facts (invented j)) B k j e in
             let before = used_before k j done used f.2 in
-            grind (arith, free_is, used_before, cases_lt, not_all_used, or_right, or_left, eq-eqb, any_in, found_in, in_front, in_back, in_cases, same_itself)
+            grind (arith, not_all_used)
 
     -- ids are invented in turn from k on, whatever was invented before
     abbrev Goes : ℕ → List Id → Type 0
@@ -288,10 +273,7 @@ module _ (limit : ℕ) (B : ℕ) (facts : List Fact) where
     -- and so those of all groups
     groups_invented : (gs : List Name) (k : ℕ) → Goes k (unshown (groups_from k gs))
     groups_invented [] k = λ done used few. tt
-    groups_invented (g ∷ gs) k =
-        let rest = after_ids g k (keys (number_map g)) in
-        subst (λ es. Goes k (unshown_in facts g es ++ unshown (groups_from rest gs))) (sym (entries_group g k))
-        (ids_invented g (keys (number_map g)) k (unshown (groups_from rest gs)) (groups_invented gs rest))
+    groups_invented (g ∷ gs) k = grind (arith, entries_group, ids_invented, groups_invented gs)
 
     -- the ids are invented in turn
     made_invented : length (mentioned facts) + length (unshown_ids facts made) < B → AreInvented facts 0 (unshown_ids facts made)

@@ -1,8 +1,8 @@
 -- Some spool permits a session, or exactly one answer is the first that none does.
 use Rattle.nntp_wire.specs.{declared.marks.Marks.{Marks}, Answer.{Asked, Response}}
-use Rattle.std.proofs.Common.{◌≡◌, ℕ, zero, suc, ◌+◌, ◌<◌, ◌≤◌, ◌^◌, ◌⊎◌, List, [], ◌∷◌, ◌++◌, length, take, Option, None, Some, is_some, inl, inr, sym, ap}
-use Rattle.std.{proofs.{Common.{subst, ◌∙◌, arith}, Math.Seq.{take-length}, lemmas.Bool.{cases_order, true≢false}}, specs.Prelude.{unwrap_or}}
-use Rattle.std.specs.{Ordering.{nat_cmp}, Cmp.Lexicographic.{slice_cmp}, FinMap.{get, empty, get-empty}}
+use Rattle.std.proofs.Common.{◌≡◌, ℕ, zero, suc, ◌+◌, ◌<◌, ◌≤◌, ◌^◌, ◌⊎◌, List, [], ◌∷◌, ◌++◌, length, take, Option, None, inl, inr, sym, ap, subst, ◌∙◌, arith}
+use Rattle.std.{proofs.{Math.Seq.{take-length}, lemmas.Bool.{cases_order, true≢false}}, specs.{Prelude.{unwrap_or}, Ordering.{nat_cmp}}}
+use Rattle.std.specs.{Cmp.Lexicographic.{slice_cmp}, FinMap.{get, empty, get-empty}}
 use Rattle.nntp_article.specs.Session.{Spool.{Spool, Numbers, IsSpool, numbers, Name}, Machine.{State, Visible, Run, start, visible_after}}
 use Rattle.nntp_article.specs.declared.session.profile.Profile.{Profile}
 use Rattle.nntp_said.specs.{Asks.{position_after}, declared.position.Position.{Position, TheVariants.{Nowhere}}, Facts.{Fact, facts_from}}
@@ -13,11 +13,9 @@ use Rattle.nntp_theory.proofs.Given.GivenSpoolExists.{some_or_none}
 
 -- a run with fewer answers
 pub run_fewer : (profile : Profile) (S : Spool) (s : State) (ps : List Asked) (answers : List Response) (n m : ℕ) → n ≤ m → Run profile S s ps (take m answers) → Run profile S s ps (take n answers)
-run_fewer profile S s ps answers zero m le r = tt
 run_fewer profile S s ps answers (suc n) zero le r = absurd (omega arith)
-run_fewer profile S s ps [] (suc n) (suc m) le r = r
-run_fewer profile S s [] (a ∷ more) (suc n) (suc m) le r = r
 run_fewer profile S s (p ∷ ps) (a ∷ more) (suc n) (suc m) le r = (r.0, r.1, run_fewer profile S r.0 ps more n m (omega arith) r.2)
+run_fewer profile S s ps answers n m le r = grind arith
 
 -- a spool that permits a session permits its front
 pub fewer_permitted : (profile : Profile) (ps : List Asked) (answers : List Response) (n m : ℕ) → n ≤ m → SomePermits profile ps (take m answers) → SomePermits profile ps (take n answers)
@@ -30,10 +28,9 @@ size-append (x ∷ xs) ys = omega (arith, size-append xs ys)
 
 -- fewer answers say less
 size_fewer : (how : Marks) (v : Visible) (at : Position) (ps : List Asked) (answers : List Response) (n : ℕ) → size (facts_from how v at ps (take n answers)) ≤ size (facts_from how v at ps answers)
-size_fewer how v at [] answers n = omega arith
 size_fewer how v at (p ∷ ps) answers zero = omega arith
-size_fewer how v at (p ∷ ps) [] (suc n) = omega arith
 size_fewer how v at (p ∷ ps) (a ∷ more) (suc n) = grind (arith, size-append, size_fewer how (visible_after v p a) (position_after at p a) ps more n)
+size_fewer how v at ps answers n = grind arith
 
 -- ---- no answers
 
@@ -47,15 +44,7 @@ no_number name n = ap (λ (o : Option Numbers). get (unwrap_or o empty) n) (get-
 
 -- nothing at all is a spool
 empty_is_spool : (profile : Profile) → IsSpool profile.limit no_spool
-empty_is_spool profile = record {
-  names = λ name i. absurd (true≢false (sym i ∙ ap is_some (get-empty (slice_cmp nat_cmp) name)));
-  numbers_in_limit = λ name n i. absurd (true≢false (sym i ∙ ap is_some (no_number name n)));
-  one_to_one = λ name n m id e f. (let bad : None ≡ Some id = sym (no_number name n) ∙ e in cc);
-  ids_have_articles = λ name n id e. (let bad : None ≡ Some id = sym (no_number name n) ∙ e in cc);
-  ids = λ id i. absurd (true≢false (sym i ∙ ap is_some (get-empty (slice_cmp nat_cmp) id)));
-  heads = λ id t e. absurd (true≢false (sym (ap is_some e) ∙ ap is_some (get-empty (slice_cmp nat_cmp) id)));
-  own_ids = λ id said t e says. (let bad : None ≡ Some t = sym (get-empty (slice_cmp nat_cmp) id) ∙ e in cc);
-}
+empty_is_spool profile = grind (arith, true≢false, get-empty, no_number)
 
 -- some spool permits no answers
 pub none_permitted : (profile : Profile) (ps : List Asked) (answers : List Response) → SomePermits profile ps (take 0 answers)
@@ -98,5 +87,4 @@ never_both profile ps answers k h bad =
 
 -- one answer is bad at most
 pub one_bad : (profile : Profile) (ps : List Asked) (answers : List Response) (k j : ℕ) → IsFirstUnpermitted profile ps answers k → IsFirstUnpermitted profile ps answers j → k ≡ j
-one_bad profile ps answers k j bad other =
-    grind (arith, cases_order k j, fewer_permitted profile ps answers (k + 1) j, fewer_permitted profile ps answers (j + 1) k)
+one_bad profile ps answers k j bad other = grind (arith, fewer_permitted profile ps answers (k + 1) j, fewer_permitted profile ps answers (j + 1) k)

@@ -1,8 +1,8 @@
 -- What stands together holds of the spool that is given for it.
 use Rattle.std.proofs.Common.{◌≡◌, ℕ, ◌+◌, ◌<◌, ◌⊎◌, true, false, IsTrue, List, [], ◌∷◌, ◌++◌, map, length, Option, None, Some, is_some, inl, inr, refl, sym}
 use Rattle.std.proofs.{Common.{ap, subst, ◌∙◌, arith}, lemmas.Bool.{true≢false, and_parts, false_from_ne_true, eqb-true, eq-eqb}}
-use Rattle.std.{proofs.lemmas.List.Elements.{All-from_recursion}, specs.Prelude.{IsFalse, IfSome, IsSome, MatchOption, option_map, unwrap_or}}
-use Rattle.std.specs.{List.{AllByRecursion, list_any}, Ordering.{nat_cmp}, FinMap.{get, empty, entries, get-entries, get-empty, nat_cmp-IsAntisymmetric}}
+use Rattle.std.{proofs.lemmas.List.Elements.{All-from_recursion}, specs.{Prelude.{IsFalse, IfSome, IsSome, MatchOption, unwrap_or}, List.{AllByRecursion}}}
+use Rattle.std.specs.{List.{list_any}, Ordering.{nat_cmp}, FinMap.{get, empty, entries, get-entries, get-empty, nat_cmp-IsAntisymmetric}}
 use Rattle.std.specs.FinMap.{slice_cmp-IsAntisymmetric}
 use Rattle.nntp_article.specs.Article.{Parts.{head_part, body_part, is_empty, Id, Line}, Fields.{Fields, fields_of_head, fields_told, made_head}}
 use Rattle.nntp_article.specs.Session.{Spool.{Spool, Text, Numbers, IsNumber, IsGroup, numbers, text_of, Lists, Name}, Machine.{is_same, overview_numbers}}
@@ -44,9 +44,7 @@ one_given f facts one fact i x e = subst (λ o. IfSome o (λ x. first_given f fa
 
 -- what sends a head tells what the head tells
 head_tells : (id : Id) (fact : Fact) (lines : List Line) → head_in id fact ≡ Some lines → fields_in id fact ≡ Some (fields_of_head lines)
-head_tells id (FieldsAre os) lines e = cc
-head_tells id (OverviewsAre name r os) lines e = cc
-head_tells id fact lines e = ap (option_map fields_of_head) e
+head_tells id fact lines e = grind arith
 
 -- the fact that shows the id for the number
 pub record ShownAt (facts : List Fact) (name : Name) (n : ℕ) (id : Id) : Type 0 where
@@ -146,8 +144,7 @@ module _ (profile : Profile) (B : ℕ) (G : Spool) (facts : List Fact) (s : Sett
 
   -- an article of G whose head is sent has that head
   head_is : (id : Id) (u : Text) (lines : List Line) (fact : Fact) → In fact facts → get G.articles id ≡ Some u → head_in id fact ≡ Some lines → u.head ≡ lines
-  head_is id u lines fact i there e = s.given.heads id u there
-      ∙ ap (λ o. unwrap_or o (made_head id (first_given (fields_in id) facts))) (one_given (head_in id) facts (s.together.heads id) fact i lines e)
+  head_is id u lines fact i there e = grind (arith, s.given.heads id u there, one_given (head_in id) facts, s.together.heads id)
 
   -- and that body
   body_is : (id : Id) (u : Text) (lines : List Line) (fact : Fact) → In fact facts → get G.articles id ≡ Some u → body_in id fact ≡ Some lines → u.body ≡ lines
@@ -156,17 +153,7 @@ module _ (profile : Profile) (B : ℕ) (G : Spool) (facts : List Fact) (s : Sett
   -- what was sent of an article is what G has of it
   text_is : (what : What) (id : Id) (lines : Option (List Line)) (u : Text) → In (TextIs what id lines) facts → head_fits what id lines ≡ true → get G.articles id ≡ Some u → text_of what u ≡ lines
   text_is what id (Some ls) u i f at =
-      let said : Fact = TextIs what id (Some ls) in
-      grind (
-        arith,
-        head_is id u ls said i at,
-        head_is id u (head_part ls) said i at,
-        body_is id u ls said i at,
-        body_is id u (body_part ls) said i at,
-        same_itself id,
-        and_parts,
-        parts_joined,
-      )
+      grind (arith, head_is id u ls, head_is id u (head_part ls), body_is id u ls, body_is id u (body_part ls), same_itself, parts_joined)
   text_is what id None u i f at = grind arith
 
   -- a group of G isn't denied
@@ -218,28 +205,14 @@ module _ (profile : Profile) (B : ℕ) (G : Spool) (facts : List Fact) (s : Sett
   fact_holds (ThereIs name) i f p = (s.given.groups name).1 (any_in (shows_group name) (ThereIs name) facts i (same_itself name))
   fact_holds (ThereIsNo name) i f p = none_of (get G.groups name) (λ g. true≢false (sym (same_itself name) ∙ not_denied_group name (ThereIsNo name) i g))
   fact_holds (Asks name ask) i f p = grind (arith, asked name (Asks name ask) i (group_there name p), same_itself name)
-  fact_holds (IdAt name n id) i f p = grind (
-    arith,
-    asked name (IdAt name n id) i (group_there name p),
-    s.given.ids_shown name n id,
-    one_given (id_in name n) facts (s.together.ids name n) (IdAt name n id) i id,
-    same_itself name,
-    eq-eqb,
-  )
-  fact_holds (FieldsAre os) i f p = all_from (HasOverview G) os (λ o j.
-      overview_tells os (FieldsAre os) i (λ id. refl) (all_at AgreesWithItself (FieldsAre os) facts s.together.lists i) (all_at IsWellFormed (FieldsAre os) facts s.together.well_formed i) o j
-      ((s.given.articles o.id).1 (inr (any_in (gives_article o.id) (FieldsAre os) facts i (any_in (λ p. is_same p.id o.id) o os j (same_itself o.id))))))
+  fact_holds (IdAt name n id) i f p =
+      let first = one_given (id_in name n) facts (s.together.ids name n) (IdAt name n id) i id in
+      grind (arith, asked name (IdAt name n id) i (group_there name p), s.given.ids_shown name n id, first, same_itself)
+  fact_holds (FieldsAre os) i f p = grind (arith, all_from, overview_tells os (FieldsAre os) i, all_at, any_in, same_itself)
   fact_holds (TextIs what id lines) i f p = grind (arith, some_is, any_in, same_itself, text_is)
   fact_holds (NoArticle id) i f p = none_of (get G.articles id) (λ g.
       elim ((s.given.articles id).0 g) [
-        | inl used ↦ grind (
-          arith,
-          id_cases used.0 used.1 id used.2,
-          shown_at used.0 used.1 id,
-          not_denied id,
-          any_in (mentions id) (NoArticle id) facts i (same_itself id),
-          true≢false,
-        )
+        | inl used ↦ grind (arith, id_cases, shown_at used.0 used.1 id, not_denied, any_in (mentions id) (NoArticle id) facts i (same_itself id))
         | inr sent ↦ (let f = found_in (gives_article id) facts sent in not_denied id f.0 f.1 (grind (arith, f.2)) i)
       ])
   fact_holds (OverviewsAre name r os) i f p =

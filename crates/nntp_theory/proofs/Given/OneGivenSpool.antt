@@ -1,8 +1,8 @@
 -- There is one given spool at most.
-use Rattle.std.proofs.Common.{◌↔◌, ◌≡◌, ℕ, cond, List, [], ◌∷◌, ◌++◌, map, Option, None, Some, is_some, inl, inr, refl, sym, ap, subst, ◌∙◌, arith}
+use Rattle.std.proofs.Common.{◌≡◌, ℕ, cond, List, [], ◌∷◌, ◌++◌, map, Option, None, Some, is_some, inl, inr, refl, sym, ap, subst, ◌∙◌, arith}
 use Rattle.std.{proofs.lemmas.Bool.{true≢false}, specs.{Prelude.{unwrap_or}, List.{flat_map}, Cmp.{nat_cmp_total, Lexicographic.{nat_list_cmp_total}}}}
 use Rattle.std.specs.FinMap.{keys, entries, empty, same_entries_map, same_map, nat_cmp-IsAntisymmetric}
-use Rattle.nntp_article.specs.{Session.Spool.{Spool, Numbers, IsNumber, IsGroup, numbers, Name}, Article.Parts.{Id}}
+use Rattle.nntp_article.specs.{Session.Spool.{Spool, Numbers, IsGroup, numbers, Name}, Article.Parts.{Id}}
 use Rattle.nntp_said.specs.Facts.{Fact}
 use Rattle.nntp_theory.{specs.Given.{id_shown, is_mentioned, invented, AreInvented, unshown_in, IsGiven}, proofs.GivenNumbers.FirstFreeNumber.{first_free_once}}
 use Rattle.nntp_theory.proofs.{Members.{In}, Maps.{same_keys, in_get}, Given.ConstructedSpool.{names_apart}}
@@ -67,16 +67,11 @@ module _ (facts : List Fact) (G H : Spool) (given : IsGiven facts G) (other : Is
 
   -- ids that are shown stand in the entries
   agrees : (S : Spool) → IsGiven facts S → (name : Name) (N : Numbers) → In (name, N) (entries S.groups) → Agree facts name (entries N)
-  agrees S s name N i n id shown j e =
-      grind (arith, numbers_at S name N i, in_get nat_cmp_total nat_cmp-IsAntisymmetric N n id j, s.ids_shown name n shown)
+  agrees S s name N i n id shown j e = grind (arith, numbers_at S name N i, in_get nat_cmp_total nat_cmp-IsAntisymmetric N n id j, s.ids_shown name n shown)
 
   -- a group has the same numbers in both
   same_numbers : (name : Name) (N M : Numbers) → In (name, N) (entries G.groups) → In (name, M) (entries H.groups) → keys N ≡ keys M
-  same_numbers name N M i j =
-      let a = numbers_at G name N i in
-      let b = numbers_at H name M j in
-      let same : (n : ℕ) → IsNumber N n ↔ IsNumber M n = λ n. grind (arith, a, b, given.numbers_given name a.0 n, other.numbers_given name b.0 n) in
-      same_keys nat_cmp_total nat_cmp-IsAntisymmetric N M (λ n. (same n).0) (λ n. (same n).1)
+  same_numbers name N M i j = grind (arith, numbers_at, numbers_at, same_keys nat_cmp_total nat_cmp-IsAntisymmetric N M)
 
   -- the groups are the same
   groups_alike : G.groups ≡ H.groups

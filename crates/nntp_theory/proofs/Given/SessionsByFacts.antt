@@ -34,7 +34,8 @@ among_placed : (profile : Profile) (all : List Fact) (sessions : List Answered) 
     → AllByRecursion (Among all) (facts_of_all profile.marks sessions) → AllByRecursion (Placed profile.marks all) (facts_of_all profile.marks sessions)
 among_placed profile all [] f h = tt
 among_placed profile all (s ∷ more) f h =
-    search (all_both, placed_among, all_front, all_back, among_placed profile all more f.1 (all_back (Among all) (facts_in profile.marks s) (facts_of_all profile.marks more) h))
+    let later = all_back (Among all) (facts_in profile.marks s) (facts_of_all profile.marks more) h in
+    search (all_both, placed_among, all_front, among_placed profile all more f.1 later)
 
 pub all_placed : (profile : Profile) (sessions : List Answered) → FitEach profile sessions
     → AllByRecursion (Placed profile.marks (facts_of_all profile.marks sessions)) (facts_of_all profile.marks sessions)

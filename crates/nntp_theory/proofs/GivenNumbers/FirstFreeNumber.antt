@@ -1,6 +1,5 @@
 -- The first number from one on that isn't taken: the search for it, and that there is one at most.
-use Rattle.std.proofs.{Common.{◌≡◌, ℕ, zero, suc, ◌+◌, ◌<◌, ◌≤◌, Bool, true, Option, None, Some, refl, sym, ◌∙◌, arith}, lemmas.Bool.{cases_lt, true≢false}}
-use Rattle.std.specs.Prelude.{IsFalse}
+use Rattle.std.{proofs.{Common.{◌≡◌, ℕ, zero, suc, ◌+◌, ◌<◌, ◌≤◌, Bool, true, None, Some, arith}, lemmas.Bool.{cases_lt, true≢false}}, specs.Prelude.{IsFalse}}
 use Rattle.nntp_theory.specs.{Given.{IsFirstFree}, Inner.OneMore.{free}}
 
 -- there is one at most
@@ -21,8 +20,4 @@ free_none taken (suc k) n e m a b = grind (arith, cases_lt, free_none taken k (n
 
 -- where one isn't taken, there is a first, and it is no greater
 pub first_free : (taken : ℕ → Bool) (k c : ℕ) → k ≤ c → IsFalse (taken c) → (n : ℕ) × IsFirstFree taken k n × (n ≤ c)
-first_free taken k c from is_free = by (free taken (c + 1) k) refl
-  where
-    by : (o : Option ℕ) → free taken (c + 1) k ≡ o → (n : ℕ) × IsFirstFree taken k n × (n ≤ c)
-    by None e = absurd (true≢false (sym (free_none taken (c + 1) k e c from (omega arith)) ∙ is_free))
-    by (Some n) e = grind (arith, free_is, cases_lt, true≢false)
+first_free taken k c from is_free = grind (arith, true≢false, free_none taken (c + 1) k, free_is, cases_lt)

@@ -149,17 +149,7 @@ module _ (asks : List Ask) (N : Numbers) (met : AllByRecursion (Meets N) asks) (
   demand_given d h i = grind (arith, given_wanted, one_wanted, ltb-true, lt-ltb, shown_known, second_shown)
 
   replaced_in_N : (G : Numbers) → HasGivenNumbers asks G → (d c : ℕ) → IsOneMore asks d → IsNumber N c → (n : ℕ) → IsNumber (insert (remove G d) c []) n → IsNumber N n
-  replaced_in_N G given d c x here n i =
-      grind (
-        arith,
-        cases_eq n c,
-        cases_eq n d,
-        get-insert nat_cmp_total (remove G d) c [] n,
-        get-remove nat_cmp_total G d n,
-        known_in_N n,
-        one_more_once asks n d,
-        given n,
-      )
+  replaced_in_N G given d c x here n i = grind (arith, get-insert nat_cmp_total (remove G d) c [] n, get-remove nat_cmp_total G d n, known_in_N)
 
   -- there are no more given numbers than N's
   pub as_few : (G : Numbers) → HasGivenNumbers asks G → len G ≤ len N

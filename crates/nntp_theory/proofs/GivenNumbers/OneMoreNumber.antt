@@ -1,5 +1,5 @@
 -- Whether one more number is needed, and the search for it.
-use Rattle.std.proofs.Common.{◌≡◌, ℕ, ◌≤◌, Bool, true, false, cond, IsTrue, List, Option, None, Some, inl, refl, sym, subst, ◌∙◌, arith, [], ◌∷◌}
+use Rattle.std.proofs.Common.{◌≡◌, ℕ, ◌≤◌, Bool, cond, IsTrue, List, Option, None, Some, inl, refl, sym, subst, arith, [], ◌∷◌}
 use Rattle.std.{proofs.lemmas.Bool.{false_from_ne_true, true≢false}, specs.List.{list_any, flat_map}}
 use Rattle.nntp_said.specs.Asks.{Ask}
 use Rattle.nntp_theory.specs.{Given.{is_known, is_denied, demand, wants, IsOneMore}, Inner.OneMore.{free, if_wanted}}
@@ -42,9 +42,4 @@ more_is limit asks n e = grind (arith, false_from_ne_true, true≢false, any_in,
 
 -- and it is found, if it is within the limit
 pub more_found : (limit : ℕ) (asks : List Ask) (n : ℕ) → IsOneMore asks n → n ≤ limit → more limit asks ≡ Some n
-more_found limit asks n x within = by (is_met asks) refl (free (is_denied asks) limit 1) refl
-  where
-    by : (b : Bool) → is_met asks ≡ b → (o : Option ℕ) → free (is_denied asks) limit 1 ≡ o → cond b None (if_wanted (demand asks) o) ≡ Some n
-    by true t o is = grind (arith, found_in, known_list, true≢false, from_known_list)
-    by false none None is = let low = x.first.0 in absurd (true≢false (sym (free_none (is_denied asks) limit 1 is n low (omega arith)) ∙ x.first.1))
-    by false none (Some m) is = grind (arith, first_free_once, free_is)
+more_found limit asks n x within = grind (arith, found_in, from_known_list, free_none (is_denied asks) limit 1, free_is)

@@ -44,10 +44,8 @@ made_says_id id (Some fields) h words = id_of_one id _ h (made_says fields words
 
 -- it is a head
 pub made_head_is_head : (id : Id) (told : Option Fields) → IfSome told AreWords → IsTrue (is_head (made_head id told))
-made_head_is_head id None words = refl
-made_head_is_head id (Some fields) words = made_is_head fields words id
+made_head_is_head id told words = grind (arith, made_is_head)
 
 -- and no line of it holds NUL, CR or LF
 pub made_is_clean : (id : Id) (told : Option Fields) → IsMessageId id → IfSome told AreWords → AllByRecursion (λ line. IsTrue (is_line line)) (made_head id told)
-made_is_clean id None h words = (id_line id (octets id h), tt)
-made_is_clean id (Some fields) h words = (id_line id (octets id h), field_lines_are_lines fields words)
+made_is_clean id told h words = grind (arith, id_line, octets, field_lines_are_lines)

@@ -33,24 +33,16 @@ module _ (B : ℕ) (small : (i : ℕ) → i < B → invented_number (invented i)
 
   -- so has one that overviews have
   counted_of : (i : ℕ) (os : List OverviewValue) → i < B → has_overview_of (invented i) os ≡ true → list_any (eqb i) (map (λ o. invented_number o.id) os) ≡ true
-  counted_of i os l t =
-      let f = found_in (λ o. is_same o.id (invented i)) os t in
-      any_in (eqb i) (invented_number f.0.id) (map (λ o. invented_number o.id) os) (in_map (λ (o : OverviewValue). invented_number o.id) f.0 os f.1) (same_number i f.0.id l f.2)
+  counted_of i os l t = grind (arith, found_in, any_in, in_map, same_number)
 
   -- and so one that a fact mentions
   counted_one : (i : ℕ) (fact : Fact) → i < B → mentions (invented i) fact ≡ true → list_any (eqb i) (mentioned_number fact) ≡ true
-  counted_one i (FieldsAre os) l t = counted_of i os l t
-  counted_one i (OverviewsAre name r os) l t = counted_of i os l t
-  counted_one i fact l t = grind (arith, or_left, same_number)
+  counted_one i fact l t = grind (arith, counted_of, or_left, same_number)
 
   -- and one of the facts
   pub counted : (i : ℕ) (facts : List Fact) → i < B → is_mentioned facts (invented i) ≡ true → list_any (eqb i) (mentioned facts) ≡ true
   counted i [] l e = cc
-  counted i (fact ∷ facts) l e =
-      elim (or_cases (mentions (invented i) fact) (is_mentioned facts (invented i)) e) [
-        | inl t ↦ list_any-append (eqb i) (mentioned_number fact) (mentioned facts) ∙ or_left _ (list_any (eqb i) (mentioned facts)) (counted_one i fact l t)
-        | inr t ↦ any_back (eqb i) (mentioned_number fact) (mentioned facts) (counted i facts l t)
-      ]
+  counted i (fact ∷ facts) l e = grind (arith, or_cases, list_any-append, or_left, counted_one, any_back, counted i facts l)
 
   -- the numbers from k on, behind those that were invented before
   numbered_from : (ids : List Id) (k : ℕ) (done : List ℕ) → ((i : ℕ) → i < k → list_any (eqb i) (done ++ mentioned facts) ≡ true)

@@ -21,12 +21,12 @@ shown_with_id facts name n = given (first_given (id_in name n) facts) refl
   where
     by : (fact : Fact) (id : Id) → In fact facts → id_in name n fact ≡ Some id → IsTrue (is_shown (asks_of name facts) n)
     by (IdAt g m other) id i e =
-        grind (arith, any_in (λ ask. shows ask n) (Has m) (asks_of name facts), to_flat (asks_in name) (IdAt g m other) (Has m) facts i)
+        grind (arith, any_in, to_flat (asks_in name) (IdAt g m other) (Has m) facts i)
     by (OverviewsAre g r os) id i e =
         let o = overview_at g name r os n id e in
         let ask = ListsIn r (overview_numbers os) in
         let listed = any_in (λ m. o.overview.number == m) o.overview.number (overview_numbers os) (in_map (λ (o : OverviewValue). o.number) o.overview os o.there) in
-        grind (arith, listed, eq-eqb, any_in (λ ask. shows ask n) ask (asks_of name facts), to_flat (asks_in name) (OverviewsAre g r os) ask facts i, same_itself)
+        grind (arith, any_in, to_flat (asks_in name) (OverviewsAre g r os) ask facts i)
     by fact id i e = cc
 
     given : (o : Option Id) → first_given (id_in name n) facts ≡ o → is_some o ≡ true → IsTrue (is_shown (asks_of name facts) n)
@@ -35,6 +35,4 @@ shown_with_id facts name n = given (first_given (id_in name n) facts) refl
 -- facts that stand together agree
 pub agree_together : (facts : List Fact) (name : Name) (n : ℕ) (id : Id) → AllByRecursion AgreesWithItself facts → GiveOne (number_in name id) facts
     → first_given (id_in name n) facts ≡ Some id → first_given (number_in name id) facts ≡ Some n
-agree_together facts name n id lists one e =
-    let f = first_found (id_in name n) facts id e in
-    one_given (number_in name id) facts one f.0 f.1 n (placed_by name n id f.0 (all_at AgreesWithItself f.0 facts lists f.1) f.2)
+agree_together facts name n id lists one e = grind (arith, first_found, one_given, placed_by, all_at)

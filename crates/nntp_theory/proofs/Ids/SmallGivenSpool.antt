@@ -96,8 +96,7 @@ none_left : (g : Name) (ask : Ask) (name : Name) (names : List Name) → is_same
     → length (flat_map (λ n. flat_map named_by (cond (is_same g n) (ask ∷ []) [])) names) ≡ 0
 none_left g ask name [] same apart = refl
 none_left g ask name (other ∷ names) same apart =
-    let one : g ≡ name = same_text g name (sym same) in
-    grind (arith, is_eq-slice_cmp name other, none_left g ask name names same apart.1)
+    grind (arith, same_text g name (sym same), is_eq-slice_cmp name other, none_left g ask name names same apart.1)
 
 -- what an ask shows of several groups is no more than its size
 ask_few : (g : Name) (ask : Ask) (names : List Name) → IsDistinct (eq_by_cmp (slice_cmp nat_cmp)) names

@@ -120,6 +120,4 @@ module _ (Stand : List Paired → Type 0) where
   -- the pairing ends as the reading does
   pub all_paired : (client : ClientStream) (server : List ℕ) (pairs : List Paired) (ending : Ending) → Stand [] → IsReadingBy Stand client server (map Accepted pairs) ending
       → IsPairing client server pairs ending × Stand pairs
-  all_paired client server pairs ending none reading =
-      let whole = subst (λ answers. AreJudged Stand [] (streams client server) answers reading.left) (sym (append-nil (map Accepted pairs))) reading.judged in
-      search (rules, accepted_first, ends)
+  all_paired client server pairs ending none reading = grind (arith, append-nil (map Accepted pairs), accepted_first, ends)

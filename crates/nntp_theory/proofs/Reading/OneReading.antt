@@ -18,7 +18,7 @@ module _ (Stand : List Paired → Type 0) where
       → AreJudged Stand past a others c → Ends c other → other ≢ bad PairMalformed → (answers ≡ others) × (b ≡ c)
   one_run past a b c [] [] ending other p ends passed q also too = (refl, sym p ∙ q)
   one_run past a b c (x ∷ answers) (y ∷ others) ending other (m, first, p) ends passed (k, second, q) also too =
-      grind (arith, one_judged Stand past a m k x y first second, one_run (accepted_with past y) k b c answers others ending other)
+      grind (arith, one_judged, one_run (accepted_with past y) k b c answers others ending other)
   one_run past a b c answers others ending other p ends passed q also too = grind arith
 
   -- two streams have one reading

@@ -5,9 +5,8 @@ use Rattle.nntp_theory.specs.{Inner.Estimates.{estimate_in, is_within}, Given.{i
 use Rattle.nntp_theory.{specs.Given.{shows_group, is_end}, proofs.Members.{In, all_at, any_in, found_in, to_flat, from_flat}}
 use Rattle.nntp_theory.proofs.Session.{NumbersOfShownGroups.{Placed}, FittingFacts.{IsFitting}}
 use Rattle.nntp_wire.specs.{declared.marks.Marks.{Marks}, Listing.{ActiveValue}}
-use Rattle.nntp_article.specs.Session.{Spool.{Name}, Machine.{is_same, is_article_number, active_fits, overview_numbers}}
-use Rattle.nntp_article.specs.declared.session.profile.Profile.{Profile}
-use Rattle.nntp_said.specs.{Asks.{Ask, Estimates, Bounds, ListsIn}, Facts.{Fact, ThereIs, Asks, OverviewsAre, GroupsAre}}
+use Rattle.nntp_article.specs.{Session.{Spool.{Name}, Machine.{is_same, is_article_number, active_fits}}, declared.session.profile.Profile.{Profile}}
+use Rattle.nntp_said.specs.{Asks.{Ask, Estimates, Bounds}, Facts.{Fact, ThereIs, Asks, GroupsAre}}
 
 module _ (profile : Profile) (facts : List Fact) (how : Marks) (fitting : AllByRecursion (IsFitting profile) facts) (placed : AllByRecursion (Placed how facts) facts) where
   fits : (fact : Fact) → In fact facts → IsFitting profile fact
@@ -25,7 +24,7 @@ module _ (profile : Profile) (facts : List Fact) (how : Marks) (fitting : AllByR
       by (ThereIs g) j t =
           let s = all_at (Placed how facts) (ThereIs g) facts placed j in
           let most = (fits (Asks g (Estimates how s.marks)) s.estimated).0 in
-          grind (arith, most, denied_by name (Asks g (Estimates how s.marks)) s.estimated (Estimates how s.marks), or_right, lt-ltb)
+          grind (arith, denied_by name (Asks g (Estimates how s.marks)) s.estimated (Estimates how s.marks))
       by (GroupsAre p lines) j t =
           let f = found_in (λ line. is_same line.name name) lines t in
           let within = all_at (λ line. IsTrue (active_fits profile p line)) f.0 lines (fits (GroupsAre p lines) j) f.1 in
@@ -40,17 +39,7 @@ module _ (profile : Profile) (facts : List Fact) (how : Marks) (fitting : AllByR
 
   -- a number that is shown is one
   shown_num : (name : Name) (n : ℕ) → IsTrue (is_shown (asks_of name facts) n) → IsTrue (is_article_number profile.limit n)
-  shown_num name n t =
-      let f = found_in (λ ask. shows ask n) (asks_of name facts) t in
-      let g = from_flat (asks_in name) f.0 facts f.1 in
-      by g.0 (fits g.0 g.1) f.0 g.2 f.2
-    where
-      by : (fact : Fact) → IsFitting profile fact → (ask : Ask) → In ask (asks_in name fact) → shows ask n ≡ true → IsTrue (is_article_number profile.limit n)
-      by (OverviewsAre g r os) h ask i t = grind (arith, num_of name (ListsIn r (overview_numbers os)) n h.0)
-      by (GroupsAre p lines) h ask i t =
-          let f = from_flat (λ (line : ActiveValue). cond (is_same line.name name) (Bounds line.low line.high ∷ []) []) ask lines i in
-          grind (arith, f.2, true≢false)
-      by fact h ask i t = grind (arith, num_of)
+  shown_num name n t = grind (arith, found_in, from_flat (asks_in name), fits, num_of name, from_flat, true≢false, num_of)
 
   -- and so is one of all
   pub end_in_limit : (name : Name) (n count : ℕ) → IsTrue (list_any (λ ask. is_end ask n) (asks_of name facts))

@@ -46,14 +46,12 @@ facts_next how ps answers asked response e =
 -- what is visible then
 pub visible_next : (ps : List Asked) (answers : List Response) (asked : Asked) (response : Response) → length ps ≡ length answers
     → visible_from start.visible (ps ++ asked ∷ []) (answers ++ response ∷ []) ≡ visible_after (visible_from start.visible ps answers) asked response
-visible_next ps answers asked response e =
-    grind (arith, visible_grows start.visible (ps ++ asked ∷ []) answers asked response, next_behind ps [] asked answers e, visible_longer)
+visible_next ps answers asked response e = grind (arith, visible_grows start.visible (ps ++ asked ∷ []) answers asked response, next_behind, visible_longer)
 
 -- and where the session stands then
 pub position_next : (ps : List Asked) (answers : List Response) (asked : Asked) (response : Response) → length ps ≡ length answers
     → position_from Nowhere (ps ++ asked ∷ []) (answers ++ response ∷ []) ≡ position_after (position_from Nowhere ps answers) asked response
-position_next ps answers asked response e =
-    grind (arith, position_grows Nowhere (ps ++ asked ∷ []) answers asked response, next_behind ps [] asked answers e, position_longer)
+position_next ps answers asked response e = grind (arith, position_grows Nowhere (ps ++ asked ∷ []) answers asked response, next_behind, position_longer)
 
 -- there are as many prompts as answers
 pub as_many : (past : List Paired) → length (asked_of past) ≡ length (responses_of past)

@@ -23,7 +23,7 @@ pub paired_up : (v : Visible) (before left : Unpaired) (pairs : List Paired) →
 paired_up v before left [] same e = grind arith
 paired_up v before left (pair ∷ pairs) same (between, first, more) =
     let closes = after-closes v (asked_at pair.place) pair.response (sym same ∙ first.is_open) in
-    grind (arith, closes, paired_up (visible_after v (asked_at pair.place) pair.response) between left pairs (first.closing ∙ sym closes) more)
+    grind (arith, paired_up (visible_after v (asked_at pair.place) pair.response) between left pairs (first.closing ∙ sym closes) more)
 
 -- ---- the end
 

@@ -55,9 +55,7 @@ same_front : (ps : List Asked) (answers others : List Response) (sp tp rest more
     → (answers ≡ take (length answers) others) × (length sp ≤ length tp)
 same_front ps [] others sp tp rest more s t e le = (refl, let none = ap length s in omega arith)
 same_front (p ∷ ps) (a ∷ answers) (c ∷ others) sp tp rest more (b, tail, s, ss, whole) (d, tail', t, ts, whole') e le =
-    let same = same_first p a c b d tail tail' rest more sp tp s t whole whole' e in
-    let r = same_front ps answers others tail tail' rest more ss ts same.2 (omega arith) in
-    grind (arith, length-append)
+    grind (arith, same_first p a c b d tail tail' rest more sp tp s t whole whole' e, same_front ps answers others tail tail' rest more ss ts, length-append)
 same_front ps (a ∷ answers) others sp tp rest more s t e le = grind arith
 
 -- the first answers of a reading, and what is left behind them
@@ -88,9 +86,7 @@ module _ (P : Spool → Type 0) (profile : Profile) (client : ClientStream) (ser
   -- one answer is bad at most
   pub bad_once : (k j : ℕ) → BadAmong P profile client server k → BadAmong P profile client server j → k ≡ j
   bad_once k j (x, none) (y, none') =
-      let less = first_explained profile y.0 client server (k + 1) j y.1 in
-      let more = first_explained profile x.0 client server (j + 1) k x.1 in
-      grind (arith, cases_order k j, none y.0 y.2, less, none' x.0 x.2, more)
+      grind (arith, first_explained profile y.0 client server (k + 1) j y.1, first_explained profile x.0 client server (j + 1) k x.1)
 
   -- where one of them explains all, no answer is bad
   pub explained_not_bad_among : (S : Spool) (n k : ℕ) → P S → Explains profile S client server n → BadAmong P profile client server k → ⊥

@@ -1,6 +1,6 @@
 -- The class of a bad answer: there is one, and octets that follow leave it where it is settled.
-use Rattle.std.proofs.Common.{◌≡◌, ℕ, ◌+◌, Bool, true, false, IsTrue, List, [], ◌∷◌, ◌++◌, length, Option, None, Some, inl, inr, refl, sym, ap, subst, ◌∙◌}
-use Rattle.std.proofs.{Common.{arith, append_assoc}, lemmas.{List.{append_cancel_left, append-nil}, Bool.{cases_Bool, true≢false}}}
+use Rattle.std.proofs.Common.{◌≡◌, ℕ, ◌+◌, Bool, true, false, IsTrue, List, [], ◌∷◌, ◌++◌, length, Option, Some, inl, inr, refl, sym, ap, subst, ◌∙◌, arith}
+use Rattle.std.proofs.{Common.{append_assoc}, lemmas.{List.{append_cancel_left, append-nil}, Bool.{cases_Bool, true≢false}}}
 use Rattle.nntp_wire.specs.{Answer.{Asked, Response, Spells}, Frame.{HasFrame, frame_octets}, Session.{prompts_of, Spelled, ClientStream, further}}
 use Rattle.nntp_wire.proofs.{SpellLemmas.{spelling-frame, one-frame}, SpellsDecided.{one-spelling, dec_spelling}, FramesDecided.{dec_frame, frame-longer}}
 use Rattle.nntp_article.specs.Session.{Spool.{Spool}, Machine.{Visible, State, Run, start, fits}, Explains.{ExplainsUpTo, ExplainsFirst, BadAmong}}
@@ -37,10 +37,7 @@ spelled_snoc ps answers octets b asked a s e t = grind (arith, append-nil)
 pub same_first : (p : Asked) (x y : Response) (b d s t rest more sp tp : List ℕ)
     → Spells p x b → Spells p y d → sp ≡ b ++ s → tp ≡ d ++ t → sp ++ rest ≡ tp ++ more → (x ≡ y) × (b ≡ d) × (s ++ rest ≡ t ++ more)
 same_first p x y b d s t rest more sp tp first second whole whole' e =
-    let split : b ++ (s ++ rest) ≡ d ++ (t ++ more) =
-    sym (append_assoc b s rest) ∙ ap (λ sp. sp ++ rest) (sym whole) ∙ e ∙ ap (λ tp. tp ++ more) whole' ∙ append_assoc d t more in
-    let same = one-spelling p x y b d (s ++ rest) (t ++ more) first second split in
-    (same.0, same.1, append_cancel_left b (s ++ rest) (t ++ more) (split ∙ ap (λ d. d ++ (t ++ more)) (sym same.1)))
+    grind (arith, append_assoc, one-spelling p x y b d (s ++ rest) (t ++ more) first second, append_cancel_left)
 
 -- of a reading that is one answer longer, the answers before are the same
 pub record OneMore (ps : List Asked) (answers others : List Response) (rest more : List ℕ) : Type 0 where
@@ -68,9 +65,7 @@ as_many : (ps : List Asked) (answers others : List Response) (sp tp rest more : 
     → Spelled ps others tp → sp ++ rest ≡ tp ++ more → length others ≡ length answers → (answers ≡ others) × (rest ≡ more)
 as_many ps [] [] sp tp rest more s t e count = (refl, ap (λ sp. sp ++ rest) (sym s) ∙ e ∙ ap (λ tp. tp ++ more) t)
 as_many (p ∷ ps) (x ∷ answers) (y ∷ others) sp tp rest more (b, tail, s, ss, whole) (d, tail', t, ts, whole') e count =
-    let same = same_first p x y b d tail tail' rest more sp tp s t whole whole' e in
-    let r = as_many ps answers others tail tail' rest more ss ts same.2 (omega arith) in
-    ((λ i. same.0 i ∷ r.0 i), r.1)
+    grind (arith, same_first p x y b d tail tail' rest more sp tp s t whole whole' e, as_many ps answers others tail tail' rest more ss ts)
 as_many ps answers others sp tp rest more s t e count = grind arith
 
 -- so two streams begin with k answers in one way
@@ -150,16 +145,7 @@ before_bad P profile client server k ((S, rest, p, x, some), none) = grind arith
 
 -- the reading of both streams stays, with more octets left
 before_longer : (client : ClientStream) (server more_client more_server : List ℕ) (k : ℕ) → AnswersFirst client server k → AnswersFirst (further client more_client) (server ++ more_server) k
-before_longer client server more_client more_server k b =
-    let p = prompts_joined client more_client in
-    record {
-      answers = b.answers;
-      octets = b.octets;
-      rest = b.rest ++ more_server;
-      count = b.count;
-      spelled = subst (λ ps. Spelled ps b.answers b.octets) (sym p.1) (spelled_longer (prompts_of client) p.0 b.answers b.octets b.spelled);
-      whole = ap (λ o. o ++ more_server) b.whole ∙ append_assoc b.octets b.rest more_server;
-    }
+before_longer client server more_client more_server k b = grind (arith, prompts_joined client more_client, spelled_longer (prompts_of client), append_assoc)
 
 -- and so does the visible state that it leaves
 visible_stays : (client : ClientStream) (server more_client : List ℕ) (k : ℕ) (b : AnswersFirst client server k)
@@ -190,11 +176,7 @@ open_longer profile v asked octets more class s h = grind (arith, malformed_long
 class_longer : (closed : Bool) (profile : Profile) (v : Visible) (ps qs : List Asked) (answers : List Response) (octets more : List ℕ) (class : Class) → settled class closed
     → IsClass closed profile v (asked_next ps answers) octets class → IsClass closed profile v (asked_next (ps ++ qs) answers) (octets ++ more) class
 class_longer true profile v ps qs answers octets more class s h = h
-class_longer false profile v ps qs answers octets more class s h = by (asked_next ps answers) refl h
-  where
-    by : (next : Option Asked) → asked_next ps answers ≡ next → IsClass false profile v next octets class → IsClass false profile v (asked_next (ps ++ qs) answers) (octets ++ more) class
-    by None e h = grind arith
-    by (Some asked) e h = grind (arith, asked_longer ps qs answers asked e, open_longer profile v asked octets more class s h)
+class_longer false profile v ps qs answers octets more class s h = grind (arith, asked_longer ps qs answers, open_longer profile v)
 
 -- a connection that is closed before an answer stays so
 closed_longer : (client : ClientStream) (server more_client more_server : List ℕ) (k : ℕ) → IsClosedBefore client server k → IsClosedBefore (further client more_client) (server ++ more_server) k

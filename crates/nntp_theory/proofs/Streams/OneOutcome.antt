@@ -20,10 +20,9 @@ use Rattle.nntp_theory.proofs.Session.{OneMoreAnswer.{pairs_permitted, prompts_o
 -- explanations of two streams have the same answers
 pub same_answers : (profile : Profile) (S T : Spool) (client : ClientStream) (server : List ℕ) (n m : ℕ) (x : Explains profile S client server n) (y : Explains profile T client server m)
     → x.answers ≡ y.answers
-same_answers profile S T client server n m x y =
-    let p = by_pairs profile S client server n [] x in
+same_answers profile S T client server n m x y = let p = by_pairs profile S client server n [] x in
     let q = by_pairs profile T client server m [] y in
-    grind (arith, one-run p.0 q.0 (streams client server) p.1 q.1 (end _) (end _) p.2 (p.4, refl) q.2 (q.4, refl), p.3, q.3)
+    grind (arith, one-run p.0 q.0 (streams client server) p.1 q.1 (end _) (end _) p.2 (p.4, refl) q.2 (q.4, refl))
 
 -- what they say is bounded by the octets
 few_facts : (profile : Profile) (S : Spool) (client : ClientStream) (server : List ℕ) (n : ℕ) (x : Explains profile S client server n)

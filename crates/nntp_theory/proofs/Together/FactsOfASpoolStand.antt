@@ -1,6 +1,6 @@
 -- What holds of a spool stands together.
-use Rattle.std.proofs.Common.{◌≡◌, ℕ, ◌↔◌, Bool, true, cond, IsTrue, List, [], ◌∷◌, ◌++◌, map, Option, None, Some, is_some, IsSome, MatchOption, refl, sym, ap}
-use Rattle.std.proofs.{Common.{subst, ◌∙◌, arith}, lemmas.Bool.{true≢false, and_parts, eqb-true, eq-eqb, false_from_ne_true, not-true}}
+use Rattle.std.proofs.Common.{◌≡◌, ℕ, ◌↔◌, Bool, true, cond, IsTrue, List, [], ◌∷◌, ◌++◌, map, Option, None, Some, is_some, IsSome, refl, sym, ap, subst, ◌∙◌}
+use Rattle.std.proofs.{Common.{arith}, lemmas.Bool.{true≢false, and_parts, eqb-true, eq-eqb, false_from_ne_true, not-true}}
 use Rattle.std.{proofs.lemmas.List.Elements.{recursion_from_All}, specs.{Prelude.{IfSome, option_map}, List.{AllByRecursion, list_any}, Option.{option_map_or}}}
 use Rattle.std.specs.{Cmp.Lexicographic.{same_text, nat_list_eq_equiv}, FinMap.{get}}
 use Rattle.nntp_article.specs.{Article.{Parts.{Line, Id, head_part, body_part}, Fields.{Fields, fields_of_head, fields_told}}, Session.Spool.{Spool, Text}}
@@ -63,8 +63,7 @@ module _ (limit : ℕ) (S : Spool) (facts : List Fact) (spool : IsSpool limit S)
   -- and no group of S is denied
   denied_by_one : (name : Name) (fact : Fact) → Holds S fact → IsGroup S name → denies_group name fact ≡ true → ⊥
   denied_by_one name (ThereIsNo g) h there t = grind (arith, same_text g name)
-  denied_by_one name (GroupsAre p lines) h there t = grind (arith, and_parts, matching, true≢false, listed, in_contains, not-true)
-  denied_by_one name fact h there t = cc
+  denied_by_one name fact h there t = grind (arith, and_parts, matching, true≢false, listed, in_contains, not-true)
 
   -- an id that a fact shows is S's
   id_by_one : (name : Name) (n : ℕ) (id : Id) (fact : Fact) → Holds S fact → id_in name n fact ≡ Some id → get (numbers S name) n ≡ Some id
@@ -88,12 +87,7 @@ module _ (limit : ℕ) (S : Spool) (facts : List Fact) (spool : IsSpool limit S)
 
   -- the article of an overview
   overview_text : (o : OverviewValue) → HasOverview S o → (t : Text) × (get S.articles o.id ≡ Some t) × (fields_of_head t.head ≡ fields_told o)
-  overview_text o h = by (get S.articles o.id) refl h
-    where
-      by : (t : Option Text) → get S.articles o.id ≡ t → MatchOption t ⊥ (λ t. fields_of_head t.head ≡ fields_told o)
-          → (t : Text) × (get S.articles o.id ≡ Some t) × (fields_of_head t.head ≡ fields_told o)
-      by None e h = absurd h
-      by (Some t) e h = (t, e, h)
+  overview_text o h = grind (arith)
 
   -- the id of one of the overviews has an article
   overview_has : (id : Id) (os : List OverviewValue) → AllByRecursion (HasOverview S) os → has_overview_of id os ≡ true → IsSome (get S.articles id)
@@ -147,10 +141,7 @@ module _ (limit : ℕ) (S : Spool) (facts : List Fact) (spool : IsSpool limit S)
   -- what overviews tell of an id does
   fields_by_overviews : (id : Id) (fields : Fields) (os : List OverviewValue) → AllByRecursion (HasOverview S) os → first_given (fields_of_overview id) os ≡ Some fields → HasFields id fields
   unfolding HasFields
-  fields_by_overviews id fields os h e =
-      let f = told_by os id fields e in
-      let t = overview_text f.overview (all_at (HasOverview S) f.overview os h f.there) in
-      (t.0, subst (λ id. get S.articles id ≡ Some t.0) f.same_id t.1, t.2 ∙ f.told)
+  fields_by_overviews id fields os h e = grind (arith, told_by os id fields e, overview_text, all_at (HasOverview S))
 
   -- so does what one fact tells
   fields_by_one : (id : Id) (fields : Fields) (fact : Fact) → Holds S fact → fields_in id fact ≡ Some fields → HasFields id fields
@@ -228,7 +219,6 @@ module _ (limit : ℕ) (S : Spool) (facts : List Fact) (spool : IsSpool limit S)
 
   -- overviews agree with one another, as S has one id at a number, and one number for an id
   agrees_with_itself : (fact : Fact) → Holds S fact → AgreesWithItself fact
-  agrees_with_itself (FieldsAre os) h = all_from (TellsOwn os) os (λ o i. fields_given os h o i)
   agrees_with_itself (OverviewsAre name r os) h =
       all_from _ os (λ o i. (id_given o i, number_given o i, fields_given os (all_from (HasOverview S) os (λ o i. (all_at _ o os h.1 i).1)) o i))
     where
@@ -246,7 +236,7 @@ module _ (limit : ℕ) (S : Spool) (facts : List Fact) (spool : IsSpool limit S)
           let z = first_there (number_of_overview o.id) os o o.number i (grind (arith, same_itself)) in
           let w = first_found (number_of_overview o.id) os z.0 z.1 in
           grind (arith, in_S o i, in_S w.0 w.1, same_text w.0.id o.id, spool.one_to_one name w.0.number o.number o.id)
-  agrees_with_itself fact h = tt
+  agrees_with_itself fact h = grind (arith, all_from, fields_given)
 
   -- what is said stands together
   pub stand : Together facts

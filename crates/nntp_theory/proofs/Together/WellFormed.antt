@@ -13,7 +13,7 @@ use Rattle.nntp_theory.{specs.Inner.Together.{IsProperOverview, IsWellFormed}, p
 -- the lines of octets that send them are lines
 sent_lines : (lines : List (List ℕ)) → AreClean lines → are_octets (sent lines) ≡ true → AllByRecursion (λ line. IsTrue (is_line line)) lines
 sent_lines [] clean h = tt
-sent_lines (line ∷ lines) clean h = grind (arith, octets-parts, unstuffed-octets, sent_lines lines clean.1 (octets-parts (stuffed line ++ crlf) (sent lines) h).1)
+sent_lines (line ∷ lines) clean h = grind (arith, octets-parts, sent_lines lines clean.1 (octets-parts (stuffed line ++ crlf) (sent lines) h).1)
 
 -- and so those of a block
 block_lines : (block : Option (List (List ℕ))) → IsCleanBlock block → are_octets (block_octets block) ≡ true → IfSome block (λ lines. AllByRecursion (λ line. IsTrue (is_line line)) lines)
@@ -30,8 +30,7 @@ IsProper (plain code) = ⊤
 
 -- overviews of lines have proper ids and words
 proper_overviews : (lines : List (List ℕ)) → AllByRecursion (λ line. IsTrue (is_line line)) lines → AllByRecursion IsProperOverview (overviews_of lines)
-proper_overviews lines h = all_from IsProperOverview (overviews_of lines) (λ o i.
-    (all_at (λ o. IsMessageId o.id) o (overviews_of lines) (overviews_of-named lines) i, all_at _ o (overviews_of lines) (overview_has_words lines h) i))
+proper_overviews lines h = grind (arith, all_from, all_at, overviews_of-named, overview_has_words)
 
 -- so are those of one that octets and a block say, in whatever way
 said_proper : (code : ℕ) (bytes : List ℕ) (block : Option (List (List ℕ))) (response : Response) → IfSome block (λ lines. AllByRecursion (λ line. IsTrue (is_line line)) lines)
