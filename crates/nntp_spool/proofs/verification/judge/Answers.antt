@@ -35,7 +35,7 @@ loop-exchange-preserved g c =
     c.next.new.self l.visible c.advance.new.self l.position c.after-position.result l.answers x l.invariant.0 c.in-Exchange.ensures.step
     (subst may same (c.in_ok-may_answer-in-Exchange.ensures.may.0 c.if-not-branch.false)) shown moved in (
       rw c.index-answers.ensures.value more,
-      subst (λ (S : Spool). AreCounted S c.may_answer.new.counts) same c.in_ok-may_answer-in-Exchange.ensures.counted,
+      rw same at c.in_ok-may_answer-in-Exchange.ensures.counted,
       c.may_answer.ensures.spool ∙ same,
     )
 

@@ -16,10 +16,7 @@ returns-in_err-insert-clause-absent g c =
 pub returns-clause-added : goal.returns-clause-added
 returns-clause-added g c =
     let N = numbers_shown c.args.ids.now in
-    let are : AreIdsOf c.if-is_empty.known.keys N = elim c.if-is_empty.branch [
-      | then-is_empty+else-is_among+else-ids-lt-FEW+in_ok-known w ↦ grind arith
-      | else-is_empty w ↦ grind (arith, known_are)
-    ] in
+    let are : AreIdsOf c.if-is_empty.known.keys N = grind (arith, known_are) in
     is_added c.if-is_empty.known.keys N c.args.id c.in_ok-insert.field-0 are c.in_ok-insert.ensures.added
 
 pub returns-clause-ok : goal.returns-clause-ok
