@@ -6,10 +6,10 @@ use Rattle.nntp_wire.specs.declared.range.Range.{Range}
 use Rattle.nntp_article.specs.Session.{Spool.{Numbers, IsNumber, IsNextAbove, Lists, NoneAbove}, Machine.{is_ascending}}
 use Rattle.nntp_spool.specs.Inner.ListedNumbers.{IsAbove, IsNextFrom, ListsFrom}
 
-contains_cons : (n m : ℕ) (ns : List ℕ) → Contains (n ∷ ns) m → (m ≡ n) ⊎ Contains ns m
+contains_cons : {X : Type 0} (n m : X) (ns : List X) → Contains (n ∷ ns) m → (m ≡ n) ⊎ Contains ns m
 contains_cons n m ns h = grind arith
 
-cons_contains : (n m : ℕ) (ns : List ℕ) → (m ≡ n) ⊎ Contains ns m → Contains (n ∷ ns) m
+pub cons_contains : {X : Type 0} (n m : X) (ns : List X) → (m ≡ n) ⊎ Contains ns m → Contains (n ∷ ns) m
 cons_contains n m ns (inl e) = (0, omega arith, sym e)
 cons_contains n m ns (inr (k, lt, e)) = (suc k, omega arith, e)
 

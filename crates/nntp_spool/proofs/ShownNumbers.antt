@@ -2,13 +2,13 @@
 use Rattle.std.proofs.Common.{◌≡◌, ◌⊎◌, inl, inr, ⊎_elim, ℕ, ◌-◌, ◌+◌, ◌<◌, ◌≤◌, zero, suc, Bool, true, false, T, Option, None, Some, MatchOption, is_some, List, [], ◌∷◌, ◌++◌, map}
 use Rattle.std.proofs.{Common.{length, get_or, take, drop, append_assoc, refl, sym, ap, subst, ◌∙◌, arith}, lemmas.Bool.{and_parts, true≢false, Decides.{nat_tests}}}
 use Rattle.std.proofs.lemmas.List.{map-append, take-append-drop, length-map, length-take-le, length-drop, get_or-take, get_or-drop, append-nil, Elements.{recursion_from_All}}
-use Rattle.std.proofs.lemmas.List.Sorted.{IsNonDecreasingBy-from_all_adjacent}
-use Rattle.std.specs.{Ordering.{nat_cmp, is_eq}, Cmp.{nat_cmp_total}, Map.{lookup}}
+use Rattle.std.proofs.{Math.ListN.{get_or-map}, lemmas.Map.{Keys.{non_decreasing_from_sorted}, Entries.{length-keys_of}}}
+use Rattle.std.specs.{Ordering.{nat_cmp, is_eq}, Cmp.{nat_cmp_total}, Map.{lookup, keys_of}}
 use Rattle.std.specs.{declared.rc.RcStr.{RcStr}, Rc.{rc_str_bytes}, FinMap.{get, len, len-entries, insert, put, is_sorted, entries}}
 use Rattle.std.specs.{FinMap.{entries-insert, same_entries_map, entries_sorted, nat_cmp-IsAntisymmetric, Entries.{below_all}}, List.{slice_get}}
 use Rattle.std.specs.List.{insert as list_insert, AllByRecursion, Sorted.{IsNonDecreasingBy, IsPartitionPoint}}
 use Rattle.nntp_article.specs.{Session.Spool.{Numbers, IsNumber, IsNextAbove, IsNextBelow, NoneAbove, NoneBelow}, Inner.Spool.{IsFirst}}
-use Rattle.nntp_spool.{specs.Inner.Numbers.{numbers_shown, AreAscending, AreParts}, proofs.{GatheredEntries.{none_listed}, MapEntries.{got_all, is_passed}}}
+use Rattle.nntp_spool.{specs.Inner.Numbers.{numbers_shown, AreAscending, AreParts}, proofs.{GatheredEntries.{none_listed}, MapEntries.{got_all, is_passed}, SearchedEntries.{strict}}}
 use Rattle.nntp_wire.proofs.ShownMaps.{get-shown, entries-from_entries}
 
 abbrev pub IsLastOf : Numbers → Option ℕ → Type 0
@@ -58,13 +58,10 @@ module _ {A : Type 0} where
 
   -- the numbers don't fall, as a binary search asks for
   pub rise : (ids : List (ℕ × RcStr A)) → AreAscending ids → IsNonDecreasingBy (λ e. e.0) ids
-  rise ids h = IsNonDecreasingBy-from_all_adjacent (λ e. e.0) ids (λ k d lt. next ids h k d (omega (arith, lt)))
-    where
-      next : (ids : List (ℕ × RcStr A)) → AreAscending ids → (k : ℕ) (d : ℕ × RcStr A) → k + 1 < length ids → (get_or ids k d).0 ≤ (get_or ids (k + 1) d).0
-      next [] h k d lt = absurd (omega (arith, lt))
-      next (e ∷ []) h k d lt = absurd (omega (arith, lt))
-      next (e ∷ f ∷ ids) h zero d lt = grind (arith, nat_tests)
-      next (e ∷ f ∷ ids) h (suc k) d lt = grind (arith, and_parts, next (f ∷ ids))
+  rise ids h = λ i j d le lt.
+      let sorted = strict nat_cmp (λ k. k) (λ v. rc_str_bytes v) nat_cmp_total nat_cmp-IsAntisymmetric ids h in
+      let up = non_decreasing_from_sorted (keys_of ids) sorted i j d.0 le (rw (length-keys_of ids) lt) in
+      rw (get_or-map (λ (e : ℕ × RcStr A). e.0) ids i d, get_or-map (λ (e : ℕ × RcStr A). e.0) ids j d) at up
 
   -- by a test
   pub parts_are : (p : ℕ → Bool) (P Q : ℕ → Type 0) → ((m : ℕ) → p m ≡ true → P m) → ((m : ℕ) → p m ≡ false → Q m) → (ids : List (ℕ × RcStr A)) (i : ℕ) → i ≤ length ids

@@ -1,15 +1,9 @@
-use Rattle.std.{proofs.{Common.{arith, ◌≡◌, None, Some, Result, is_some, ap, sym, ◌∙◌}, lemmas.Bool.{true≢false}}, specs.Prelude.{OnOk, OnErr}}
+use Rattle.std.proofs.{Common.{is_some, ap, sym, ◌∙◌}, lemmas.{Bool.{true≢false}, Result.{on_ok_weaker, on_err_weaker}}}
 use Rattle.std.specs.{Option.{option_copied_mut}, Ordering.{nat_cmp}, Cmp.Lexicographic.{slice_cmp, nat_list_cmp_total}, Rc.{rc_str_bytes}, String.{string_bytes}}
 use Rattle.nntp_wire.proofs.ShownMaps.{replaced, insert-same}
 use Rattle.nntp_spool.proofs.{BuiltContent.{number_in_group}, ShownMaps.{octet_keys, spool_is, group_got}}
 use Rattle.std.specs.FinMap as map
 use Rattle.nntp_spool.proofs.value.content.Content.put_number.Goals as goal
-
-on_ok : {P Q T E : Type 0} (r : Result T E) → (P → Q) → OnOk r P → OnOk r Q
-on_ok r f p = grind arith
-
-on_err : {P Q T E : Type 0} (r : Result T E) → (P → Q) → OnErr r P → OnErr r Q
-on_err r f p = grind arith
 
 pub returns-in_default-clause-added : goal.returns-in_default-clause-added
 returns-in_default-clause-added g c =
@@ -41,7 +35,7 @@ returns-clause-ok g c =
     let S = c.args.self.now in
     let r = replaced (slice_cmp nat_cmp) (λ k. string_bytes k) (λ v. v) nat_list_cmp_total octet_keys c.self.inside.groups.entries _ S.groups c.args.name.now c.in-Some.group.now c.put.new.self
     (ap (λ s. s.groups) c.self.view_is) c.in-Some.ensures.value (c.get_mut.follows.holds c.put.new.self).0 in
-    on_ok c.put.result (λ made. number_in_group S _ c.args.name.now c.in-Some.group.now c.args.number (rc_str_bytes c.args.id.now) r.1
+    on_ok_weaker c.put.result (λ made. number_in_group S _ c.args.name.now c.in-Some.group.now c.args.number (rc_str_bytes c.args.id.now) r.1
     (r.0 ∙ ap (map.insert S.groups c.args.name.now) made) (ap (λ s. s.articles) c.self.view_is)) c.put.ensures.ok
 
 pub returns-clause-err : goal.returns-clause-err
@@ -49,5 +43,5 @@ returns-clause-err g c =
     let S = c.args.self.now in
     let r = replaced (slice_cmp nat_cmp) (λ k. string_bytes k) (λ v. v) nat_list_cmp_total octet_keys c.self.inside.groups.entries _ S.groups c.args.name.now c.in-Some.group.now c.put.new.self
     (ap (λ s. s.groups) c.self.view_is) c.in-Some.ensures.value (c.get_mut.follows.holds c.put.new.self).0 in
-    on_err c.put.result (λ same. spool_is _ S (r.0 ∙ ap (map.insert S.groups c.args.name.now) same ∙ insert-same nat_list_cmp_total octet_keys S.groups c.args.name.now _ r.1)
+    on_err_weaker c.put.result (λ same. spool_is _ S (r.0 ∙ ap (map.insert S.groups c.args.name.now) same ∙ insert-same nat_list_cmp_total octet_keys S.groups c.args.name.now _ r.1)
     (ap (λ s. s.articles) c.self.view_is)) c.put.ensures.err
