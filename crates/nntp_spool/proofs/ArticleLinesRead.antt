@@ -5,21 +5,17 @@ use Rattle.nntp_article.specs.{Article.Parts.{Line}, Session.Spool.{is_line}}
 use Rattle.nntp_spool.{specs.{Text.{barred}, Reading.{◌>>=◌, shaped, Place, line_at, barred_line_at, repeat}, Fields.{unbarred}}, proofs.NumbersRead.{bind_ok}}
 use Rattle.nntp_spool.proofs.NumbersRead.{shaped_ok, ok_is, line_takes, done}
 
-abbrev some : Line → Option Line
-some line = Some line
-
-unbarred_from : (l line : Line) → unbarred l ≡ some line → (l ≡ 124 ∷ line) × (is_line line ≡ true)
+unbarred_from : (l line : Line) → unbarred l ≡ Some line → (l ≡ 124 ∷ line) × (is_line line ≡ true)
 unbarred_from l line e = grind arith
 
 pub barred_line_takes : (ls : List Line) (p : Place) (x : List Line × Place) → barred_line_at (ls, p) ≡ Ok x
     → (line : Line) × (is_line line ≡ true) × (x.0 ≡ ls ++ line ∷ []) × (p.segments ≡ (124 ∷ line) ∷ x.1.segments)
 unfolding barred_line_at
 barred_line_takes ls p x e =
-    let a = bind_ok (line_at p) (λ l. shaped p.line (unbarred l.0) >>= λ line. done (ls ++ line ∷ [], l.1)) x e in
-    let b = bind_ok (shaped p.line (unbarred a.0.0)) (λ line. done (ls ++ line ∷ [], a.0.1)) x a.2 in
+    let a = bind_ok (line_at p) _ x e in
+    let b = bind_ok (shaped p.line (unbarred a.0.0)) _ x a.2 in
     let one = unbarred_from a.0.0 b.0 (shaped_ok p.line (unbarred a.0.0) b.0 b.1) in
-    let same : ◌≡◌ {A = List Line × Place} (ls ++ b.0 ∷ [], a.0.1) x = ok_is (ls ++ b.0 ∷ [], a.0.1) x b.2 in
-    (b.0, one.1, sym (ap (λ (y : List Line × Place). y.0) same), line_takes p a.0 a.1 ∙ ap (λ (t : Line). t ∷ a.0.1.segments) one.0 ∙ ap (λ (y : List Line × Place). (124 ∷ b.0) ∷ y.1.segments) same)
+    rw (← ok_is (ls ++ b.0 ∷ [], a.0.1) x b.2) (b.0, one.1, refl, line_takes p a.0 a.1 ∙ ap (λ (t : Line). t ∷ a.0.1.segments) one.0)
 
 pub barred_lines_take : (count : ℕ) (ls : List Line) (p : Place) (x : List Line × Place) → repeat barred_line_at count (ls, p) ≡ Ok x
     → (more : List Line) × (list_all is_line more ≡ true) × (length more ≡ count) × (x.0 ≡ ls ++ more) × (p.segments ≡ barred more ++ x.1.segments)
@@ -31,8 +27,13 @@ barred_line_again : (line : ℕ) (l next : Line) (segments ls : List Line) → i
 unfolding barred_line_at
 barred_line_again line l next segments ls is = rw is refl
 
-pub barred_lines_again : (line : ℕ) (more : List Line) (next : Line) (segments ls : List Line) → list_all is_line more ≡ true
+lines_again : (line : ℕ) (more : List Line) (next : Line) (segments ls : List Line) → list_all is_line more ≡ true
     → (end : ℕ) × (repeat barred_line_at (length more) (ls, record { line = line; segments = barred more ++ next ∷ segments }) ≡ Ok (ls ++ more, record { line = end; segments = next ∷ segments }))
-barred_lines_again line [] next segments ls h = (line, ap (λ (t : List Line). Ok (t, record { line = line; segments = next ∷ segments })) (sym (append-nil ls)))
-barred_lines_again line (l ∷ []) next segments ls h = (line + 1, rw (barred_line_again line l next segments ls (and_parts (is_line l) true h).0) refl)
-barred_lines_again line (l ∷ k ∷ more) next segments ls h = grind (arith, and_parts, barred_lines_again (line + 1) (k ∷ more) next segments (ls ++ l ∷ []), barred_line_again, append_assoc)
+lines_again line [] next segments ls h = (line, ap (λ (t : List Line). Ok (t, record { line = line; segments = next ∷ segments })) (sym (append-nil ls)))
+lines_again line (l ∷ []) next segments ls h = (line + 1, rw (barred_line_again line l next segments ls (and_parts (is_line l) true h).0) refl)
+lines_again line (l ∷ k ∷ more) next segments ls h = grind (arith, and_parts, lines_again (line + 1) (k ∷ more) next segments (ls ++ l ∷ []), barred_line_again, append_assoc)
+
+-- with something behind them
+pub barred_lines_again : (line : ℕ) (more rest : List Line) (next : Line) (segments ls : List Line) → rest ≡ next ∷ segments → list_all is_line more ≡ true
+    → (end : ℕ) × (repeat barred_line_at (length more) (ls, record { line = line; segments = barred more ++ rest }) ≡ Ok (ls ++ more, record { line = end; segments = rest }))
+barred_lines_again line more rest next segments ls e h = rw e (lines_again line more next segments ls h)

@@ -1,25 +1,22 @@
 -- What a builder adds leaves groups and articles that a spool may hold.
-use Rattle.std.proofs.Common.{arith, ◌≡◌, ◌⊎◌, inl, inr, ℕ, Bool, true, false, cond, not, Option, None, Some, is_none, refl, sym, ap, subst, ◌∙◌}
+use Rattle.std.proofs.Common.{arith, ◌≡◌, ◌⊎◌, inl, inr, ℕ, Bool, true, false, cond, not, Option, None, Some, is_none, IsSome, refl, sym, ap, subst, ◌∙◌}
 use Rattle.std.{proofs.lemmas.Bool.{true≢false, and_parts, not-false}, specs.{Prelude.{◌&&◌, unwrap_or}, List.{list_all}, Ordering.{nat_cmp}}}
 use Rattle.std.specs.{Cmp.Lexicographic.{slice_cmp, nat_list_cmp_total}, FinMap.{get, insert, empty, get-empty}}
 use Rattle.nntp_wire.{specs.Decided.{is_group_name, is_message_id}, proofs.ShownMaps.{insert-same}}
 use Rattle.nntp_article.specs.{Article.Parts.{Id}, Session.{Machine.{is_article_number}, Spool.{Name, Spool, Numbers, Text, numbers, is_line}}}
 use Rattle.nntp_spool.specs.{Numbers.{has_id}, Inner.{Numbers.{with_number}, Content.{with_number_in, without_articles, AreNumbers, IsNamed, IsArticle}}}
 use Rattle.nntp_spool.specs.{Inner.{Content.{IsContent}, Building.{group_fault, place_fault, article_fault}}, Content.{is_head_of, with_group, with_article}}
-use Rattle.nntp_spool.{specs.Content.{no_spool}, proofs.{MapEntries.{got_more}, NumbersInOrder.{no_numbers, one_more}, ShownMaps.{octet_keys, spool_is}}}
+use Rattle.nntp_spool.{specs.Content.{no_spool}, proofs.{MapEntries.{empty_has, got_more}, NumbersInOrder.{no_numbers, one_more}, ShownMaps.{octet_keys, spool_is}, WholeSpools.{value_of_some}}}
 use Rattle.nntp_spool.specs.declared.value.spool_fault.SpoolFault.TheVariants as faults
 
 -- a test that found no fault
 no_fault : {A : Type 0} (b : Bool) (x : A) (o : Option A) → cond b (Some x) o ≡ None → (b ≡ false) × (o ≡ None)
 no_fault b x o e = grind arith
 
-none : {A : Type 0} (x : A) → None ≡ Some x → ⊥
-none x e = cc
-
 pub nothing : (limit : ℕ) → IsContent limit no_spool
 nothing limit = record {
-  groups = λ name N g. absurd (none N (sym (get-empty (slice_cmp nat_cmp) name) ∙ g));
-  articles = λ id t g. absurd (none t (sym (get-empty (slice_cmp nat_cmp) id) ∙ g));
+  groups = λ name N g. absurd (empty_has (slice_cmp nat_cmp) name N g);
+  articles = λ id t g. absurd (empty_has (slice_cmp nat_cmp) id t g);
 }
 
 -- a group with the numbers that it had, or with one more, by whether the id is new
@@ -53,16 +50,13 @@ module _ (limit : ℕ) (S : Spool) (content : IsContent limit S) where
       let a = no_fault (is_none (get S.groups name)) faults.UnknownGroup _ e in
       let b = no_fault (not (is_article_number limit n)) faults.BadNumber _ a.1 in
       let c = no_fault (not (is_message_id id)) faults.BadId _ b.1 in
-      by (get S.groups name) refl a.0 (not-false (is_article_number limit n) b.0) (not-false (is_message_id id) c.0) fresh
-    where
-      by : (o : Option Numbers) → get S.groups name ≡ o → is_none (get S.groups name) ≡ false → is_article_number limit n ≡ true → is_message_id id ≡ true → has_id (numbers S name) id ≡ false
-          → IsContent limit (with_group S name (insert (numbers S name) n id))
-      by None g some num is_id fresh = absurd (true≢false (sym (ap is_none g) ∙ some))
-      by (Some N) g some num is_id fresh =
-          let named = content.groups name N g in
-          let same : numbers S name ≡ N = ap (λ o. unwrap_or o empty) g in
-          with_named name (insert (numbers S name) n id)
-          (grind (arith, one_more))
+      let some : IsSome (get S.groups name) = grind arith in
+      let N = value_of_some (get S.groups name) some in
+      let named = content.groups name N.0 N.1 in
+      let same : numbers S name ≡ N.0 = ap (λ o. unwrap_or o empty) N.1 in
+      let num = not-false (is_article_number limit n) b.0 in
+      let is_id = not-false (is_message_id id) c.0 in
+      with_named name (insert (numbers S name) n id) (grind (arith, one_more))
 
   pub number_added : (name : Name) (n : ℕ) (id : Id) → place_fault limit S name n id ≡ None → IsContent limit (with_number_in S name n id)
   number_added name n id e = search (arith, new_number)

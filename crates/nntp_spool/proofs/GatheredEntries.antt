@@ -12,10 +12,7 @@ passes b e = subst T (sym e) tt
 -- a list without a last entry is empty
 pub none_listed : {X : Type 0} (xs : List X) → None ≡ slice_get xs (length xs - 1) → xs ≡ []
 none_listed [] e = refl
-none_listed (x ∷ xs) e = absurd (none _ (e ∙ slice_get-get_or (x ∷ xs) (length (x ∷ xs) - 1) x (omega arith)))
-  where
-    none : {A : Type 0} (x : A) → None ≡ Some x → ⊥
-    none x e = cc
+none_listed (x ∷ xs) e = absurd (let no : None ≡ Some _ = e ∙ slice_get-get_or (x ∷ xs) (length (x ∷ xs) - 1) x (omega arith) in cc)
 
 module _ {L V K X : Type 0} (R : K → K → Ordering) (key : L → K) (value : V → X) (o : IsTotalOrder R) (same : IsAntisymmetric R) where
   -- a key is greater than all others where it is greater than the last
@@ -41,16 +38,13 @@ module _ {L V K X : Type 0} (R : K → K → Ordering) (key : L → K) (value : 
       (rises, same_entries_map (shown R key value fs) m (entries-from_entries o same (map shows fs) (passes _ rises) ∙ sym listed))
 
   -- the order of the keys in code is that of what they show
-  pub sorted_listed : (es : List (L × V)) → is_sorted R (map (shown_entry R key value) es) ≡ true → is_sorted (λ a b. R (key a) (key b)) es ≡ true
-  sorted_listed es h = alike es ∙ h
-    where
-      below : (l : L) (es : List (L × V)) → below_all (λ a b. R (key a) (key b)) l es ≡ below_all R (key l) (map (shown_entry R key value) es)
-      below l [] = refl
-      below l (e ∷ es) = ap (λ b. is_lt (R (key l) (key e.0)) && b) (below l es)
+  below_listed : (l : L) (es : List (L × V)) → below_all (λ a b. R (key a) (key b)) l es ≡ below_all R (key l) (map (shown_entry R key value) es)
+  below_listed l [] = refl
+  below_listed l (e ∷ es) = ap (λ b. is_lt (R (key l) (key e.0)) && b) (below_listed l es)
 
-      alike : (es : List (L × V)) → is_sorted (λ a b. R (key a) (key b)) es ≡ is_sorted R (map (shown_entry R key value) es)
-      alike [] = refl
-      alike (e ∷ es) = ap (λ b. b && is_sorted (λ a b. R (key a) (key b)) es) (below e.0 es) ∙ ap (λ b. below_all R (key e.0) (map (shown_entry R key value) es) && b) (alike es)
+  pub sorted_listed : (es : List (L × V)) → is_sorted R (map (shown_entry R key value) es) ≡ true → is_sorted (λ a b. R (key a) (key b)) es ≡ true
+  sorted_listed [] h = refl
+  sorted_listed (e ∷ es) h = rw (below_listed e.0 es) (grind (arith, and_parts, sorted_listed es))
 
 -- ---- a map that is filled from the greatest key down
 

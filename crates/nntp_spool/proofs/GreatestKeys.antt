@@ -5,8 +5,7 @@ use Rattle.std.specs.{Prelude.{nat_lt, ◌==◌}, declared.cmp.Ordering.{Orderin
 use Rattle.std.specs.{Cmp.{both_ways, nat_cmp_total}, List.{All, AllByRecursion, list_all, slice_get}, Map.{lookup, keys_of}, FinMap.{FinMap, get, entries}}
 use Rattle.std.specs.FinMap.{IsAntisymmetric, is_sorted, get-from_entries, nat_cmp-IsAntisymmetric}
 use Rattle.nntp_article.specs.Session.Spool.{Numbers, IsNumber}
-use Rattle.nntp_spool.{specs.Ascending.{is_last}, proofs.{MapEntries.{less_is, got_all, all_got, all_found, tied_itself, apart}, NumbersInOrder.{all_passed}}}
-use Rattle.nntp_spool.proofs.WholeSpools.{passed_all}
+use Rattle.nntp_spool.{specs.Ascending.{is_last}, proofs.{MapEntries.{less_is, got_all, all_got, all_found, tied_itself, apart}, NumbersInOrder.{all_passed, passed_all}}}
 use Rattle.nntp_wire.proofs.ShownMaps.{shown, shown_entry, get-shown}
 
 module _ {K : Type 0} {R : K → K → Ordering} (o : IsTotalOrder R) where
@@ -24,10 +23,16 @@ module _ {K : Type 0} {R : K → K → Ordering} (o : IsTotalOrder R) where
   last_of_list {X} (x ∷ y ∷ ys) (suc i) e k at h is = grind (arith, and_parts, last_of_list (y ∷ ys) i e k (omega arith), less_is, true≢false)
 
 module _ {K X : Type 0} {R : K → K → Ordering} (o : IsTotalOrder R) (same : IsAntisymmetric R) where
+  -- a key is above all exactly if it is above each that is found
+  above_each : (m : FinMap R X) (k : K) → is_last m k ≡ true → (q : K) (y : X) → get m q ≡ Some y → is_lt (R q k) ≡ true
+  above_each m k last = all_got o same (λ q y. is_lt (R q k) ≡ true) m (all_passed (λ e. is_lt (R e.0 k)) (entries m) last)
+
+  above_all : (m : FinMap R X) (k : K) → ((q : K) (y : X) → get m q ≡ Some y → is_lt (R q k) ≡ true) → is_last m k ≡ true
+  above_all m k each = passed_all (λ e. is_lt (R e.0 k)) (entries m) (got_all o same (λ q y. is_lt (R q k) ≡ true) m each)
+
   pub last_is : (m : FinMap R X) (g k : K) (x : X) → get m g ≡ Some x → ((q : K) (y : X) → get m q ≡ Some y → is_lt (R g q) ≡ false) → is_lt (R g k) ≡ is_last m k
-  last_is m g k x here most = both_ways (is_lt (R g k)) (is_last m k)
-      (λ less. passed_all (λ e. is_lt (R e.0 k)) (entries m) (got_all o same (λ q y. is_lt (R q k) ≡ true) m (λ q y f. below o g q k (most q y f) less)))
-      (λ all. all_got o same (λ q y. is_lt (R q k) ≡ true) m (all_passed (λ e. is_lt (R e.0 k)) (entries m) all) g x here)
+  last_is m g k x here most =
+      both_ways (is_lt (R g k)) (is_last m k) (λ less. above_all m k (λ q y f. below o g q k (most q y f) less)) (λ last. above_each m k last g x here)
 
   -- a key above all others is not there
   pub absent_above : (m : FinMap R X) (k : K) → is_last m k ≡ true → get m k ≡ None
@@ -35,15 +40,10 @@ module _ {K X : Type 0} {R : K → K → Ordering} (o : IsTotalOrder R) (same : 
     where
       by : (v : Option X) → get m k ≡ v → get m k ≡ None
       by None g = g
-      by (Some x) g =
-          let below = all_got o same (λ q w. is_lt (R q k) ≡ true) m (all_passed (λ f. is_lt (R f.0 k)) (entries m) last) k x g in
-          absurd (true≢false (sym (tied_itself o k) ∙ apart o k k below))
+      by (Some x) g = absurd (true≢false (sym (tied_itself o k) ∙ apart o k k (above_each m k last k x g)))
 
   pub none_last : (m : FinMap R X) (k : K) → ((q : K) → get m q ≡ None) → true ≡ is_last m k
-  none_last m k none = sym (passed_all (λ e. is_lt (R e.0 k)) (entries m) (got_all o same (λ q y. is_lt (R q k) ≡ true) m (λ q y f. absurd (none_is y (sym (none q) ∙ f)))))
-    where
-      none_is : (y : X) → None ≡ Some y → ⊥
-      none_is y e = cc
+  none_last m k none = sym (above_all m k (λ q y f. absurd (let no : None ≡ Some y = sym (none q) ∙ f in cc)))
 
 -- the greatest key of what a `BTreeMap` shows
 module _ {L V K X : Type 0} (R : K → K → Ordering) (key : L → K) (value : V → X) (o : IsTotalOrder R) (same : IsAntisymmetric R) where

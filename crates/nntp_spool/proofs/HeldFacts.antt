@@ -37,10 +37,7 @@ placed_has S id (fact ∷ facts) ids place h = placed_has S id facts ids place h
 
 -- and nothing is sent of it
 placed_text : (S : Spool) (id : Id) (facts : List Fact) → IdsHaveArticles S → Place id facts → AllByRecursion (Holds S) facts → Holds S (TextIs Stat id None)
-placed_text S id facts ids place h = by (get S.articles id) refl (placed_has S id facts ids place h)
-  where
-    by : (o : Option Text) → get S.articles id ≡ o → IsSome o → HasText S Stat id None
-    by o e s = grind arith
+placed_text S id facts ids place h = let has = placed_has S id facts ids place h in grind arith
 
 -- so the first of the facts holds where it says this, and one behind it gives the id at a number
 pub first_implied : (S : Spool) (what : What) (id : Id) (lines : Option (List Line)) (facts : List Fact) → Some (TextIs what id lines) ≡ slice_get facts 0

@@ -41,9 +41,7 @@ items_take limit (suc most) articles S p x le e =
           named = (g.named, rest.named);
           are_articles = rest.are_articles;
           none = λ is. absurd (true≢false (sym is ∙ g.none));
-          with_groups = rest.with_groups ∙ ap (λ (t : List (Name × Numbers)). t ++ rest.groups)
-              (entries-insert_last nat_list_cmp_total S.groups g.name g.numbers g.last)
-              ∙ append_assoc (entries S.groups) ((g.name, g.numbers) ∷ []) rest.groups;
+          with_groups = rw (rest.with_groups, entries-insert_last nat_list_cmp_total S.groups g.name g.numbers g.last, append_assoc) refl;
           with_texts = rest.with_texts;
           known = rest.known;
           segments = grind (arith, append_assoc);
@@ -58,9 +56,7 @@ items_take limit (suc most) articles S p x le e =
           are_articles = (a.is_article, rest.are_articles);
           none = λ is. refl;
           with_groups = rest.with_groups ∙ ap (λ (t : List (Name × Numbers)). entries S.groups ++ t) none;
-          with_texts = rest.with_texts ∙ ap (λ (t : List (Id × Text)). t ++ rest.texts)
-              (entries-insert_last nat_list_cmp_total S.articles a.id a.text a.last)
-              ∙ append_assoc (entries S.articles) ((a.id, a.text) ∷ []) rest.texts;
+          with_texts = rw (rest.with_texts, entries-insert_last nat_list_cmp_total S.articles a.id a.text a.last, append_assoc) refl;
           known = rest.known;
           segments = grind (arith, append_assoc);
         }
@@ -93,9 +89,8 @@ pub record ContentTaken (limit : ℕ) (p : Place) (S : Spool) : Type 0 where
 pub content_takes : (limit most : ℕ) (p : Place) (S : Spool) → limit < 2 ^ 64 → content_at limit most p ≡ Ok S → ContentTaken limit p S
 unfolding content_at
 content_takes limit most p S le e =
-    let last_step = λ (s : Spool × Place). cond (is_end s.1.segments) (done s.0) (fault s.1.line kinds.Shape) in
-    let b = bind_ok (items_at limit most false no_spool p) last_step S e in
-    let d = fits_test (is_end b.0.1.segments) (done b.0.0) (record { line = b.0.1.line; kind = kinds.Shape }) S b.2 in
+    let b = bind_ok (items_at limit most false no_spool p) _ S e in
+    let d = fits_test (is_end b.0.1.segments) _ _ S b.2 in
     let t = items_take limit most false no_spool p b.0 le b.1 in
     let same : b.0.0 ≡ S = ok_is b.0.0 S d.1 in
     let groups : entries S.groups ≡ t.groups = ap (λ (T : Spool). entries T.groups) (sym same) ∙ t.with_groups ∙ ap (λ (es : List (Name × Numbers)). es ++ t.groups) (no_entries (slice_cmp nat_cmp)) in
@@ -106,12 +101,7 @@ content_takes limit most p S le e =
         articles = all_got nat_list_cmp_total octet_keys (λ id text. IsArticle id text) S.articles (subst (AllByRecursion (λ a. IsArticle a.0 a.1)) (sym texts) t.are_articles);
       };
       known = ap ids_have_articles (sym same) ∙ t.known;
-      segments = t.segments
-          ∙ ap (λ (ps : List Line). flat_map group_lines t.groups ++ (flat_map article_lines t.texts ++ codes "end" ∷ ps)) (end_is b.0.1.segments d.0)
-          ∙ ap (λ (es : List (Name × Numbers)). flat_map group_lines es ++ (flat_map article_lines t.texts ++ codes "end" ∷ [] ∷ [])) (sym groups)
-          ∙ ap (λ (es : List (Id × Text)). flat_map group_lines (entries S.groups) ++ (flat_map article_lines es ++ codes "end" ∷ [] ∷ [])) (sym texts)
-          ∙ ap (λ (ps : List Line). flat_map group_lines (entries S.groups) ++ ps) (sym (append_assoc (flat_map article_lines (entries S.articles)) (codes "end" ∷ []) ([] ∷ [])))
-          ∙ sym (append_assoc (flat_map group_lines (entries S.groups)) (flat_map article_lines (entries S.articles) ++ codes "end" ∷ []) ([] ∷ []));
+      segments = grind (arith, append_assoc, end_is);
     }
 
 -- ---- what is written is read

@@ -8,7 +8,7 @@ use Rattle.nntp_spool.specs.Reading.{◌>>=◌, fault, shaped, Place, Turn, On, 
 use Rattle.nntp_spool.specs.{Reading.{item_then, item_at}, Fields.{OpeningValue, Group, Article, End, fields_of, opening_of}, Ascending.{is_last}}
 use Rattle.nntp_spool.specs.{Content.{with_group, with_article, is_head_of, ids_have_articles}, Inner.Content.{AreNumbers, IsNamed, IsArticle}}
 use Rattle.nntp_spool.proofs.{FollowingNumbers.{number_lines}, NameOctets.{name-lacks, name-some, id-lacks, id-some}, LineFields.{opening-group_line}}
-use Rattle.nntp_spool.proofs.{LineFields.{opening-article_line, OpeningLine, opening_line}, NumbersRead.{bind_ok, unless_ok, guard_ok, shaped_ok, ok_is, done}}
+use Rattle.nntp_spool.proofs.{LineFields.{opening-article_line, OpeningLine, opening_line}, NumbersRead.{bind_ok, unless_ok, guard_ok, fits_test, shaped_ok, ok_is, done}}
 use Rattle.nntp_spool.proofs.{NumbersRead.{line_takes, numbers_take, numbers_again, entries-with_all}, ArticleLinesRead.{barred_lines_take, barred_lines_again}}
 use Rattle.nntp_spool.proofs.NumbersInOrder.{entries-empty, no_numbers, all_more, with_all-entries}
 use Rattle.nntp_spool.specs.declared.text.read_fault.Kind.TheVariants as kinds
@@ -25,10 +25,9 @@ record GroupTaken (limit : ℕ) (name : Name) (count : ℕ) (S : Spool) (p : Pla
 group_takes : (limit line : ℕ) (name : Name) (count : ℕ) (S : Spool) (p : Place) (x : Spool × Place) → limit < 2 ^ 64 → group_at limit line name count S p ≡ Ok x → GroupTaken limit name count S p x
 unfolding group_at
 group_takes limit line name count S p x le e =
-    let rest = λ (N : Numbers × Place). done (with_group S name N.0, N.1) in
-    let a = unless_ok (is_group_name name) (record { line = line; kind = kinds.Name }) _ x e in
-    let b = unless_ok (is_last S.groups name) (record { line = line; kind = kinds.Order }) _ x a.1 in
-    let c = bind_ok (numbers_at limit count p) rest x b.1 in
+    let a = unless_ok (is_group_name name) _ _ x e in
+    let b = unless_ok (is_last S.groups name) _ _ x a.1 in
+    let c = bind_ok (numbers_at limit count p) _ x b.1 in
     let taken = numbers_take limit count empty p c.0 le c.1 in
     let es = taken.0 in
     let same : ◌≡◌ {A = Spool × Place} (with_group S name c.0.0, c.0.1) x = ok_is (with_group S name c.0.0, c.0.1) x c.2 in
@@ -39,10 +38,7 @@ group_takes limit line name count S p x le e =
       named = record { is_name = a.0; numbers = subst (AreNumbers limit) (sym taken.3) (all_more limit empty es (no_numbers limit) taken.1) };
       last = b.0;
       made = sym (ap (λ (y : Spool × Place). y.0) same);
-      segments = ap (λ (t : List Line). group_line name count ∷ t) taken.4
-          ∙ ap (λ (n : ℕ). group_line name n ∷ (number_lines es ++ c.0.1.segments)) counted
-          ∙ ap (λ (fs : List (ℕ × List ℕ)). group_line name (len c.0.0) ∷ (number_lines fs ++ c.0.1.segments)) (sym listed)
-          ∙ ap (λ (y : Spool × Place). group_lines (name, c.0.0) ++ y.1.segments) same;
+      segments = grind arith;
     }
 
 record ArticleTaken (id : Id) (heads bodies : ℕ) (S : Spool) (p : Place) (x : Spool × Place) : Type 0 where
@@ -55,12 +51,11 @@ record ArticleTaken (id : Id) (heads bodies : ℕ) (S : Spool) (p : Place) (x : 
 article_takes : (line : ℕ) (id : Id) (heads bodies : ℕ) (S : Spool) (p : Place) (x : Spool × Place) → article_at line id heads bodies S p ≡ Ok x → ArticleTaken id heads bodies S p x
 unfolding article_at
 article_takes line id heads bodies S p x e =
-    let last_step = λ (head body : List Line × Place). cond (is_head_of id head.0) (done (with_article S id (record { head = head.0; body = body.0 }), body.1)) (fault line kinds.Head) in
-    let a = unless_ok (is_message_id id) (record { line = line; kind = kinds.Id }) _ x e in
-    let b = unless_ok (is_last S.articles id) (record { line = line; kind = kinds.Order }) _ x a.1 in
-    let c = bind_ok (barred_lines_at heads p) (λ head. barred_lines_at bodies head.1 >>= last_step head) x b.1 in
-    let d = bind_ok (barred_lines_at bodies c.0.1) (last_step c.0) x c.2 in
-    let f = fitting (is_head_of id c.0.0) _ _ x d.2 in
+    let a = unless_ok (is_message_id id) _ _ x e in
+    let b = unless_ok (is_last S.articles id) _ _ x a.1 in
+    let c = bind_ok (barred_lines_at heads p) _ x b.1 in
+    let d = bind_ok (barred_lines_at bodies c.0.1) _ x c.2 in
+    let f = fits_test (is_head_of id c.0.0) _ _ x d.2 in
     let same : ◌≡◌ {A = Spool × Place} (with_article S id (record { head = c.0.0; body = d.0.0 }), d.0.1) x = ok_is (with_article S id (record { head = c.0.0; body = d.0.0 }), d.0.1) x f.1 in
     let h = barred_lines_take heads [] p c.0 c.1 in
     let k = barred_lines_take bodies [] c.0.1 d.0 d.1 in
@@ -70,18 +65,8 @@ article_takes line id heads bodies S p x e =
       is_article = record { is_id = a.0; head = f.0; head_lines = ap (list_all is_line) h.3 ∙ h.1; body_lines = ap (list_all is_line) k.3 ∙ k.1 };
       last = b.0;
       made = sym (ap (λ (y : Spool × Place). y.0) same);
-      segments = ap (λ (t : List Line). article_line id heads bodies ∷ t) (h.4 ∙ ap (λ (t : List Line). barred h.0 ++ t) k.4)
-          ∙ ap (λ (n : ℕ). article_line id n bodies ∷ (barred h.0 ++ (barred k.0 ++ d.0.1.segments))) (sym h.2 ∙ ap length (sym h.3))
-          ∙ ap (λ (n : ℕ). article_line id (length text.head) n ∷ (barred h.0 ++ (barred k.0 ++ d.0.1.segments))) (sym k.2 ∙ ap length (sym k.3))
-          ∙ ap (λ (t : List Line). article_line id (length text.head) (length text.body) ∷ (barred t ++ (barred k.0 ++ d.0.1.segments))) (sym h.3)
-          ∙ ap (λ (t : List Line). article_line id (length text.head) (length text.body) ∷ (barred text.head ++ (barred t ++ d.0.1.segments))) (sym k.3)
-          ∙ ap (λ (t : List Line). article_line id (length text.head) (length text.body) ∷ t) (sym (append_assoc (barred text.head) (barred text.body) d.0.1.segments))
-          ∙ ap (λ (y : Spool × Place). article_lines (id, text) ++ y.1.segments) same;
+      segments = grind (arith, append_assoc);
     }
-  where
-    fitting : {A : Type 0} (b : Bool) (d : ReadFault) (r : Result A ReadFault) (y : A) → cond b r (Err d) ≡ Ok y → (b ≡ true) × (r ≡ Ok y)
-    fitting true d r y e = (refl, e)
-    fitting false d r y e = absurd cc
 
 -- what an item was read as
 pub record TakenGroup (limit : ℕ) (articles : Bool) (S : Spool) (p : Place) (turn : Turn) : Type 0 where
@@ -115,14 +100,14 @@ TakenItem limit articles S p turn = TakenGroup limit articles S p turn ⊎ (Take
 pub item_takes : (limit : ℕ) (articles : Bool) (S : Spool) (p : Place) (turn : Turn) → limit < 2 ^ 64 → item_at limit articles S p ≡ Ok turn → TakenItem limit articles S p turn
 unfolding item_at
 item_takes limit articles S p turn le e =
-    let a = bind_ok (line_at p) (λ l. shaped p.line (opening_of (fields_of l.0)) >>= item_then limit p.line articles S l.1) turn e in
+    let a = bind_ok (line_at p) _ turn e in
     let b = bind_ok (shaped p.line (opening_of (fields_of a.0.0))) (item_then limit p.line articles S a.0.1) turn a.2 in
     taken b.0 a.0.0 a.0.1 (line_takes p a.0 a.1) (opening_line a.0.0 b.0 (shaped_ok p.line (opening_of (fields_of a.0.0)) b.0 b.1)) b.2
   where
     taken : (item : OpeningValue) (l : Line) (q : Place) → p.segments ≡ l ∷ q.segments → OpeningLine item l → item_then limit p.line articles S q item ≡ Ok turn → TakenItem limit articles S p turn
     taken (Group name count) l q front is e =
-        let none = guard_ok articles (record { line = p.line; kind = kinds.Shape }) (group_at limit p.line name count S q >>= λ g. done (On false g.0 g.1)) turn e in
-        let c = bind_ok (group_at limit p.line name count S q) (λ g. done (On false g.0 g.1)) turn none.1 in
+        let none = guard_ok articles _ _ turn e in
+        let c = bind_ok (group_at limit p.line name count S q) _ turn none.1 in
         let g = group_takes limit p.line name count S q c.0 le c.1 in
         inl (record {
           name = name;
@@ -135,7 +120,7 @@ item_takes limit articles S p turn le e =
           segments = front ∙ ap (λ (t : Line). t ∷ q.segments) is.1 ∙ g.segments;
         })
     taken (Article id heads bodies) l q front is e =
-        let c = bind_ok (article_at p.line id heads bodies S q) (λ a. done (On true a.0 a.1)) turn e in
+        let c = bind_ok (article_at p.line id heads bodies S q) _ turn e in
         let g = article_takes p.line id heads bodies S q c.0 c.1 in
         inr (inl (record {
           id = id;
@@ -171,10 +156,7 @@ unfolding group_at
 group_again limit line at S name N next segments le named last =
     let all = with_all-entries limit N named.numbers in
     let again = numbers_again limit line (entries N) next segments empty le all.0 in
-    let read : numbers_at limit (len N) (record { line = line; segments = number_lines (entries N) ++ next ∷ segments }) ≡ done (N, record { line = again.0; segments = next ∷ segments })
-    = ap (λ (n : ℕ). numbers_at limit n (record { line = line; segments = number_lines (entries N) ++ next ∷ segments }))
-    (len-entries N) ∙ again.1 ∙ ap (λ (M : Numbers). done (M, record { line = again.0; segments = next ∷ segments })) all.1 in
-    (again.0, rw (named.is_name, last, read) refl)
+    (again.0, rw (named.is_name, last, len-entries N, again.1, all.1) refl)
 
 article_again : (line at : ℕ) (S : Spool) (id : Id) (t : Text) (next : Line) (segments : List Line) → IsArticle id t → is_last S.articles id ≡ true
     → (end : ℕ) × (article_at at id (length t.head) (length t.body) S
@@ -182,16 +164,10 @@ article_again : (line at : ℕ) (S : Spool) (id : Id) (t : Text) (next : Line) (
     (with_article S id t, record { line = end; segments = next ∷ segments }))
 unfolding article_at
 article_again line at S id t next segments is last =
-    let body_first = first_of (barred t.body) next segments in
-    let head = barred_lines_again line t.head body_first.0 body_first.1 [] is.head_lines in
-    let body = barred_lines_again head.0 t.body next segments [] is.body_lines in
-    let read_head : barred_lines_at (length t.head)
-    (record { line = line; segments = barred t.head ++ (barred t.body ++ next ∷ segments) }) ≡ done
-    (t.head, record { line = head.0; segments = barred t.body ++ next ∷ segments })
-    = ap (λ (ps : List Line). barred_lines_at (length t.head) (record { line = line; segments = barred t.head ++ ps }))
-    body_first.2 ∙ head.1 ∙ ap (λ (ps : List Line). done (t.head, record { line = head.0; segments = ps }))
-    (sym body_first.2) in
-    (body.0, rw (is.is_id, last, read_head, body.1, is.head) refl)
+    let first = first_of (barred t.body) next segments in
+    let head = barred_lines_again line t.head (barred t.body ++ next ∷ segments) first.0 first.1 [] first.2 is.head_lines in
+    let body = barred_lines_again head.0 t.body (next ∷ segments) next segments [] refl is.body_lines in
+    (body.0, rw (is.is_id, last, head.1, body.1, is.head) refl)
 
 pub item_group_again : (limit line : ℕ) (S : Spool) (name : Name) (N : Numbers) (next : Line) (segments : List Line)
     → limit < 2 ^ 64 → len N < 2 ^ 64 → IsNamed limit name N → is_last S.groups name ≡ true
@@ -211,8 +187,8 @@ unfolding item_at
 item_article_again limit line articles S id t next segments h b is last =
     let again = article_again (line + 1) line S id t next segments is last in
     let item = opening-article_line id (length t.head) (length t.body) (id-lacks 32 id (omega arith) is.is_id) (id-some id is.is_id) h b in
-    let behind : (barred t.head ++ barred t.body) ++ next ∷ segments ≡ barred t.head ++ (barred t.body ++ next ∷ segments) = append_assoc (barred t.head) (barred t.body) (next ∷ segments) in
-    (again.0, rw (line_again line (article_line id (length t.head) (length t.body)) (barred t.head ++ barred t.body) next segments, item, behind, again.1) refl)
+    let line_read = line_again line (article_line id (length t.head) (length t.body)) (barred t.head ++ barred t.body) next segments in
+    (again.0, rw (line_read, item, append_assoc (barred t.head) (barred t.body) (next ∷ segments), again.1) refl)
 
 pub item_end_again : (limit line : ℕ) (articles : Bool) (S : Spool) (next : Line) (segments : List Line) → ids_have_articles S ≡ true
     → item_at limit articles S (record { line = line; segments = codes "end" ∷ next ∷ segments }) ≡ Ok (Done S (record { line = line + 1; segments = next ∷ segments }))

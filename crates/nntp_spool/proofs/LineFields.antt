@@ -4,9 +4,10 @@ use Rattle.std.proofs.{Common.{subst, ◌∙◌, arith}, lemmas.{Slice.Eq.{bytes
 use Rattle.std.proofs.lemmas.{List.Splits.{join_with_byte-slice_split}, Fmt.{digits_decimal, digits_value-decimal, decimal-digits_value, decimal_nonempty}}
 use Rattle.std.{proofs.lemmas.Fmt.{first_decimal, decimal_digit}, specs.{Prelude.{◌&&◌, bytes_eq, codes}, List.{list_all, join_with_byte}}}
 use Rattle.std.specs.{Char.{is_ascii_digit}, Fmt.{decimal}}
+use Rattle.std.proofs.lemmas.List.Sums.{AllPass-from_list_all, list_all-from_AllPass}
 use Rattle.nntp_article.specs.Article.Parts.{is_empty}
 use Rattle.nntp_spool.specs.{Text.{number_line, group_line, article_line}, Fields.{fields_of, are_digits, is_decimal, is_count, value_of, number_and_id}}
-use Rattle.nntp_spool.{specs.Fields.{opening_of, OpeningValue, Group, Article, End}, proofs.{SplitLines.{segments_at}, Decimals.{own}}}
+use Rattle.nntp_spool.{specs.Fields.{opening_of, OpeningValue, Group, Article, End}, proofs.{SplitLines.{segments_at}, Decimals.{own}, MapEntries.{some_is}}}
 
 -- ---- octets that are not there
 
@@ -14,8 +15,7 @@ abbrev pub lacks : ℕ → List ℕ → Bool
 lacks c xs = list_all (λ x. not (eqb x c)) xs
 
 pub list_all_weaken : {X : Type 0} (p q : X → Bool) → ((x : X) → p x ≡ true → q x ≡ true) → (xs : List X) → list_all p xs ≡ true → list_all q xs ≡ true
-list_all_weaken p q imp [] h = refl
-list_all_weaken p q imp (x ∷ xs) h = let both = and_parts (p x) (list_all p xs) h in and_from (q x) (list_all q xs) (imp x both.0) (list_all_weaken p q imp xs both.1)
+list_all_weaken p q imp xs h = list_all-from_AllPass q xs (λ k d lt. imp _ (AllPass-from_list_all p xs h k d lt))
 
 pub lacks_from : (c : ℕ) (xs : List ℕ) → ((k : ℕ) → k < length xs → get_or xs k 0 ≡ c → ⊥) → lacks c xs ≡ true
 lacks_from c [] h = refl
@@ -61,12 +61,6 @@ is_decimal-decimal n lt = decimal_if (decimal n) (are_digits-decimal n lt) (deci
 pub decimal-value_of : (ds : List ℕ) → is_decimal ds ≡ true → value_of ds < 2 ^ 64 → decimal (value_of ds) ≡ ds
 decimal-value_of ds h lt = decimal-digits_value own ds (decimal_parts ds h).0 (decimal_parts ds h).1 (decimal_parts ds h).2 lt
 
-abbrev some_pair : ℕ → List ℕ → Option (ℕ × List ℕ)
-some_pair n id = Some (n, id)
-
-same_some : (p q : ℕ × List ℕ) → some_pair p.0 p.1 ≡ some_pair q.0 q.1 → p ≡ q
-same_some p q e = cc
-
 -- ---- the line of a number
 
 pub words-number_line : (n : ℕ) (id : List ℕ) → n < 2 ^ 64 → lacks 32 id ≡ true → fields_of (number_line n id) ≡ decimal n ∷ id ∷ []
@@ -78,7 +72,7 @@ number_and_id-number_line n id lt word some = rw (words-number_line n id lt word
 
 -- a line of which a number and an id are read
 number_words : (words : List (List ℕ)) (n : ℕ) (id : List ℕ) → number_and_id words ≡ Some (n, id) → (word : List ℕ) × (words ≡ word ∷ id ∷ []) × (is_decimal word ≡ true) × (value_of word ≡ n)
-number_words words n id e = search (arith, same_some)
+number_words words n id e = search (arith, some_is)
 
 pub number_line-number_and_id : (l : List ℕ) (n : ℕ) (id : List ℕ) → n < 2 ^ 64 → number_and_id (fields_of l) ≡ Some (n, id) → l ≡ number_line n id
 number_line-number_and_id l n id lt e =
@@ -100,31 +94,18 @@ count_parts word h = grind (arith, and_parts, nat_tests, decimal-value_of)
 pub is_count-decimal : (n : ℕ) → n < 2 ^ 64 → is_count (decimal n) ≡ true
 is_count-decimal n lt = grind (arith, nat_tests, and_from, is_decimal-decimal, value_of-decimal)
 
-group_is : (name word : List ℕ) → is_empty name ≡ false → is_count word ≡ true → opening_of (codes "group" ∷ name ∷ word ∷ []) ≡ Some (Group name (value_of word))
-group_is name word some count = rw (some, count) refl
-
-article_is : (id heads bodies : List ℕ) → is_empty id ≡ false → is_count heads ≡ true → is_count bodies ≡ true
-    → opening_of (codes "article" ∷ id ∷ heads ∷ bodies ∷ []) ≡ Some (Article id (value_of heads) (value_of bodies))
-article_is id heads bodies some h b = rw (some, h, b) refl
-
 pub opening-group_line : (name : List ℕ) (count : ℕ) → lacks 32 name ≡ true → is_empty name ≡ false → count < 2 ^ 64 → opening_of (fields_of (group_line name count)) ≡ Some (Group name count)
 opening-group_line name count word some lt =
-    ap opening_of (parts_front 32 (codes "group") (name ++ 32 ∷ decimal count) refl
-    ∙ ap (λ ws. codes "group" ∷ ws) (parts_front 32 name (decimal count) word
-    ∙ ap (λ ws. name ∷ ws) (parts_one 32 (decimal count)
-    (lacks-digits 32 (decimal count) (omega arith) (are_digits-decimal count lt)))))
-    ∙ group_is name (decimal count) some (is_count-decimal count lt) ∙ ap (λ v. Some (Group name v)) (value_of-decimal count lt)
+    let digits = lacks-digits 32 (decimal count) (omega arith) (are_digits-decimal count lt) in
+    rw (parts_front 32 name (decimal count) word, parts_one 32 (decimal count) digits, some, is_count-decimal count lt, value_of-decimal count lt) refl
 
 pub opening-article_line : (id : List ℕ) (heads bodies : ℕ) → lacks 32 id ≡ true → is_empty id ≡ false → heads < 2 ^ 64
     → bodies < 2 ^ 64 → opening_of (fields_of (article_line id heads bodies)) ≡ Some (Article id heads bodies)
 opening-article_line id heads bodies word some h b =
-    ap opening_of (parts_front 32 (codes "article") (id ++ 32 ∷ (decimal heads ++ 32 ∷ decimal bodies)) refl
-    ∙ ap (λ ws. codes "article" ∷ ws) (parts_front 32 id (decimal heads ++ 32 ∷ decimal bodies) word ∙ ap (λ ws. id ∷ ws)
-    (parts_front 32 (decimal heads) (decimal bodies) (lacks-digits 32 (decimal heads) (omega arith) (are_digits-decimal heads h))
-    ∙ ap (λ ws. decimal heads ∷ ws) (parts_one 32 (decimal bodies)
-    (lacks-digits 32 (decimal bodies) (omega arith) (are_digits-decimal bodies b))))))
-    ∙ article_is id (decimal heads) (decimal bodies) some (is_count-decimal heads h) (is_count-decimal bodies b)
-    ∙ ap (λ v. Some (Article id v (value_of (decimal bodies)))) (value_of-decimal heads h) ∙ ap (λ v. Some (Article id heads v)) (value_of-decimal bodies b)
+    let head_digits = lacks-digits 32 (decimal heads) (omega arith) (are_digits-decimal heads h) in
+    let body_digits = lacks-digits 32 (decimal bodies) (omega arith) (are_digits-decimal bodies b) in
+    rw (parts_front 32 id (decimal heads ++ 32 ∷ decimal bodies) word, parts_front 32 (decimal heads) (decimal bodies) head_digits, parts_one 32 (decimal bodies) body_digits) (
+    rw (some, is_count-decimal heads h, is_count-decimal bodies b, value_of-decimal heads h, value_of-decimal bodies b) refl)
 
 -- the words of which an item is read
 abbrev OpeningWords : OpeningValue → List (List ℕ) → Type 0

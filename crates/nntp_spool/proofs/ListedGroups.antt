@@ -1,25 +1,23 @@
 -- The groups of lines, one after the other.
-use Rattle.std.proofs.Common.{◌≡◌, ℕ, zero, suc, ◌≤◌, Bool, true, false, IsTrue, length, List, [], ◌∷◌, Option, map, refl, sym, subst, arith}
-use Rattle.std.{proofs.lemmas.{Bool.{true≢false, and_parts, or_right}, List.Elements.{recursion_from_All, All-from_recursion}}, specs.Prelude.{◌↔◌, ◌||◌}}
+use Rattle.std.proofs.Common.{◌≡◌, ℕ, zero, suc, ◌≤◌, Bool, true, false, IsTrue, length, List, [], ◌∷◌, Option, map, refl, sym, arith, ◌⊎◌, inl, inr, ⊎_elim}
+use Rattle.std.{proofs.lemmas.{Bool.{true≢false, and_parts, or_right}, List.Elements.{recursion_from_All, All-from_recursion, All-weaker, All-map, All-contains}}, specs.Prelude.{◌↔◌, ◌||◌}}
 use Rattle.std.specs.{Prelude.{Contains, IfSome}, List.{list_any, count_by, AllByRecursion}, Option.{option_map_or}, Cmp.Lexicographic.{bytes_decides}}
 use Rattle.std.specs.FinMap.{entries}
 use Rattle.nntp_wire.specs.{Decided.{is_group_name, matches_name}, Inner.Decided.{is_asked}, Name.{IsGroupName}, Wildmat.{MatchesName}, Listing.{ActiveValue}}
 use Rattle.nntp_wire.proofs.DecidedLemmas.{group_name-iff}
 use Rattle.nntp_article.specs.Session.{Spool.{Spool, Name, IsGroup, IsNumber, numbers}, Machine.{is_same, names_differ, ActivesAgree}}
 use Rattle.nntp_article.proofs.SessionLemmas.MatchingGroups.{as_many, each_listed}
-use Rattle.nntp_spool.specs.Inner.ListedGroups.{LineAgrees}
+use Rattle.nntp_spool.{specs.Inner.ListedGroups.{LineAgrees}, proofs.ListedNumbers.{cons_contains}}
 
 -- ---- names that are listed
 
 any_contains : (name : List ℕ) (lines : List ActiveValue) → list_any (λ line. is_same name line.name) lines ≡ true → Contains (map (λ line. line.name) lines) name
 any_contains name [] e = absurd (true≢false (sym e))
-any_contains name (l ∷ lines) e = by (is_same name l.name) refl e (any_contains name lines)
+any_contains name (l ∷ lines) e = cons_contains l.name name (map (λ line. line.name) lines)
+    (⊎_elim (λ p. inl ((bytes_decides name l.name).0 p)) (λ p. inr (any_contains name lines p)) (either (is_same name l.name) _ e))
   where
-    by : (a : Bool) → is_same name l.name ≡ a → (a || list_any (λ line. is_same name line.name) lines) ≡ true
-        → (list_any (λ line. is_same name line.name) lines ≡ true → Contains (map (λ line. line.name) lines) name)
-        → Contains (map (λ line. line.name) (l ∷ lines)) name
-    by true p e rest = (0, omega arith, sym ((bytes_decides name l.name).0 p))
-    by false p e rest = let c = rest e in (suc c.0, (let lt = c.1 in omega arith), c.2)
+    either : (a b : Bool) → (a || b) ≡ true → (a ≡ true) ⊎ (b ≡ true)
+    either a b e = grind arith
 
 contains_any : (name : List ℕ) (lines : List ActiveValue) → Contains (map (λ line. line.name) lines) name → list_any (λ line. is_same name line.name) lines ≡ true
 contains_any name [] (k, lt, e) = absurd (omega arith)
@@ -28,9 +26,7 @@ contains_any name (l ∷ lines) (suc k, lt, e) = or_right (is_same name l.name) 
 
 -- what holds of each line holds of each name
 of_name : (P : Name → Type 0) (lines : List ActiveValue) → AllByRecursion (λ line. P line.name) lines → (name : Name) → Contains (map (λ line. line.name) lines) name → P name
-of_name P [] all name (k, lt, e) = absurd (omega arith)
-of_name P (l ∷ lines) all name (zero, lt, e) = subst P e all.0
-of_name P (l ∷ lines) all name (suc k, lt, e) = of_name P lines all.1 name (k, omega arith, e)
+of_name P lines all name c = All-contains P _ name (All-map P (λ line. line.name) lines (All-from_recursion (λ line. P line.name) lines all)) c
 
 -- and the other way round
 of_lines : (P : Name → Type 0) (lines : List ActiveValue) → ((name : Name) → Contains (map (λ line. line.name) lines) name → P name) → AllByRecursion (λ line. P line.name) lines
@@ -42,8 +38,7 @@ both_all P Q R f [] p q = tt
 both_all P Q R f (x ∷ xs) p q = (f x p.0 q.0, both_all P Q R f xs p.1 q.1)
 
 weaker : {X : Type 0} (P Q : X → Type 0) → ((x : X) → P x → Q x) → (xs : List X) → AllByRecursion P xs → AllByRecursion Q xs
-weaker P Q f [] p = tt
-weaker P Q f (x ∷ xs) p = (f x p.0, weaker P Q f xs p.1)
+weaker P Q f xs p = recursion_from_All Q xs (All-weaker P Q f xs (All-from_recursion P xs p))
 
 -- where the next line agrees, all lines agree if those do that are left
 pub one_agrees : {X : Type 0} (P : X → Type 0) (line : X) (rest lines all : List X) → lines ≡ line ∷ rest → P line → AllByRecursion P lines ↔ AllByRecursion P all

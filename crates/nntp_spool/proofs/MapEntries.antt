@@ -1,7 +1,7 @@
 -- Entries in the order of their keys.
 use Rattle.std.proofs.Common.{arith, ◌≡◌, ◌⊎◌, Bool, true, false, cond, T, List, [], ◌∷◌, ◌++◌, Option, None, Some, refl, sym, ap, ◌∙◌}
 use Rattle.std.{proofs.lemmas.Bool.{and_parts}, specs.{declared.cmp.Ordering.{Ordering, TheVariants.{Less, Greater}}, Ordering.{is_lt, eq_by_cmp}}}
-use Rattle.std.specs.{Ordering.{ordering_reverse}, Cmp.{IsTotalOrder, eq_by_cmp_equiv}, List.{list_all, AllByRecursion}, FinMap.{FinMap, get, entries, insert}}
+use Rattle.std.specs.{Ordering.{ordering_reverse}, Cmp.{IsTotalOrder, eq_by_cmp_equiv}, List.{list_all, AllByRecursion}, FinMap.{FinMap, get, get-empty, empty, entries, insert}}
 use Rattle.std.specs.FinMap.{put, find, is_sorted, entries-insert, get-insert, entries_sorted, get-entries, IsAntisymmetric, Entries.{below_all}}
 use Rattle.nntp_wire.proofs.ShownMaps.{equal_is}
 use Rattle.nntp_spool.specs.Ascending.{is_last}
@@ -18,8 +18,12 @@ some x = Some x
 pub some_is : {A : Type 0} (x y : A) → some x ≡ some y → x ≡ y
 some_is x y e = cc
 
-some_none : {A : Type 0} (x : A) → some x ≡ None → ⊥
+pub some_none : {A : Type 0} (x : A) → some x ≡ None → ⊥
 some_none x e = cc
+
+-- no entries have nothing
+pub empty_has : {K X : Type 0} (R : K → K → Ordering) (k : K) (v : X) → get (empty {X = X} {R = R}) k ≡ Some v → ⊥
+empty_has R k v g = let no : None ≡ Some v = sym (get-empty R k) ∙ g in cc
 
 module _ {K : Type 0} {R : K → K → Ordering} (o : IsTotalOrder R) where
   pub tied_itself : (x : K) → eq_by_cmp R x x ≡ true

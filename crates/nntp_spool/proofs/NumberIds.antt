@@ -8,10 +8,7 @@ use Rattle.std.specs.FinMap.{empty, entries, find, put, entries-insert, get-entr
 use Rattle.nntp_article.{specs.{Session.Spool.{Numbers}, Article.Parts.{Id}}, proofs.SessionLemmas.SetKeys.{or_swap, any-insert_key}}
 use Rattle.nntp_wire.proofs.ShownMaps.{list_all-map}
 use Rattle.nntp_spool.{specs.{Numbers.{has_id}, Inner.Numbers.{AreIdsOf, AreKnown, AreAscending, numbers_shown, with_number}}, proofs.ShownNumbers.{each_entry}}
-use Rattle.nntp_spool.proofs.{NumbersInOrder.{entries-empty}, ShownMaps.{octet_keys}}
-
-some_none : {A : Type 0} (x : A) → Some x ≡ None → ⊥
-some_none x e = cc
+use Rattle.nntp_spool.proofs.{NumbersInOrder.{entries-empty}, ShownMaps.{octet_keys}, MapEntries.{some_none}}
 
 -- a test over entries, once one was put at a key that was not there
 any-put : {K X : Type 0} (R : K → K → Ordering) (t : K × X → Bool) (k : K) (v : X) (es : List (K × X)) → find R k es ≡ None → list_any t (put R k v es) ≡ (t (k, v) || list_any t es)

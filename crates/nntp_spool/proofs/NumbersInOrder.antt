@@ -1,41 +1,37 @@
 -- Numbers that follow one another are numbers of a group, and the other way round.
 use Rattle.std.proofs.Common.{◌≡◌, ◌⊎◌, inl, inr, ℕ, ◌+◌, ◌<◌, ◌≤◌, ◌^◌, Bool, true, false, List, [], ◌∷◌, ◌++◌, None, Some, length, refl, sym, ap, ◌∙◌}
-use Rattle.std.proofs.{Common.{append_assoc, arith}, lemmas.{Bool.{true≢false, and_parts, Decides.{nat_tests}}, List.{nil_from_length}}}
+use Rattle.std.proofs.{Common.{append_assoc, arith}, lemmas.{Bool.{true≢false, false_from_ne_true, and_parts, Decides.{nat_tests}}, List.{nil_from_length}}}
 use Rattle.std.{proofs.lemmas.Slice.Eq.{bytes_eq-Decides}, specs.{Prelude.{◌||◌, bytes_eq}, List.{list_all, list_any, AllByRecursion}, Ordering.{nat_cmp}}}
 use Rattle.std.specs.{Ordering.{is_lt, eq_by_cmp}, Cmp.{nat_cmp_total}, FinMap.{get, insert, empty, entries, len, find, is_sorted, entries_sorted, get-entries}}
 use Rattle.std.specs.FinMap.{get-empty, len-empty, len-entries, same_entries_map, nat_cmp-IsAntisymmetric, Entries.{below_all}}
+use Rattle.std.proofs.lemmas.List.{Folds.{list_any_none}, Elements.{recursion_from_All, All-from_recursion}, Sums.{AllPass-from_list_all, list_all-from_AllPass}}
 use Rattle.nntp_wire.specs.Decided.{is_message_id}
 use Rattle.nntp_article.specs.Session.{Machine.{is_article_number}, Spool.{Numbers}}
 use Rattle.nntp_spool.{specs.{Numbers.{has_id}, Ascending.{is_last}, Inner.Content.{AreNumbers}}, proofs.FollowingNumbers.{AllFollow, with_all}}
-use Rattle.nntp_spool.proofs.MapEntries.{is_passed, less_before, find_middle, find_front, got_all, all_got, entries-insert_last, apart, tied_itself, got_more}
-use Rattle.nntp_spool.proofs.NumbersRead.{entries-with_all}
+use Rattle.nntp_spool.proofs.MapEntries.{is_passed, empty_has, less_before, find_middle, find_front, got_all, all_got, entries-insert_last, apart, tied_itself, got_more}
+use Rattle.nntp_spool.proofs.NumbersRead.{num_between, entries-with_all}
 
 pub either_false : (a b : Bool) → (a || b) ≡ false → (a ≡ false) × (b ≡ false)
 either_false a b e = grind arith
 
 pub any_none : {X : Type 0} (p : X → Bool) (xs : List X) → AllByRecursion (λ x. p x ≡ false) xs → list_any p xs ≡ false
-any_none p [] h = refl
-any_none p (x ∷ xs) h = rw h.0 (any_none p xs h.1)
+any_none p xs h = list_any_none p xs (All-from_recursion (λ x. p x ≡ false) xs h)
 
 pub none_any : {X : Type 0} (p : X → Bool) (xs : List X) → list_any p xs ≡ false → AllByRecursion (λ x. p x ≡ false) xs
 none_any p [] h = tt
 none_any p (x ∷ xs) h = let both = either_false (p x) (list_any p xs) h in (both.0, none_any p xs both.1)
 
 pub all_passed : {X : Type 0} (p : X → Bool) (xs : List X) → list_all p xs ≡ true → AllByRecursion (λ x. p x ≡ true) xs
-all_passed p [] h = tt
-all_passed p (x ∷ xs) h = let both = and_parts (p x) (list_all p xs) h in (both.0, all_passed p xs both.1)
+all_passed p xs h = recursion_from_All (λ x. p x ≡ true) xs (AllPass-from_list_all p xs h)
+
+pub passed_all : {X : Type 0} (p : X → Bool) (xs : List X) → AllByRecursion (λ x. p x ≡ true) xs → list_all p xs ≡ true
+passed_all p xs h = list_all-from_AllPass p xs (All-from_recursion (λ x. p x ≡ true) xs h)
 
 pub entries-empty : (N : Numbers) → N ≡ empty → entries N ≡ []
 entries-empty N e = nil_from_length (entries N) (sym (len-entries N) ∙ ap len e ∙ len-empty nat_cmp (List ℕ))
 
 pub no_numbers : (limit : ℕ) → AreNumbers limit empty
-no_numbers limit = record {
-  each = λ n id g. absurd (none id (sym (get-empty nat_cmp n) ∙ g));
-  one_to_one = λ n m id g h. absurd (none id (sym (get-empty nat_cmp n) ∙ g));
-}
-  where
-    none : (id : List ℕ) → None ≡ Some id → ⊥
-    none id e = cc
+no_numbers limit = record { each = λ n id g. absurd (empty_has nat_cmp n id g); one_to_one = λ n m id g h. absurd (empty_has nat_cmp n id g) }
 
 -- no number has an id that isn't there
 pub fresh_id : (N : Numbers) (id : List ℕ) → has_id N id ≡ false → (q : ℕ) → get N q ≡ Some id → ⊥
@@ -73,16 +69,15 @@ numbers_follow limit N M (x ∷ es) e a = (record { num = (a.each x.0 x.1 here).
     here : get M x.0 ≡ Some x.1
     here = get-entries M x.0 ∙ ap (find nat_cmp x.0) e ∙ find_middle nat_cmp_total (entries N) x es last
 
-    other : (k : ℕ) (v : List ℕ) (b : Bool) → get N k ≡ Some v → bytes_eq v x.1 ≡ b → b ≡ false
-    other k v false g t = refl
-    other k v true g t =
+    other : (k : ℕ) (v : List ℕ) → get N k ≡ Some v → bytes_eq v x.1 ≡ true → ⊥
+    other k v g t =
         let there : get M k ≡ Some v = get-entries M k ∙ ap (find nat_cmp k) e ∙ find_front nat_cmp_total k v (entries N) (x ∷ es) (sym (get-entries N k) ∙ g) in
         let same : k ≡ x.0 = a.one_to_one k x.0 x.1 (there ∙ ap Some ((bytes_eq-Decides v x.1).0 t)) here in
         let less = all_got nat_cmp_total nat_cmp-IsAntisymmetric (λ q w. is_lt (nat_cmp q x.0) ≡ true) N (all_passed (λ f. is_lt (nat_cmp f.0 x.0)) (entries N) last) k v g in
-        absurd (true≢false (sym (tied_itself nat_cmp_total k) ∙ ap (λ q. eq_by_cmp nat_cmp q k) same ∙ apart nat_cmp_total k x.0 less))
+        true≢false (sym (tied_itself nat_cmp_total k) ∙ ap (λ q. eq_by_cmp nat_cmp q k) same ∙ apart nat_cmp_total k x.0 less)
 
     fresh : has_id N x.1 ≡ false
-    fresh = any_none (λ f. bytes_eq f.1 x.1) (entries N) (got_all nat_cmp_total nat_cmp-IsAntisymmetric (λ k v. bytes_eq v x.1 ≡ false) N (λ k v g. other k v (bytes_eq v x.1) g refl))
+    fresh = any_none (λ f. bytes_eq f.1 x.1) (entries N) (got_all nat_cmp_total nat_cmp-IsAntisymmetric (λ k v. bytes_eq v x.1 ≡ false) N (λ k v g. false_from_ne_true _ (other k v g)))
 
     behind : entries M ≡ entries (insert N x.0 x.1) ++ es
     behind = (e ∙ sym (append_assoc (entries N) (x ∷ []) es) ∙ ap (λ fs. fs ++ es) (sym (entries-insert_last nat_cmp_total N x.0 x.1 last)))
@@ -110,10 +105,8 @@ within_limit least limit (e ∷ es) sorted all le = grind (arith, and_parts, wit
 -- a group has no more numbers than the limit allows
 pub few_numbers : (limit : ℕ) (N : Numbers) → limit < 2 ^ 64 → AreNumbers limit N → len N < 2 ^ 64
 few_numbers limit N le are =
-    let between = λ (n : ℕ) (id : List ℕ) (here : get N n ≡ Some id). in_limit n (are.each n id here).0 in
+    let between : (n : ℕ) (id : List ℕ) → get N n ≡ Some id → (0 < n) × (n ≤ limit) =
+    λ n id here. let b = num_between limit n (are.each n id here).0 in (omega (arith, b.0), b.1) in
     let all = got_all nat_cmp_total nat_cmp-IsAntisymmetric (λ n id. (0 < n) × (n ≤ limit)) N between in
     let few = within_limit 0 limit (entries N) (is_passed _ (entries_sorted N)) all (omega arith) in
     omega (arith, len-entries N)
-  where
-    in_limit : (n : ℕ) → is_article_number limit n ≡ true → (0 < n) × (n ≤ limit)
-    in_limit n h = (grind (arith, nat_tests, and_parts), grind (arith, nat_tests, and_parts))

@@ -1,5 +1,5 @@
 -- The numbers of a group that are read are those that are written, and those that are written are read.
-use Rattle.std.proofs.Common.{◌≡◌, ℕ, zero, suc, ◌+◌, ◌^◌, ◌<◌, Bool, true, false, not, cond, List, [], ◌∷◌, ◌++◌, Option, Some, Result, Ok, Err, length, refl}
+use Rattle.std.proofs.Common.{◌≡◌, ℕ, zero, suc, ◌+◌, ◌^◌, ◌<◌, ◌≤◌, Bool, true, false, not, cond, List, [], ◌∷◌, ◌++◌, Option, Some, Result, Ok, Err, length, refl}
 use Rattle.std.proofs.{Common.{sym, ap, subst, ◌∙◌, append_assoc, arith}, lemmas.{Bool.{and_parts, Decides.{nat_tests}}, List.{append-nil}}}
 use Rattle.std.specs.{Cmp.{nat_cmp_total}, FinMap.{entries, insert}}
 use Rattle.nntp_wire.specs.Decided.{is_message_id}
@@ -38,8 +38,11 @@ line_takes p x e = grind arith
 
 -- ---- one number
 
-num_below : (limit n : ℕ) → limit < 2 ^ 64 → is_article_number limit n ≡ true → n < 2 ^ 64
-num_below limit n le h = grind (arith, nat_tests, and_parts)
+pub num_between : (limit n : ℕ) → is_article_number limit n ≡ true → (1 ≤ n) × (n ≤ limit)
+num_between limit n h = (grind (arith, nat_tests, and_parts), grind (arith, nat_tests, and_parts))
+
+pub num_below : (limit n : ℕ) → limit < 2 ^ 64 → is_article_number limit n ≡ true → n < 2 ^ 64
+num_below limit n le h = omega (arith, (num_between limit n h).1)
 
 pub number_in_again : (limit line n : ℕ) (id : List ℕ) → limit < 2 ^ 64 → is_article_number limit n ≡ true → is_message_id id ≡ true → number_in limit line (number_line n id) ≡ Ok (n, id)
 unfolding number_in
@@ -50,13 +53,11 @@ pub number_in_takes : (limit line : ℕ) (l : List ℕ) (x : ℕ × List ℕ) �
     → (l ≡ number_line x.0 x.1) × (is_article_number limit x.0 ≡ true) × (is_message_id x.1 ≡ true)
 unfolding number_in
 number_in_takes limit line l x le e =
-    let a = bind_ok (shaped line (number_and_id (fields_of l)))
-    (λ v. cond (not (is_article_number limit v.0)) (fault line kinds.Number)
-    (cond (not (is_message_id v.1)) (fault line kinds.Id) (Ok v))) x e in
-    let b = unless_ok (is_article_number limit a.0.0) (record { line = line; kind = kinds.Number }) _ x a.2 in
-    let c = unless_ok (is_message_id a.0.1) (record { line = line; kind = kinds.Id }) (Ok a.0) x b.1 in
+    let a = bind_ok (shaped line (number_and_id (fields_of l))) _ x e in
+    let b = unless_ok (is_article_number limit a.0.0) _ _ x a.2 in
+    let c = unless_ok (is_message_id a.0.1) _ _ x b.1 in
     let text = number_line-number_and_id l a.0.0 a.0.1 (num_below limit a.0.0 le b.0) (shaped_ok line _ a.0 a.1) in
-    subst (λ (y : ℕ × List ℕ). (l ≡ number_line y.0 y.1) × (is_article_number limit y.0 ≡ true) × (is_message_id y.1 ≡ true)) (ok_is a.0 x c.1) (text, b.0, c.0)
+    rw (← ok_is a.0 x c.1) (text, b.0, c.0)
 
 pub number_at_again : (limit line n : ℕ) (id next : List ℕ) (segments : List (List ℕ)) (N : Numbers) → limit < 2 ^ 64 → Follows limit N n id
     → number_at limit (N, record { line = line; segments = number_line n id ∷ next ∷ segments }) ≡ Ok (insert N n id, record { line = line + 1; segments = next ∷ segments })
@@ -67,20 +68,13 @@ pub number_at_takes : (limit : ℕ) (N : Numbers) (p : Place) (x : Numbers × Pl
     → (n : ℕ) × (id : List ℕ) × Follows limit N n id × (x.0 ≡ insert N n id) × (p.segments ≡ number_line n id ∷ x.1.segments)
 unfolding number_at
 number_at_takes limit N p x le e =
-    let rest = λ (l : List ℕ × Place) (v : ℕ × List ℕ). cond (not (is_last N v.0)) (fault p.line kinds.Order) (cond (has_id N v.1) (fault p.line kinds.DuplicateId) (done (insert N v.0 v.1, l.1))) in
-    let a = bind_ok (line_at p) (λ l. number_in limit p.line l.0 >>= rest l) x e in
-    let b = bind_ok (number_in limit p.line a.0.0) (rest a.0) x a.2 in
-    let c = unless_ok (is_last N b.0.0) (record { line = p.line; kind = kinds.Order }) _ x b.2 in
-    let d = guard_ok (has_id N b.0.1) (record { line = p.line; kind = kinds.DuplicateId }) (done (insert N b.0.0 b.0.1, a.0.1)) x c.1 in
-    let same : ◌≡◌ {A = Numbers × Place} (insert N b.0.0 b.0.1, a.0.1) x = ok_is _ _ d.1 in
+    let a = bind_ok (line_at p) _ x e in
+    let b = bind_ok (number_in limit p.line a.0.0) _ x a.2 in
+    let c = unless_ok (is_last N b.0.0) _ _ x b.2 in
+    let d = guard_ok (has_id N b.0.1) _ _ x c.1 in
     let one = number_in_takes limit p.line a.0.0 b.0 le b.1 in
-    let segments = line_takes p a.0 a.1 in (
-      b.0.0,
-      b.0.1,
-      record { num = one.1; is_id = one.2; last = c.0; fresh = d.0 },
-      sym (ap (λ (y : Numbers × Place). y.0) same),
-      segments ∙ ap (λ (t : List ℕ). t ∷ a.0.1.segments) one.0 ∙ ap (λ (y : Numbers × Place). number_line b.0.0 b.0.1 ∷ y.1.segments) same,
-    )
+    let follows : Follows limit N b.0.0 b.0.1 = record { num = one.1; is_id = one.2; last = c.0; fresh = d.0 } in
+    rw (← ok_is (insert N b.0.0 b.0.1, a.0.1) x d.1) (b.0.0, b.0.1, follows, refl, line_takes p a.0 a.1 ∙ ap (λ (t : List ℕ). t ∷ a.0.1.segments) one.0)
 
 -- ---- the numbers of a group
 

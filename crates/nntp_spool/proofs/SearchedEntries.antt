@@ -1,10 +1,11 @@
 -- What a binary search finds among entries in the order of their keys.
 use Rattle.std.proofs.Common.{◌≡◌, ℕ, ◌+◌, ◌<◌, zero, suc, true, false, Option, None, Some, option_map, List, [], ◌∷◌, map, length, get_or, refl, sym, ap}
 use Rattle.std.proofs.{Common.{subst, ◌∙◌, arith}, lemmas.{Bool.{and_parts, cases_lt}, Option.{slice_get-get_or, slice_get_within, get_or_from_slice_get}}}
-use Rattle.std.proofs.lemmas.{Map.Entries.{lookup_from_place, place_from_lookup}, List.Sorted.{searchable_from_sorted}}
+use Rattle.std.proofs.lemmas.{Map.{Entries.{lookup_from_place, place_from_lookup, length-keys_of}, Keys.{IsDistinct-from_sorted, Less-from_sorted}}, List.Sorted.{searchable_from_sorted}}
 use Rattle.std.specs.{declared.cmp.Ordering.{Ordering, TheVariants.{Less, Equal, Greater}}, Ordering.{is_lt, is_eq, eq_by_cmp, ordering_index}}
-use Rattle.std.specs.{Cmp.{IsTotalOrder, IsEquivalence}, List.{slice_get, AllByRecursion, IsDistinct, Sorted.{IsNonDecreasingBy, IsPartitionPoint}}}
+use Rattle.std.specs.{Cmp.{IsTotalOrder, IsEquivalence}, List.{slice_get, AllByRecursion, Sorted.{IsNonDecreasingBy, IsPartitionPoint, IsStrictlySortedBy}}}
 use Rattle.std.specs.{Map.{lookup, keys_of}, FinMap.{get, is_sorted, IsAntisymmetric, Entries.{below_all}}}
+use Rattle.std.proofs.Math.ListN.{get_or-map}
 use Rattle.nntp_wire.proofs.ShownMaps.{shown, shown_entry, get-shown, equal_is}
 use Rattle.nntp_spool.proofs.MapEntries.{less_is}
 
@@ -21,16 +22,17 @@ module _ {L V K X : Type 0} (R : K → K → Ordering) (key : L → K) (value : 
   ties : IsEquivalence (λ (a b : L). eq_by_cmp R (key a) (key b))
   ties = grind arith
 
-  above : (l : L) (es : List (L × V)) → below_all R (key l) (map (shown_entry R key value) es) ≡ true → AllByRecursion (λ k. eq_by_cmp R (key l) (key k) ≡ false) (keys_of es)
+  above : (l : L) (es : List (L × V)) → below_all R (key l) (map (shown_entry R key value) es) ≡ true → AllByRecursion (λ k. R (key l) (key k) ≡ Less) (keys_of es)
   above l [] h = tt
   above l (e ∷ es) h = grind (arith, and_parts, less_is, above l es)
 
-  distinct : (es : List (L × V)) → is_sorted R (map (shown_entry R key value) es) ≡ true → IsDistinct (λ (a b : L). eq_by_cmp R (key a) (key b)) (keys_of es)
-  unfolding IsDistinct
-  distinct [] h = tt
-  distinct (e ∷ es) h =
+  -- the keys ascend in std's words
+  pub strict : (es : List (L × V)) → is_sorted R (map (shown_entry R key value) es) ≡ true → IsStrictlySortedBy (λ a b. R (key a) (key b)) (keys_of es)
+  unfolding IsStrictlySortedBy
+  strict [] h = tt
+  strict (e ∷ es) h =
       let both = and_parts (below_all R (key e.0) (map (shown_entry R key value) es)) (is_sorted R (map (shown_entry R key value) es)) h in
-      (above e.0 es both.0, distinct es both.1)
+      (above e.0 es both.0, strict es both.1)
 
   -- an element whose key is the one that is looked for
   pub found_at : (es : List (L × V)) (q : K) (i : ℕ) (d : L × V) → is_sorted R (map (shown_entry R key value) es) ≡ true → i < length es → R (key (get_or es i d).0) q ≡ Equal
@@ -38,7 +40,7 @@ module _ {L V K X : Type 0} (R : K → K → Ordering) (key : L → K) (value : 
   found_at es q i d sorted lt equal =
       let e = get_or es i d in
       let there : at q es ≡ Some e.1 = subst (λ (k : K). at k es ≡ Some e.1) (same (key e.0) q equal)
-      (lookup_from_place ties es i e.0 e.1 (distinct es sorted) (slice_get-get_or es i d lt)) in
+      (lookup_from_place ties es i e.0 e.1 (IsDistinct-from_sorted (λ a b. R (key a) (key b)) (keys_of es) (strict es sorted)) (slice_get-get_or es i d lt)) in
       sym (get-shown R key value o es q ∙ ap (option_map value) there)
 
   -- a place between lesser and greater keys
@@ -54,12 +56,10 @@ module _ {L V K X : Type 0} (R : K → K → Ordering) (key : L → K) (value : 
 
   -- the keys are such as a binary search asks for
   pub searchable : (es : List (L × V)) (q : K) → is_sorted R (map (shown_entry R key value) es) ≡ true → IsNonDecreasingBy (λ e. ordering_index (R (key e.0) q)) es
-  searchable es q sorted = searchable_from_sorted o (λ (e : L × V). key e.0) es q
-      (λ k d le lt. let next : suc k ≡ k + 1 = omega arith in subst (λ j. is_lt (R (key (get_or es j d).0) (key (get_or es k d).0)) ≡ false) next (rises es sorted k d (omega (arith, lt))))
+  searchable es q sorted = searchable_from_sorted o (λ (e : L × V). key e.0) es q (λ k d le lt.
+      let less : R (key (get_or (keys_of es) k d.0)) (key (get_or (keys_of es) (k + 1) d.0)) ≡ Less =
+      Less-from_sorted (λ a b. R (key a) (key b)) (keys_of es) k (k + 1) d.0 (strict es sorted) (omega arith) (rw (length-keys_of es) lt) in
+      not_above _ _ (rw (get_or-map (λ (e : L × V). e.0) es k d, get_or-map (λ (e : L × V). e.0) es (k + 1) d) at less))
     where
-      rises : (fs : List (L × V)) → is_sorted R (map (shown_entry R key value) fs) ≡ true → (k : ℕ) (d : L × V) → suc k < length fs → is_lt (R (key (get_or fs (suc k) d).0) (key (get_or fs k d).0))
-          ≡ false
-      rises [] h k d lt = absurd (omega (arith, lt))
-      rises (e ∷ []) h k d lt = absurd (omega (arith, lt))
-      rises (e ∷ f ∷ fs) h zero d lt = grind arith
-      rises (e ∷ f ∷ fs) h (suc k) d lt = grind (arith, and_parts, rises (f ∷ fs))
+      not_above : (k l : K) → R k l ≡ Less → is_lt (R l k) ≡ false
+      not_above k l less = grind arith

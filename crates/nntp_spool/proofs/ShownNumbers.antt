@@ -1,24 +1,37 @@
 -- What a list of ascending numbers shows.
-use Rattle.std.proofs.Common.{◌≡◌, ℕ, ◌-◌, ◌<◌, ◌≤◌, zero, suc, Bool, true, T, Option, None, Some, MatchOption, is_some, List, [], ◌∷◌, ◌++◌, map, length}
-use Rattle.std.proofs.{Common.{get_or, take, drop, append_assoc, refl, sym, ap, subst, ◌∙◌, arith}, lemmas.Bool.{and_parts, true≢false, Decides.{nat_tests}}}
-use Rattle.std.{proofs.lemmas.List.{map-append, take-append-drop, length-map}, specs.{Ordering.{nat_cmp, is_eq}, Cmp.{nat_cmp_total}, Map.{lookup}}}
-use Rattle.std.specs.{declared.rc.RcStr.{RcStr}, Rc.{rc_str_bytes}, FinMap.{get, len, len-entries, insert, put, find, is_sorted, entries, get-from_entries}}
+use Rattle.std.proofs.Common.{◌≡◌, ◌⊎◌, inl, inr, ⊎_elim, ℕ, ◌-◌, ◌+◌, ◌<◌, ◌≤◌, zero, suc, Bool, true, false, T, Option, None, Some, MatchOption, is_some, List, [], ◌∷◌, ◌++◌, map}
+use Rattle.std.proofs.{Common.{length, get_or, take, drop, append_assoc, refl, sym, ap, subst, ◌∙◌, arith}, lemmas.Bool.{and_parts, true≢false, Decides.{nat_tests}}}
+use Rattle.std.proofs.lemmas.List.{map-append, take-append-drop, length-map, length-take-le, length-drop, get_or-take, get_or-drop, append-nil, Elements.{recursion_from_All}}
+use Rattle.std.proofs.{Math.ListN.{get_or-map}, lemmas.Map.{Keys.{non_decreasing_from_sorted}, Entries.{length-keys_of}}}
+use Rattle.std.specs.{Ordering.{nat_cmp, is_eq}, Cmp.{nat_cmp_total}, Map.{lookup, keys_of}}
+use Rattle.std.specs.{declared.rc.RcStr.{RcStr}, Rc.{rc_str_bytes}, FinMap.{get, len, len-entries, insert, put, is_sorted, entries}}
 use Rattle.std.specs.{FinMap.{entries-insert, same_entries_map, entries_sorted, nat_cmp-IsAntisymmetric, Entries.{below_all}}, List.{slice_get}}
-use Rattle.std.specs.List.{insert as list_insert, AllByRecursion, AllWithin, Sorted.{IsPartitionedBy, IsPartitionPoint}}
+use Rattle.std.specs.List.{insert as list_insert, AllByRecursion, Sorted.{IsNonDecreasingBy, IsPartitionPoint}}
 use Rattle.nntp_article.specs.{Session.Spool.{Numbers, IsNumber, IsNextAbove, IsNextBelow, NoneAbove, NoneBelow}, Inner.Spool.{IsFirst}}
-use Rattle.nntp_spool.{specs.Inner.Numbers.{numbers_shown, AreAscending, AreParts}, proofs.{GatheredEntries.{none_listed}, MapEntries.{less_before}}}
-use Rattle.nntp_spool.proofs.MapEntries.{find_middle, is_passed}
+use Rattle.nntp_spool.{specs.Inner.Numbers.{numbers_shown, AreAscending, AreParts}, proofs.{GatheredEntries.{none_listed}, MapEntries.{got_all, is_passed}, SearchedEntries.{strict}}}
 use Rattle.nntp_wire.proofs.ShownMaps.{get-shown, entries-from_entries}
 
 abbrev pub IsLastOf : Numbers → Option ℕ → Type 0
 IsLastOf N last = MatchOption last ((m : ℕ) → get N m ≡ None) (λ n. IsNumber N n × ((m : ℕ) → IsNumber N m → m ≤ n))
 
-some_none : {X : Type 0} {x : X} → Some x ≡ None → ⊥
-some_none e = cc
-
 none_of : {X : Type 0} (o : Option X) → (is_some o ≡ true → ⊥) → o ≡ None
 none_of None h = refl
 none_of (Some x) h = absurd (h refl)
+
+-- what holds of all elements of a list holds of the one at a place
+at_place : {X : Type 0} (P : X → Type 0) (xs : List X) (k : ℕ) (e : X) → AllByRecursion P xs → Some e ≡ slice_get xs k → P e
+at_place P [] k e all is = absurd cc
+at_place P (x ∷ xs) zero e all is = let same : x ≡ e = cc in subst P same all.0
+at_place P (x ∷ xs) (suc k) e all is = at_place P xs k e all.1 is
+
+-- what holds of all elements of two lists holds of those of each
+in_parts : {X : Type 0} (P : X → Type 0) (xs ys : List X) → AllByRecursion P (xs ++ ys) → AllByRecursion P xs × AllByRecursion P ys
+in_parts P [] ys all = (tt, all)
+in_parts P (x ∷ xs) ys all = let both = in_parts P xs ys all.1 in ((all.0, both.0), both.1)
+
+pub nothing : {X : Type 0} (xs : List X) → None ≡ slice_get xs 0 → xs ≡ []
+nothing [] e = refl
+nothing (x ∷ xs) e = absurd cc
 
 module _ {A : Type 0} where
   abbrev Each : (ℕ → Type 0) → List (ℕ × RcStr A) → Type 0
@@ -27,232 +40,174 @@ module _ {A : Type 0} where
   abbrev octets : ℕ × RcStr A → ℕ × List ℕ
   octets e = (e.0, rc_str_bytes e.1)
 
-  -- ---- what holds of each number
-
-  each-append : (P : ℕ → Type 0) (xs ys : List (ℕ × RcStr A)) → Each P xs → Each P ys → Each P (xs ++ ys)
-  each-append P [] ys h g = g
-  each-append P (x ∷ xs) ys h g = (h.0, each-append P xs ys h.1 g)
-
-  each_as : (P Q : ℕ → Type 0) → ((n : ℕ) → P n → Q n) → (ids : List (ℕ × RcStr A)) → Each P ids → Each Q ids
-  each_as P Q as_well [] h = tt
-  each_as P Q as_well (e ∷ ids) h = (as_well e.0 h.0, each_as P Q as_well ids h.1)
-
-  each_there : (P : ℕ → Type 0) (xs : List (ℕ × RcStr A)) (e : ℕ × RcStr A) (ys : List (ℕ × RcStr A)) → Each P (xs ++ e ∷ ys) → P e.0
-  each_there P [] e ys h = h.0
-  each_there P (x ∷ xs) e ys h = each_there P xs e ys h.1
-
-  each_at : (P : ℕ → Type 0) (ids : List (ℕ × RcStr A)) (k : ℕ) (d : ℕ × RcStr A) → Each P ids → k < length ids → P (get_or ids k d).0
-  each_at P [] k d h lt = absurd (omega (arith, lt))
-  each_at P (e ∷ ids) zero d h lt = h.0
-  each_at P (e ∷ ids) (suc k) d h lt = each_at P ids k d h.1 (omega (arith, lt))
-
-  looked_up : (P : ℕ → Type 0) (ids : List (ℕ × RcStr A)) → Each P ids → (q : ℕ) → is_some (lookup (λ k. is_eq (nat_cmp q k)) ids) ≡ true → P q
-  looked_up P [] all q h = absurd (true≢false (sym h))
-  looked_up P (e ∷ ids) all q h = grind (arith, nat_tests, looked_up P ids all.1 q)
-
-  -- it holds of each that is shown
-  pub each_shown : (P : ℕ → Type 0) (ids : List (ℕ × RcStr A)) → Each P ids → (q : ℕ) → IsNumber (numbers_shown ids) q → P q
-  each_shown P ids all q h = looked_up P ids all q (grind (arith, get-shown nat_cmp (λ k. k) (λ v. rc_str_bytes v) nat_cmp_total ids q))
-
-  pub none_shown : (ids : List (ℕ × RcStr A)) (q : ℕ) → Each (λ n. n ≡ q → ⊥) ids → get (numbers_shown ids) q ≡ None
-  none_shown ids q all = none_of _ (λ some. each_shown (λ n. n ≡ q → ⊥) ids all q some refl)
-
-  -- ---- numbers that ascend
-
-  above_all : (n : ℕ) (ids : List (ℕ × RcStr A)) → below_all nat_cmp n (map octets ids) ≡ true → Each (λ m. n < m) ids
-  above_all n [] h = tt
-  above_all n (e ∷ ids) h = grind (arith, and_parts, nat_tests, above_all n ids)
-
-  above_first : (e : ℕ × RcStr A) (ids : List (ℕ × RcStr A)) → AreAscending (e ∷ ids) → Each (λ m. e.0 < m) ids
-  above_first e ids h = above_all e.0 ids (and_parts (below_all nat_cmp e.0 (map octets ids)) (is_sorted nat_cmp (map octets ids)) h).0
-
-  behind_first : (e : ℕ × RcStr A) (ids : List (ℕ × RcStr A)) → AreAscending (e ∷ ids) → AreAscending ids
-  behind_first e ids h = (and_parts (below_all nat_cmp e.0 (map octets ids)) (is_sorted nat_cmp (map octets ids)) h).1
-
-  ascending_behind : (xs ys : List (ℕ × RcStr A)) → AreAscending (xs ++ ys) → AreAscending ys
-  ascending_behind [] ys h = h
-  ascending_behind (x ∷ xs) ys h = ascending_behind xs ys (behind_first x (xs ++ ys) h)
-
-  -- an entry has its id
-  pub id_there : (xs : List (ℕ × RcStr A)) (e : ℕ × RcStr A) (ys : List (ℕ × RcStr A)) → AreAscending (xs ++ e ∷ ys) → get (numbers_shown (xs ++ e ∷ ys)) e.0 ≡ Some (rc_str_bytes e.1)
-  id_there xs e ys h =
-      let listed = map-append octets xs (e ∷ ys) in
-      get-from_entries nat_cmp_total (map octets (xs ++ e ∷ ys)) e.0 ∙ ap (find nat_cmp e.0) listed
-      ∙ find_middle nat_cmp_total (map octets xs) (octets e) (map octets ys) (less_before nat_cmp_total (map octets xs) (octets e) (map octets ys) (ap (is_sorted nat_cmp) (sym listed) ∙ h))
-
-  -- the entries before one have lesser numbers
-  below_there : (xs : List (ℕ × RcStr A)) (e : ℕ × RcStr A) (ys : List (ℕ × RcStr A)) → AreAscending (xs ++ e ∷ ys) → Each (λ m. m < e.0) xs
-  below_there [] e ys h = tt
-  below_there (x ∷ xs) e ys h = (each_there (λ m. x.0 < m) xs e ys (above_first x (xs ++ e ∷ ys) h), below_there xs e ys (behind_first x (xs ++ e ∷ ys) h))
-
   pub each_entry : (ids : List (ℕ × RcStr A)) → AreAscending ids → entries (numbers_shown ids) ≡ map octets ids
   each_entry ids h = entries-from_entries nat_cmp_total nat_cmp-IsAntisymmetric (map octets ids) (subst T (sym h) tt)
 
   pub how_many : (ids : List (ℕ × RcStr A)) → AreAscending ids → length ids ≡ len (numbers_shown ids)
   how_many ids h = sym (len-entries (numbers_shown ids) ∙ ap length (each_entry ids h) ∙ length-map ids octets)
 
-  -- a list with a first entry, and one with a last
-  begins_with : (ids : List (ℕ × RcStr A)) (e : ℕ × RcStr A) → Some e ≡ slice_get ids 0 → (xs : List (ℕ × RcStr A)) × (ids ≡ e ∷ xs)
-  begins_with [] e h = absurd cc
-  begins_with (x ∷ ids) e h = (ids, cc)
+  looked_up : (P : ℕ → Type 0) (ids : List (ℕ × RcStr A)) → Each P ids → (q : ℕ) → is_some (lookup (λ k. is_eq (nat_cmp q k)) ids) ≡ true → P q
+  looked_up P [] all q h = absurd (true≢false (sym h))
+  looked_up P (e ∷ ids) all q h = grind (arith, nat_tests, looked_up P ids all.1 q)
 
-  ends_with : (ids : List (ℕ × RcStr A)) (e : ℕ × RcStr A) → Some e ≡ slice_get ids (length ids - 1) → (xs : List (ℕ × RcStr A)) × (ids ≡ xs ++ e ∷ [])
-  ends_with [] e h = absurd cc
-  ends_with (x ∷ []) e h = ([], grind arith)
-  ends_with (x ∷ y ∷ ids) e h = let more = ends_with (y ∷ ids) e (h ∙ grind arith) in (x ∷ more.0, ap (λ ids. x ∷ ids) more.1)
-
-  -- ---- the ends of a list
-
-  pub least_is : (ids : List (ℕ × RcStr A)) (e : ℕ × RcStr A) → AreAscending ids → Some e ≡ slice_get ids 0 → IsFirst (numbers_shown ids) (Some e.0)
-  least_is ids e h is =
-      let whole = begins_with ids e is in
-      let ordered = subst AreAscending whole.1 h in
-      subst (λ ids. IsFirst (numbers_shown ids) (Some e.0)) (sym whole.1) (
-        ap is_some (id_there [] e whole.0 ordered),
-        each_shown (λ m. e.0 ≤ m) (e ∷ whole.0) (omega arith, each_as (λ m. e.0 < m) (λ m. e.0 ≤ m) (λ m lt. omega (arith, lt)) whole.0 (above_first e whole.0 ordered)),
-      )
-
-  pub greatest_is : (ids : List (ℕ × RcStr A)) (e : ℕ × RcStr A) → AreAscending ids → Some e ≡ slice_get ids (length ids - 1) → IsLastOf (numbers_shown ids) (Some e.0)
-  greatest_is ids e h is =
-      let whole = ends_with ids e is in
-      let ordered = subst AreAscending whole.1 h in
-      let below = each_as (λ m. m < e.0) (λ m. m ≤ e.0) (λ m lt. omega (arith, lt)) whole.0 (below_there whole.0 e [] ordered) in
-      subst (λ ids. IsLastOf (numbers_shown ids) (Some e.0)) (sym whole.1) (
-        ap is_some (id_there whole.0 e [] ordered),
-        each_shown (λ m. m ≤ e.0) (whole.0 ++ e ∷ []) (each-append (λ m. m ≤ e.0) whole.0 (e ∷ []) below (omega arith, tt)),
-      )
-
-  pub nothing : (ids : List (ℕ × RcStr A)) → None ≡ slice_get ids 0 → ids ≡ []
-  nothing [] e = refl
-  nothing (x ∷ ids) e = absurd cc
-
-  pub none_there : (ids : List (ℕ × RcStr A)) → ids ≡ [] → (q : ℕ) → get (numbers_shown ids) q ≡ None
-  none_there ids e q = none_shown ids q (subst (Each (λ n. n ≡ q → ⊥)) (sym e) tt)
+  of_octets : (P : ℕ × List ℕ → Type 0) (ids : List (ℕ × RcStr A)) → AllByRecursion P (map octets ids) → AllByRecursion (λ e. P (octets e)) ids
+  of_octets P [] all = tt
+  of_octets P (e ∷ ids) all = (all.0, of_octets P ids all.1)
 
   -- ---- a list is parted
 
-  -- by a test that no greater number passes where a lesser one fails it
-  pub can_be_parted : (p : ℕ → Bool) → ((a b : ℕ) → a ≤ b → p b ≡ true → p a ≡ true) → (ids : List (ℕ × RcStr A)) → AreAscending ids → IsPartitionedBy (λ e. p e.0) ids
-  can_be_parted p down [] h i j d le lt passes = absurd (omega (arith, lt))
-  can_be_parted p down (e ∷ ids) h zero zero d le lt passes = passes
-  can_be_parted p down (e ∷ ids) h zero (suc j) d le lt passes =
-      let above = each_at (λ m. e.0 < m) ids j d (above_first e ids h) (omega (arith, lt)) in
-      down e.0 (get_or ids j d).0 (omega (arith, above)) passes
-  can_be_parted p down (e ∷ ids) h (suc i) zero d le lt passes = absurd (omega (arith, le))
-  can_be_parted p down (e ∷ ids) h (suc i) (suc j) d le lt passes = can_be_parted p down ids (behind_first e ids h) i j d (omega (arith, le)) (omega (arith, lt)) passes
+  -- the numbers don't fall, as a binary search asks for
+  pub rise : (ids : List (ℕ × RcStr A)) → AreAscending ids → IsNonDecreasingBy (λ e. e.0) ids
+  rise ids h = λ i j d le lt.
+      let sorted = strict nat_cmp (λ k. k) (λ v. rc_str_bytes v) nat_cmp_total nat_cmp-IsAntisymmetric ids h in
+      let up = non_decreasing_from_sorted (keys_of ids) sorted i j d.0 le (rw (length-keys_of ids) lt) in
+      rw (get_or-map (λ (e : ℕ × RcStr A). e.0) ids i d, get_or-map (λ (e : ℕ × RcStr A). e.0) ids j d) at up
 
-  within : (P : ℕ → Type 0) (ids : List (ℕ × RcStr A)) → AllWithin (λ e. P e.0) ids 0 (length ids) → Each P ids
-  within P [] h = tt
-  within P (e ∷ ids) h = (h 0 e (omega arith) (omega arith), within P ids (λ k d le lt. h (suc k) d (omega arith) (omega (arith, lt))))
+  -- by a test
+  pub parts_are : (p : ℕ → Bool) (P Q : ℕ → Type 0) → ((m : ℕ) → p m ≡ true → P m) → ((m : ℕ) → p m ≡ false → Q m) → (ids : List (ℕ × RcStr A)) (i : ℕ) → i ≤ length ids
+      → IsPartitionPoint (λ e. p e.0 ≡ true) (λ e. p e.0 ≡ false) ids i → AreParts ids P Q (take i ids) (drop i ids)
+  parts_are p P Q holds fails ids i le point = (
+    sym (take-append-drop i ids),
+    recursion_from_All (λ e. P e.0) (take i ids)
+        (λ k d lt. let in' : k < i = omega (arith, lt, length-take-le i ids le) in rw (get_or-take i ids k d in') (holds _ (point.0 k d (omega arith) in'))),
+    recursion_from_All (λ e. Q e.0) (drop i ids)
+        (λ k d lt. rw (get_or-drop i ids k d) (fails _ (point.1 (i + k) d (omega arith) (omega (arith, lt, length-drop i ids))))),
+  )
 
-  pub parts_are : (P Q : ℕ → Type 0) (ids : List (ℕ × RcStr A)) (i : ℕ) → i ≤ length ids → IsPartitionPoint (λ e. P e.0) (λ e. Q e.0) ids i → AreParts ids P Q (take i ids) (drop i ids)
-  parts_are P Q ids i le parted = (sym (take-append-drop i ids), front ids i le parted.0, rest ids i le parted.1)
-    where
-      front : (ids : List (ℕ × RcStr A)) (i : ℕ) → i ≤ length ids → AllWithin (λ e. P e.0) ids 0 i → Each P (take i ids)
-      front ids zero le h = tt
-      front [] (suc i) le h = tt
-      front (e ∷ ids) (suc i) le h = (h 0 e (omega arith) (omega arith), front ids i (omega (arith, le)) (λ k d _ lt. h (suc k) d (omega arith) (omega (arith, lt))))
+  -- the numbers behind one in a list
+  behind_first : (n k : ℕ) → n ≤ k → (ids : List (ℕ × RcStr A)) → below_all nat_cmp k (map octets ids) ≡ true → Each (λ m. n ≤ m) ids
+  behind_first n k le [] h = tt
+  behind_first n k le (e ∷ ids) h = grind (arith, and_parts, nat_tests, behind_first n k le ids)
 
-      rest : (ids : List (ℕ × RcStr A)) (i : ℕ) → i ≤ length ids → AllWithin (λ e. Q e.0) ids i (length ids) → Each Q (drop i ids)
-      rest ids zero le h = within Q ids h
-      rest [] (suc i) le h = tt
-      rest (e ∷ ids) (suc i) le h = rest ids i (omega (arith, le)) (λ k d from lt. h (suc k) d (omega (arith, from)) (omega (arith, lt)))
+  -- the first of the rest is the least of it
+  above : (n : ℕ) (xs ys : List (ℕ × RcStr A)) → AreAscending (xs ++ ys) → ((e : ℕ × RcStr A) → Some e ≡ slice_get ys 0 → n ≤ e.0) → Each (λ m. n ≤ m) ys
+  above n [] [] h first = tt
+  above n [] (y ∷ ys) h first = (first y refl, behind_first n y.0 (first y refl) ys (and_parts (below_all nat_cmp y.0 (map octets ys)) (is_sorted nat_cmp (map octets ys)) h).0)
+  above n (x ∷ xs) ys h first = above n xs ys (and_parts (below_all nat_cmp x.0 (map octets (xs ++ ys))) (is_sorted nat_cmp (map octets (xs ++ ys))) h).1 first
+
+  -- the last of the front is the greatest of it
+  below : (n : ℕ) (xs ys : List (ℕ × RcStr A)) → AreAscending (xs ++ ys) → ((e : ℕ × RcStr A) → Some e ≡ slice_get xs (length xs - 1) → e.0 ≤ n) → Each (λ m. m ≤ n) xs
+  below n [] ys h last = tt
+  below n (x ∷ []) ys h last = (last x refl, tt)
+  below n (x ∷ y ∷ xs) ys h last =
+      let rest = below n (y ∷ xs) ys (and_parts (below_all nat_cmp x.0 (map octets (y ∷ xs ++ ys))) (is_sorted nat_cmp (map octets (y ∷ xs ++ ys))) h).1 (λ e is. last e (is ∙ grind arith)) in
+      let le : y.0 ≤ n = rest.0 in
+      (grind (arith, nat_tests), rest)
 
   -- a number is put before greater ones
-  put_between : (n : ℕ) (id : RcStr A) (xs ys : List (ℕ × RcStr A)) → Each (λ m. m < n) xs → Each (λ m. n < m) ys
+  put_between : (n : ℕ) (id : RcStr A) (xs ys : List (ℕ × RcStr A)) → Each (λ m. m < n) xs → Each (λ m. n + 1 ≤ m) ys
       → put nat_cmp n (rc_str_bytes id) (map octets (xs ++ ys)) ≡ map octets (xs ++ (n, id) ∷ ys)
   put_between n id [] [] below above = refl
   put_between n id [] (y ∷ ys) below above = grind (arith, nat_tests)
   put_between n id (x ∷ xs) ys below above = grind (arith, nat_tests, put_between n id xs ys)
 
-  -- ---- both parts of a list
+  -- ---- the numbers that a list shows
 
-  module _ (ids xs ys : List (ℕ × RcStr A)) (n : ℕ) (ascend : AreAscending ids) where
-    -- both parts have one and another kind of number, and so have all
-    each_of : (P Q R : ℕ → Type 0) → AreParts ids P Q xs ys → ((m : ℕ) → P m → R m) → ((m : ℕ) → Q m → R m) → Each R ids
-    each_of P Q R parted front rest = subst (Each R) (sym parted.0) (each-append R xs ys (each_as P R front xs parted.1) (each_as Q R rest ys parted.2))
+  module _ (ids held : List (ℕ × RcStr A)) (N : Numbers) (ascend : AreAscending ids) (shows : numbers_shown ids ≡ N) (same : held ≡ ids) where
+    abbrev Has : ℕ × RcStr A → Type 0
+    Has e = get N e.0 ≡ Some (rc_str_bytes e.1)
 
-    -- the id at a number
-    pub id_is : AreParts ids (λ m. m < n) (λ m. n ≤ m) xs ys → (e : ℕ × RcStr A) → Some e ≡ slice_get ys 0 → e.0 ≡ n → get (numbers_shown ids) n ≡ Some (rc_str_bytes e.1)
-    id_is parted e is here =
-        let rest = begins_with ys e is in
-        let whole : ids ≡ xs ++ e ∷ rest.0 = parted.0 ∙ ap (λ ys. xs ++ ys) rest.1 in
-        ap (get (numbers_shown ids)) (sym here) ∙ ap (λ ids. get (numbers_shown ids) e.0) whole ∙ id_there xs e rest.0 (subst AreAscending whole ascend)
+    rises : AreAscending held
+    rises = subst AreAscending (sym same) ascend
 
-    -- the numbers from this one on are above it, where the first isn't the number itself
-    beyond : AreParts ids (λ m. m < n) (λ m. n ≤ m) xs ys → ((e : ℕ × RcStr A) → Some e ≡ slice_get ys 0 → e.0 ≡ n → ⊥) → AreParts ids (λ m. m < n) (λ m. n < m) xs ys
-    beyond parted other = (parted.0, parted.1, from ys (ascending_behind xs ys (subst AreAscending parted.0 ascend)) parted.2 other)
-      where
-        from : (ys : List (ℕ × RcStr A)) → AreAscending ys → Each (λ m. n ≤ m) ys → ((e : ℕ × RcStr A) → Some e ≡ slice_get ys 0 → e.0 ≡ n → ⊥) → Each (λ m. n < m) ys
-        from [] h all other = tt
-        from (y ∷ ys) h all other =
-            let first : n < y.0 = omega (arith, other y refl, all.0) in
-            (first, each_as (λ m. y.0 < m) (λ m. n < m) (λ m lt. omega (arith, lt, first)) ys (above_first y ys h))
+    listed : entries N ≡ map octets held
+    listed = ap entries (sym shows) ∙ each_entry ids ascend ∙ ap (map octets) (sym same)
 
-    -- a number that is none
-    pub no_id : AreParts ids (λ m. m < n) (λ m. n ≤ m) xs ys → ((e : ℕ × RcStr A) → Some e ≡ slice_get ys 0 → e.0 ≡ n → ⊥) → get (numbers_shown ids) n ≡ None
-    no_id parted other = none_shown ids n
-        (each_of (λ m. m < n) (λ m. n < m) (λ m. m ≡ n → ⊥) (beyond parted other) (λ m lt e. omega (arith, lt, e)) (λ m lt e. omega (arith, lt, e)))
+    -- each entry has its id
+    each_has : AllByRecursion Has held
+    each_has = of_octets (λ e. get N e.0 ≡ Some e.1) held
+        (subst (AllByRecursion (λ e. get N e.0 ≡ Some e.1)) listed (got_all nat_cmp_total nat_cmp-IsAntisymmetric (λ k v. get N k ≡ Some v) N (λ k v g. g)))
 
-    pub next_above_is : AreParts ids (λ m. m ≤ n) (λ m. n < m) xs ys → (e : ℕ × RcStr A) → Some e ≡ slice_get ys 0
-        → IsNextAbove (numbers_shown ids) n e.0 × (get (numbers_shown ids) e.0 ≡ Some (rc_str_bytes e.1))
-    next_above_is parted e is =
-        let rest = begins_with ys e is in
-        let whole : ids ≡ xs ++ e ∷ rest.0 = parted.0 ∙ ap (λ ys. xs ++ ys) rest.1 in
-        let ordered = subst AreAscending whole ascend in
-        let here = ap (λ ids. get (numbers_shown ids) e.0) whole ∙ id_there xs e rest.0 ordered in
-        let least : Each (λ m. n < m → e.0 ≤ m) ids = subst (Each (λ m. n < m → e.0 ≤ m)) (sym whole)
-        (each-append (λ m. n < m → e.0 ≤ m) xs (e ∷ rest.0) (each_as (λ m. m ≤ n) (λ m. n < m → e.0 ≤ m) (λ m le lt. omega (arith, le, lt)) xs parted.1)
-        ((λ lt. omega arith), each_as (λ m. e.0 < m) (λ m. n < m → e.0 ≤ m) (λ m lt _. omega (arith, lt)) rest.0 (above_first e rest.0 (ascending_behind xs (e ∷ rest.0) ordered)))) in (
-          (
-            (subst (Each (λ m. n < m)) rest.1 parted.2).0,
-            ap is_some here,
-            λ m lt some. each_shown (λ m. n < m → e.0 ≤ m) ids least m some lt,
-          ),
-          here,
-        )
+    -- what holds of each entry's number holds of each number
+    each_shown : (P : ℕ → Type 0) → Each P held → (q : ℕ) → IsNumber N q → P q
+    each_shown P all q h =
+        let shown : IsNumber (numbers_shown held) q = subst (λ M. IsNumber M q) (sym (ap numbers_shown same ∙ shows)) h in
+        looked_up P held all q (grind (arith, get-shown nat_cmp (λ k. k) (λ v. rc_str_bytes v) nat_cmp_total held q))
 
-    pub none_above : AreParts ids (λ m. m ≤ n) (λ m. n < m) xs ys → None ≡ slice_get ys 0 → NoneAbove (numbers_shown ids) n
-    none_above parted none m lt =
-        let nil : Each (λ k. k ≤ n) ys = subst (Each (λ k. k ≤ n)) (sym (nothing ys none)) tt in
-        none_shown ids m (each_of (λ k. k ≤ n) (λ k. k ≤ n) (λ k. k ≡ m → ⊥) (parted.0, parted.1, nil) (λ k le e. omega (arith, le, lt, e)) (λ k le e. omega (arith, le, lt, e)))
+    pub none_is : held ≡ [] → (q : ℕ) → get N q ≡ None
+    none_is e q = none_of _ (each_shown (λ m. ⊥) (subst (Each (λ m. ⊥)) (sym e) tt) q)
 
-    pub next_below_is : AreParts ids (λ m. m < n) (λ m. n ≤ m) xs ys → (e : ℕ × RcStr A) → Some e ≡ slice_get xs (length xs - 1)
-        → IsNextBelow (numbers_shown ids) n e.0 × (get (numbers_shown ids) e.0 ≡ Some (rc_str_bytes e.1))
-    next_below_is parted e is =
-        let front = ends_with xs e is in
-        let whole : ids ≡ front.0 ++ e ∷ ys = parted.0 ∙ ap (λ xs. xs ++ ys) front.1 ∙ append_assoc front.0 (e ∷ []) ys in
-        let ordered = subst AreAscending whole ascend in
-        let here = ap (λ ids. get (numbers_shown ids) e.0) whole ∙ id_there front.0 e ys ordered in
-        let most : Each (λ m. m < n → m ≤ e.0) ids = subst (Each (λ m. m < n → m ≤ e.0)) (sym whole)
-        (each-append (λ m. m < n → m ≤ e.0) front.0 (e ∷ ys) (each_as (λ m. m < e.0) (λ m. m < n → m ≤ e.0) (λ m lt _. omega (arith, lt)) front.0 (below_there front.0 e ys ordered))
-        ((λ lt. omega arith), each_as (λ m. n ≤ m) (λ m. m < n → m ≤ e.0) (λ m le lt. omega (arith, le, lt)) ys parted.2)) in (
-          (
-            each_there (λ m. m < n) front.0 e [] (subst (Each (λ m. m < n)) front.1 parted.1),
-            ap is_some here,
-            λ m lt some. each_shown (λ m. m < n → m ≤ e.0) ids most m some lt,
-          ),
-          here,
-        )
+    pub least_is : (e : ℕ × RcStr A) → Some e ≡ slice_get held 0 → IsFirst N (Some e.0)
+    least_is e is = (
+      ap is_some (at_place Has held 0 e each_has is),
+      each_shown (λ m. e.0 ≤ m) (above e.0 [] held rises (λ f at. let same : e.0 ≡ f.0 = cc in omega arith)),
+    )
 
-    pub none_below : AreParts ids (λ m. m < n) (λ m. n ≤ m) xs ys → None ≡ slice_get xs (length xs - 1) → NoneBelow (numbers_shown ids) n
-    none_below parted none m lt =
-        let nil : Each (λ k. n ≤ k) xs = subst (Each (λ k. n ≤ k)) (sym (none_listed xs none)) tt in
-        none_shown ids m (each_of (λ k. n ≤ k) (λ k. n ≤ k) (λ k. k ≡ m → ⊥) (parted.0, nil, parted.2) (λ k le e. omega (arith, le, lt, e)) (λ k le e. omega (arith, le, lt, e)))
+    pub greatest_is : (e : ℕ × RcStr A) → Some e ≡ slice_get held (length held - 1) → IsLastOf N (Some e.0)
+    greatest_is e is = (
+      ap is_some (at_place Has held _ e each_has is),
+      each_shown (λ m. m ≤ e.0) (below e.0 held [] (subst AreAscending (sym (append-nil held)) rises) (λ f at. let same : e.0 ≡ f.0 = cc in omega arith)),
+    )
 
-    -- one number more, between both parts
-    pub one_put : (new : List (ℕ × RcStr A)) (id : RcStr A) → AreParts ids (λ m. m < n) (λ m. n ≤ m) xs ys → get (numbers_shown ids) n ≡ None → new ≡ list_insert ids (length xs) (n, id)
-        → AreAscending new × (numbers_shown new ≡ insert (numbers_shown ids) n (rc_str_bytes id))
-    one_put new id parted absent e =
-        let m = insert (numbers_shown ids) n (rc_str_bytes id) in
-        let apart = beyond parted (λ e is same. some_none (sym (id_is parted e is same) ∙ absent)) in
-        let whole : new ≡ xs ++ (n, id) ∷ ys = e ∙ ap (λ ids. list_insert ids (length xs) (n, id)) parted.0 ∙ put_at xs in
-        let listed : entries m ≡ map octets new =
-        entries-insert nat_cmp_total (numbers_shown ids) n (rc_str_bytes id) ∙ ap (put nat_cmp n (rc_str_bytes id)) (each_entry ids ascend ∙ ap (map octets) parted.0)
-        ∙ put_between n id xs ys apart.1 apart.2 ∙ ap (map octets) (sym whole) in
-        let rises : AreAscending new = ap (is_sorted nat_cmp) (sym listed) ∙ is_passed _ (entries_sorted m) in
-        (rises, same_entries_map (numbers_shown new) m (each_entry new rises ∙ sym listed))
-      where
-        put_at : (xs : List (ℕ × RcStr A)) → list_insert (xs ++ ys) (length xs) (n, id) ≡ xs ++ (n, id) ∷ ys
-        put_at [] = refl
-        put_at (x ∷ xs) = grind (arith, put_at xs)
+    module _ (xs ys : List (ℕ × RcStr A)) (n : ℕ) where
+      -- each number is one of a part
+      among : (P Q : ℕ → Type 0) → AreParts held P Q xs ys → (q : ℕ) → IsNumber N q → P q ⊎ Q q
+      among P Q parted = each_shown (λ m. P m ⊎ Q m) (subst (Each (λ m. P m ⊎ Q m)) (sym parted.0) (both xs ys parted.1 parted.2))
+        where
+          both : (xs ys : List (ℕ × RcStr A)) → Each P xs → Each Q ys → Each (λ m. P m ⊎ Q m) (xs ++ ys)
+          both [] [] p q = tt
+          both [] (y ∷ ys) p q = (inr q.0, both [] ys p q.1)
+          both (x ∷ xs) ys p q = (inl p.0, both xs ys p.1 q)
+
+      none_among : (P Q : ℕ → Type 0) → AreParts held P Q xs ys → (q : ℕ) → (P q → ⊥) → (Q q → ⊥) → get N q ≡ None
+      none_among P Q parted q p r = none_of _ (λ h. ⊎_elim p r (among P Q parted q h))
+
+      has_parts : held ≡ xs ++ ys → AllByRecursion Has xs × AllByRecursion Has ys
+      has_parts whole = in_parts Has xs ys (subst (AllByRecursion Has) whole each_has)
+
+      -- the id at a number
+      pub id_is : AreParts held (λ m. m < n) (λ m. n ≤ m) xs ys → (e : ℕ × RcStr A) → Some e ≡ slice_get ys 0 → e.0 ≡ n → get N n ≡ Some (rc_str_bytes e.1)
+      id_is parted e is here = subst (λ m. get N m ≡ Some (rc_str_bytes e.1)) here (at_place Has ys 0 e (has_parts parted.0).1 is)
+
+      -- the numbers from this one on are above it, where the first isn't the number itself
+      beyond : AreParts held (λ m. m < n) (λ m. n ≤ m) xs ys → ((e : ℕ × RcStr A) → Some e ≡ slice_get ys 0 → e.0 ≡ n → ⊥) → AreParts held (λ m. m < n) (λ m. n + 1 ≤ m) xs ys
+      beyond parted other = (
+        parted.0,
+        parted.1,
+        above (n + 1) xs ys (subst AreAscending parted.0 rises) (λ e is. omega (arith, other e is, at_place (λ f. n ≤ f.0) ys 0 e parted.2 is)),
+      )
+
+      -- a number that is none
+      pub no_id : AreParts held (λ m. m < n) (λ m. n ≤ m) xs ys → ((e : ℕ × RcStr A) → Some e ≡ slice_get ys 0 → e.0 ≡ n → ⊥) → get N n ≡ None
+      no_id parted other = none_among (λ m. m < n) (λ m. n + 1 ≤ m) (beyond parted other) n (λ lt. omega (arith, lt)) (λ lt. omega (arith, lt))
+
+      pub next_above_is : AreParts held (λ m. m ≤ n) (λ m. n < m) xs ys → (e : ℕ × RcStr A) → Some e ≡ slice_get ys 0
+          → IsNextAbove N n e.0 × (get N e.0 ≡ Some (rc_str_bytes e.1))
+      next_above_is parted e is =
+          let here = at_place Has ys 0 e (has_parts parted.0).1 is in
+          let rest = above e.0 xs ys (subst AreAscending parted.0 rises) (λ f at. let same : e.0 ≡ f.0 = cc in omega arith) in
+          let least = λ (m : ℕ) (lt : n < m) (some : IsNumber N m).
+          ⊎_elim (λ le. absurd (omega (arith, le, lt))) (λ le. le) (among (λ m. m ≤ n) (λ m. e.0 ≤ m) (parted.0, parted.1, rest) m some) in
+          ((at_place (λ f. n < f.0) ys 0 e parted.2 is, ap is_some here, least), here)
+
+      pub none_above : AreParts held (λ m. m ≤ n) (λ m. n < m) xs ys → None ≡ slice_get ys 0 → NoneAbove N n
+      none_above parted none m lt = none_among (λ k. k ≤ n) (λ k. ⊥) (parted.0, parted.1, subst (Each (λ k. ⊥)) (sym (nothing ys none)) tt) m (λ le. omega (arith, le, lt)) (λ no. no)
+
+      pub next_below_is : AreParts held (λ m. m < n) (λ m. n ≤ m) xs ys → (e : ℕ × RcStr A) → Some e ≡ slice_get xs (length xs - 1)
+          → IsNextBelow N n e.0 × (get N e.0 ≡ Some (rc_str_bytes e.1))
+      next_below_is parted e is =
+          let here = at_place Has xs _ e (has_parts parted.0).0 is in
+          let front = below e.0 xs ys (subst AreAscending parted.0 rises) (λ f at. let same : e.0 ≡ f.0 = cc in omega arith) in
+          let most = λ (m : ℕ) (lt : m < n) (some : IsNumber N m).
+          ⊎_elim (λ le. le) (λ le. absurd (omega (arith, le, lt))) (among (λ m. m ≤ e.0) (λ m. n ≤ m) (parted.0, front, parted.2) m some) in
+          ((at_place (λ f. f.0 < n) xs _ e parted.1 is, ap is_some here, most), here)
+
+      pub none_below : AreParts held (λ m. m < n) (λ m. n ≤ m) xs ys → None ≡ slice_get xs (length xs - 1) → NoneBelow N n
+      none_below parted none m lt = none_among (λ k. ⊥) (λ k. n ≤ k) (parted.0, subst (Each (λ k. ⊥)) (sym (none_listed xs none)) tt, parted.2) m (λ no. no) (λ le. omega (arith, le, lt))
+
+      -- one number more, between both parts
+      pub one_put : (new : List (ℕ × RcStr A)) (id : RcStr A) → AreParts held (λ m. m < n) (λ m. n ≤ m) xs ys → get N n ≡ None → new ≡ list_insert ids (length xs) (n, id)
+          → AreAscending new × (numbers_shown new ≡ insert N n (rc_str_bytes id))
+      one_put new id parted absent e =
+          let m = insert N n (rc_str_bytes id) in
+          let apart = beyond parted (λ f is here. let no : None ≡ Some (rc_str_bytes f.1) = sym absent ∙ id_is parted f is here in cc) in
+          let whole : new ≡ xs ++ (n, id) ∷ ys = e ∙ ap (λ ids. list_insert ids (length xs) (n, id)) (sym same ∙ parted.0) ∙ put_at xs in
+          let shown : entries m ≡ map octets new =
+          entries-insert nat_cmp_total N n (rc_str_bytes id) ∙ ap (put nat_cmp n (rc_str_bytes id)) (listed ∙ ap (map octets) parted.0)
+          ∙ put_between n id xs ys apart.1 apart.2 ∙ ap (map octets) (sym whole) in
+          let up : AreAscending new = ap (is_sorted nat_cmp) (sym shown) ∙ is_passed _ (entries_sorted m) in
+          (up, same_entries_map (numbers_shown new) m (each_entry new up ∙ sym shown))
+        where
+          put_at : (xs : List (ℕ × RcStr A)) → list_insert (xs ++ ys) (length xs) (n, id) ≡ xs ++ (n, id) ∷ ys
+          put_at [] = refl
+          put_at (x ∷ xs) = grind (arith, put_at xs)

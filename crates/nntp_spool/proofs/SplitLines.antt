@@ -4,12 +4,10 @@ use Rattle.std.proofs.{Common.{◌∙◌, arith}, lemmas.{Bool.{cases_lt, le-ltb
 use Rattle.std.{proofs.lemmas.List.Sums.{fails_before_first}, specs.{Prelude.{position}, List.{slice_split, onto_first}}}
 use Rattle.memchr.specs.Find.{IsFirstByte, is_byte}
 use Rattle.nntp_wire.proofs.ArgumentLemmas.{position-found}
+use Rattle.nntp_spool.proofs.MapEntries.{some_is, some_none}
 use Rattle.nntp_spool.specs.Reading.{next_line, segments_of, fault, is_end}
 use Rattle.nntp_article.specs.Article.Parts.{is_empty}
 use Rattle.nntp_spool.specs.declared.text.read_fault.Kind.TheVariants as kinds
-
-abbrev some : ℕ → Option ℕ
-some n = Some n
 
 abbrev pub segments_at : ℕ → List ℕ → List (List ℕ)
 segments_at c bytes = slice_split (λ x. eqb x c) bytes
@@ -24,22 +22,16 @@ first_segment c (x ∷ bytes) =
       | false ↦ (x ∷ rest.0, rest.1, ap (onto_first x) rest.2)
     ]
 
-some_is : (m n : ℕ) → some m ≡ some n → m ≡ n
-some_is m n e = cc
-
-some_is_none : (m : ℕ) → some m ≡ None → ⊥
-some_is_none m e = cc
-
 -- what a search for an octet found is its first place
 pub first_place : (c : ℕ) (bytes : List ℕ) (r : Option ℕ) → IsFirstByte (is_byte c) bytes r → position (λ x. eqb x c) bytes ≡ r
 first_place c bytes r none = grind (arith, position-found, le-ltb, lt-ltb)
 
 -- the first octet c is at this place
 pub segments_found : (c : ℕ) (bytes : List ℕ) (at : ℕ) → position (λ x. eqb x c) bytes ≡ Some at → segments_at c bytes ≡ take at bytes ∷ segments_at c (drop (at + 1) bytes)
-segments_found c bytes at e = grind (arith, cases_lt, some_is, lt-ltb, slice_split_first, some_is_none, le-ltb)
+segments_found c bytes at e = grind (arith, cases_lt, some_is, lt-ltb, slice_split_first, some_none, le-ltb)
 
 pub segments_none : (c : ℕ) (bytes : List ℕ) → position (λ x. eqb x c) bytes ≡ None → segments_at c bytes ≡ bytes ∷ []
-segments_none c bytes e = grind (arith, cases_lt, some_is_none, lt-ltb, slice_split_none, fails_before_first)
+segments_none c bytes e = grind (arith, cases_lt, some_none, lt-ltb, slice_split_none, fails_before_first)
 
 -- the next line of a text
 pub line_found : (line : ℕ) (bytes : List ℕ) (at : ℕ) → position (λ x. eqb x 10) bytes ≡ Some at

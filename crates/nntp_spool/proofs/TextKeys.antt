@@ -1,5 +1,5 @@
 -- Octets that aren't text are no key.
-use Rattle.std.proofs.{Common.{◌≡◌, true, false, ℕ, List, [], ◌∷◌, None, refl, sym, subst, ◌∙◌}, lemmas.{Str.{IsUtf8-string_bytes}, Map.Text.{is_eq-slice_cmp}}}
+use Rattle.std.proofs.{Common.{◌≡◌, true, false, ℕ, List, [], ◌∷◌, None, refl, sym, subst, ◌∙◌}, lemmas.{Bool.{false_from_ne_true}, Str.{IsUtf8-string_bytes}, Map.Text.{is_eq-slice_cmp}}}
 use Rattle.std.{proofs.lemmas.Slice.Eq.{bytes_eq-Decides}, specs.{Prelude.{String}, Ordering.{nat_cmp, is_eq}, Cmp.Lexicographic.{slice_cmp}, Map.{lookup}}}
 use Rattle.std.specs.{Str.{IsUtf8}, declared.rc.RcStr.{RcStr}, Rc.{rc_str_bytes}, String.{string_bytes}}
 
@@ -8,11 +8,7 @@ key_is_text k = IsUtf8-string_bytes k.text.value
 
 module _ {L : Type 0} (key : L → List ℕ) (text : (k : L) → IsUtf8 (key k)) (q : List ℕ) (not_text : IsUtf8 q → ⊥) where
   other : (k : L) → is_eq (slice_cmp nat_cmp q (key k)) ≡ false
-  other k =
-      elim (is_eq (slice_cmp nat_cmp q (key k))) as (λ b. is_eq (slice_cmp nat_cmp q (key k)) ≡ b → b ≡ false) [
-        | true ↦ λ t. absurd (not_text (subst IsUtf8 (sym ((bytes_eq-Decides q (key k)).0 (sym (is_eq-slice_cmp q (key k)) ∙ t))) (text k)))
-        | false ↦ λ t. refl
-      ] refl
+  other k = false_from_ne_true _ (λ t. not_text (subst IsUtf8 (sym ((bytes_eq-Decides q (key k)).0 (sym (is_eq-slice_cmp q (key k)) ∙ t))) (text k)))
 
   none_tied : {X : Type 0} (es : List (L × X)) → lookup (λ k. is_eq (slice_cmp nat_cmp q (key k))) es ≡ None
   none_tied [] = refl

@@ -1,6 +1,6 @@
 -- The text of a whole spool is read as this spool.
 use Rattle.std.proofs.Common.{◌≡◌, ℕ, ◌+◌, ◌^◌, ◌<◌, ◌≤◌, Bool, true, List, [], ◌∷◌, ◌++◌, Ok, length, map, refl, sym, ap, ◌∙◌, append_assoc, arith}
-use Rattle.std.proofs.{Common.{length-append}, lemmas.{Bool.{and_from, and_parts, Decides.{nat_tests}}, List.{length-map, Folds.{list_all-append}}}}
+use Rattle.std.proofs.{Common.{length-append}, lemmas.{Bool.{and_from, and_parts, Decides.{nat_tests}}, List.{length-map, Folds.{list_all-append, list_all-map}}}}
 use Rattle.std.specs.{Prelude.{codes}, Fmt.{decimal}, Ordering.{nat_cmp}, Cmp.{nat_cmp_total, Lexicographic.{slice_cmp, nat_list_cmp_total}}, List.{list_all}}
 use Rattle.std.specs.{List.{flat_map, AllByRecursion}, FinMap.{entries, len, nat_cmp-IsAntisymmetric}}
 use Rattle.nntp_wire.specs.{Limit.{greatest}, declared.limit.Limit.{Limit}}
@@ -9,7 +9,7 @@ use Rattle.nntp_spool.specs.{Limited.{LimitedSpool}, Inner.{Text.{HasLineCounts}
 use Rattle.nntp_spool.specs.Text.{article_line, barred, group_lines, article_lines, limit_lines, content_lines, spool_lines, spool_text, with_line_ends}
 use Rattle.nntp_spool.{specs.{Reading.{segments_of, limit_at, content_at, spool_at}, Content.{no_spool, ids_have_articles}}, proofs.MapEntries.{all_got}}
 use Rattle.nntp_spool.proofs.{MapEntries.{got_all}, LineFields.{lacks, lacks-append, lacks-digits, are_digits-decimal, parts_front, list_all_weaken}}
-use Rattle.nntp_spool.proofs.{NameOctets.{name-lacks, id-lacks}, ShownMaps.{octet_keys}, NumbersInOrder.{few_numbers}, LimitLines.{greatest_small}}
+use Rattle.nntp_spool.proofs.{NameOctets.{name-lacks, id-lacks}, ShownMaps.{octet_keys}, NumbersInOrder.{few_numbers, passed_all}, NumbersRead.{num_below}, LimitLines.{greatest_small}}
 use Rattle.nntp_spool.proofs.{LimitLines.{some_limit_line, limit_again}, ItemsOfText.{no_entries, groups_again, first_lines, tail_lines}}
 
 -- ---- lines have no line feed inside
@@ -25,8 +25,7 @@ clean-flat f [] h = refl
 clean-flat f (x ∷ xs) h = clean-append (f x) (flat_map f xs) h.0 (clean-flat f xs h.1)
 
 clean-map : {X : Type 0} (f : X → Line) (xs : List X) → AllByRecursion (λ x. lacks 10 (f x) ≡ true) xs → clean (map f xs) ≡ true
-clean-map f [] h = refl
-clean-map f (x ∷ xs) h = and_from (lacks 10 (f x)) (clean (map f xs)) h.0 (clean-map f xs h.1)
+clean-map f xs h = list_all-map (lacks 10) f xs ∙ passed_all (λ x. lacks 10 (f x)) xs h
 
 spaced-lacks : (xs ys : List ℕ) → lacks 10 xs ≡ true → lacks 10 ys ≡ true → lacks 10 (xs ++ 32 ∷ ys) ≡ true
 spaced-lacks xs ys h g = lacks-append 10 xs (32 ∷ ys) h g
@@ -34,15 +33,12 @@ spaced-lacks xs ys h g = lacks-append 10 xs (32 ∷ ys) h g
 decimal-lacks : (n : ℕ) → n < 2 ^ 64 → lacks 10 (decimal n) ≡ true
 decimal-lacks n lt = lacks-digits 10 (decimal n) (omega arith) (are_digits-decimal n lt)
 
-num-small : (limit n : ℕ) → limit < 2 ^ 64 → is_article_number limit n ≡ true → n < 2 ^ 64
-num-small limit n le h = grind (arith, nat_tests, and_parts)
-
 clean-group : (limit : ℕ) (name : Name) (N : Numbers) → limit < 2 ^ 64 → len N < 2 ^ 64 → IsNamed limit name N → clean (group_lines (name, N)) ≡ true
 clean-group limit name N le small named =
     let first = spaced-lacks (codes "group") (name ++ 32 ∷ decimal (len N)) refl
     (grind (arith, spaced-lacks, name-lacks, decimal-lacks)) in
     let each = got_all nat_cmp_total nat_cmp-IsAntisymmetric (λ n id. lacks 10 (number_line n id) ≡ true) N (λ n id g.
-    let is = named.numbers.each n id g in spaced-lacks (decimal n) id (decimal-lacks n (num-small limit n le is.0)) (id-lacks 10 id (omega arith) is.1)) in
+    let is = named.numbers.each n id g in spaced-lacks (decimal n) id (decimal-lacks n (num_below limit n le is.0)) (id-lacks 10 id (omega arith) is.1)) in
     and_from (lacks 10 (group_line name (len N))) (clean (map (λ e. number_line e.0 e.1) (entries N))) first (clean-map (λ e. number_line e.0 e.1) (entries N) each)
 
 line-lacks : (l : Line) → is_line l ≡ true → lacks 10 l ≡ true
@@ -56,8 +52,7 @@ clean-article id t h b is =
     (clean-append (barred t.head) (barred t.body) (barred-clean t.head is.head_lines) (barred-clean t.body is.body_lines))
   where
     barred-clean : (lines : List Line) → list_all is_line lines ≡ true → clean (barred lines) ≡ true
-    barred-clean [] h = refl
-    barred-clean (l ∷ lines) h = let both = and_parts (is_line l) (list_all is_line lines) h in and_from (lacks 10 (124 ∷ l)) (clean (barred lines)) (line-lacks l both.0) (barred-clean lines both.1)
+    barred-clean lines h = list_all-map (lacks 10) (λ l. 124 ∷ l) lines ∙ list_all_weaken is_line (λ l. lacks 10 (124 ∷ l)) line-lacks lines h
 
 clean-content : (limit : ℕ) (F : Spool) → limit < 2 ^ 64 → IsContent limit F → HasLineCounts F → clean (content_lines F) ≡ true
 clean-content limit F le content sizes =
@@ -72,9 +67,6 @@ clean-content limit F le content sizes =
 
 clean-limit : (limit : Limit) → clean (limit_lines limit) ≡ true
 clean-limit limit = grind arith
-
-clean-text : (L : LimitedSpool) → IsContent (greatest L.limit) L.spool → HasLineCounts L.spool → clean (spool_lines L) ≡ true
-clean-text L content sizes = clean-append (limit_lines L.limit) (content_lines L.spool) (clean-limit L.limit) (clean-content (greatest L.limit) L.spool (greatest_small L.limit) content sizes)
 
 segments_of-with_line_ends : (lines : List Line) → clean lines ≡ true → segments_of (with_line_ends lines) ≡ lines ++ [] ∷ []
 segments_of-with_line_ends [] h = refl
@@ -100,16 +92,10 @@ length-text : (L : LimitedSpool) → length (flat_map group_lines (entries L.spo
 length-text L =
     let groups = flat_map group_lines (entries L.spool.groups) in
     let articles = flat_map article_lines (entries L.spool.articles) in
-    omega (
-      arith,
-      length-with_line_ends (spool_lines L),
-      length-append (limit_lines L.limit)
-          (content_lines L.spool),
-      some_limit_line L.limit,
-      length-append groups
-          (articles ++ codes "end" ∷ []),
-      length-append articles (codes "end" ∷ []),
-    )
+    let inner = length-append groups (articles ++ codes "end" ∷ []) in
+    let last = length-append articles (codes "end" ∷ []) in
+    let outer = length-append (limit_lines L.limit) (content_lines L.spool) in
+    omega (arith, length-with_line_ends (spool_lines L), some_limit_line L.limit)
 
 pub counted : (L : LimitedSpool) → length (spool_text L) < 2 ^ 64 → HasLineCounts L.spool
 counted L lt =
@@ -140,18 +126,11 @@ text_again L content sizes known =
     let groups = entries L.spool.groups in
     let texts = entries L.spool.articles in
     let behind = flat_map group_lines groups ++ tail_lines texts in
+    let clean = clean-append (limit_lines L.limit) (content_lines L.spool) (clean-limit L.limit) (clean-content (greatest L.limit) L.spool (greatest_small L.limit) content sizes) in
     let lines : segments_of (spool_text L) ≡ limit_lines L.limit ++ behind =
-    segments_of-with_line_ends (spool_lines L) (clean-text L content sizes)
-    ∙ append_assoc (limit_lines L.limit) (content_lines L.spool) ([] ∷ [])
-    ∙ ap (λ (ps : List Line). limit_lines L.limit ++ ps)
-    (append_assoc (flat_map group_lines groups) (flat_map article_lines texts ++ codes "end" ∷ []) ([] ∷ [])
-    ∙ ap (λ (ps : List Line). flat_map group_lines groups ++ ps)
-    (append_assoc (flat_map article_lines texts) (codes "end" ∷ []) ([] ∷ []))) in
+    segments_of-with_line_ends (spool_lines L) clean ∙ simp append_assoc in
     let front = first_lines groups texts in
     let most : length groups + length texts < length (spool_text L) =
     omega (arith, length-text L, enough group_lines groups (λ g. omega arith), enough article_lines texts (λ a. omega arith)) in
-    let first = limit_again L.limit front.0 front.1 in
-    let limit : limit_at (record { line = 1; segments = segments_of (spool_text L) }) ≡ Ok (L.limit, record { line = first.0; segments = behind }) =
-    ap (λ (ps : List Line). limit_at (record { line = 1; segments = ps })) (lines ∙ ap (λ (ps : List Line). limit_lines L.limit ++ ps) front.2)
-    ∙ first.1 ∙ ap (λ (ps : List Line). Ok (L.limit, record { line = first.0; segments = ps })) (sym front.2) in
-    rw (limit, content_again (greatest L.limit) (length (spool_text L)) first.0 L.spool (greatest_small L.limit) content sizes known most) refl
+    let first = limit_again L.limit behind front.0 front.1 front.2 in
+    rw (lines, first.1, content_again (greatest L.limit) (length (spool_text L)) first.0 L.spool (greatest_small L.limit) content sizes known most) refl

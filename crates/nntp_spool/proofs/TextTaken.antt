@@ -22,9 +22,8 @@ pub text_takes : (octets : List ℕ) (L : LimitedSpool) → spool_at octets ≡ 
 unfolding spool_at
 text_takes octets L e =
     let start : Place = record { line = 1; segments = segments_of octets } in
-    let made = λ (limit : Limit) (S : Spool). done (record { limit = limit; spool = S }) in
-    let a = bind_ok (limit_at start) (λ l. content_at (greatest l.0) (length octets) l.1 >>= made l.0) L e in
-    let b = bind_ok (content_at (greatest a.0.0) (length octets) a.0.1) (made a.0.0) L a.2 in
+    let a = bind_ok (limit_at start) _ L e in
+    let b = bind_ok (content_at (greatest a.0.0) (length octets) a.0.1) _ L a.2 in
     by a.0 b.0 (limit_takes start a.0 a.1) b.1 (ok_is _ L b.2)
   where
     by : (l : Limit × Place) (S : Spool) → segments_of octets ≡ limit_lines l.0 ++ l.1.segments → content_at (greatest l.0) (length octets) l.1 ≡ Ok S

@@ -5,22 +5,15 @@ use Rattle.std.{proofs.lemmas.List.Folds.{list_all-append}, specs.{Prelude.{unwr
 use Rattle.std.specs.{Ordering.{nat_cmp}, Cmp.{nat_cmp_total, Lexicographic.{nat_list_cmp_total, bytes_decides}}, FinMap.{get, empty, entries, get-empty}}
 use Rattle.std.specs.FinMap.{nat_cmp-IsAntisymmetric}
 use Rattle.nntp_wire.{proofs.DecidedLemmas.{group_name-iff, message_id-iff}, specs.Limit.{greatest}}
-use Rattle.nntp_spool.proofs.{LineFields.{list_all_weaken}, MapEntries.{all_got, got_all}, NumbersInOrder.{no_numbers, all_passed}, NumbersRead.{ok_is}}
+use Rattle.nntp_spool.proofs.{LineFields.{list_all_weaken}, MapEntries.{empty_has, all_got, got_all}, NumbersInOrder.{no_numbers, all_passed, passed_all}, NumbersRead.{num_between, ok_is}}
 use Rattle.nntp_spool.{proofs.{ShownMaps.{octet_keys}, TextTaken.{text_takes}, TextReadAgain.{text_again, counted}}, specs.Content.{all_known}}
 use Rattle.nntp_spool.specs.{Content.{ids_have_articles}, Inner.{Content.{IdsHaveArticles, AreNumbers, IsNamed, IsContent}, Text.{IsWritten}}}
 use Rattle.nntp_spool.specs.{Reading.{spool_at}, declared.text.read_fault.ReadFault.{ReadFault}, Limited.{LimitedSpool, IsWithinLimit}, Text.{spool_text}}
 use Rattle.nntp_article.specs.{Article.Parts.{Line, Id, is_clean_head, said_id}, Session.{Machine.{is_article_number, says_own_id, is_same}, Spool.{Name}}}
 use Rattle.nntp_article.specs.Session.Spool.{Spool, Numbers, numbers, IsSpool, is_line}
 
-value_of_some : {A : Type 0} (o : Option A) → IsSome o → (x : A) × (o ≡ Some x)
+pub value_of_some : {A : Type 0} (o : Option A) → IsSome o → (x : A) × (o ≡ Some x)
 value_of_some o h = grind arith
-
-pub passed_all : {X : Type 0} (p : X → Bool) (xs : List X) → AllByRecursion (λ x. p x ≡ true) xs → list_all p xs ≡ true
-passed_all p [] h = refl
-passed_all p (x ∷ xs) h = and_from (p x) (list_all p xs) h.0 (passed_all p xs h.1)
-
-num_between : (limit n : ℕ) → is_article_number limit n ≡ true → (1 ≤ n) × (n ≤ limit)
-num_between limit n h = (grind (arith, nat_tests, and_parts), grind (arith, nat_tests, and_parts))
 
 num_is : (limit n : ℕ) → 1 ≤ n → n ≤ limit → is_article_number limit n ≡ true
 num_is limit n a b = grind (arith, nat_tests)
@@ -45,10 +38,7 @@ module _ (limit : ℕ) (S : Spool) where
   known_ids known name n id g = by (get S.groups name) refl g
     where
       by : (o : Option Numbers) → get S.groups name ≡ o → get (unwrap_or o empty) n ≡ Some id → IsSome (get S.articles id)
-      by None e g = absurd (none id (sym (get-empty nat_cmp n) ∙ g))
-        where
-          none : (id : List ℕ) → None ≡ Some id → ⊥
-          none id e = cc
+      by None e g = absurd (empty_has nat_cmp n id g)
       by (Some N) e g =
           let all = all_got nat_list_cmp_total octet_keys (λ name N. all_known S N ≡ true) S.groups (all_passed (λ g. all_known S g.1) (entries S.groups) known) name N e in
           all_got nat_cmp_total nat_cmp-IsAntisymmetric (λ n id. is_some (get S.articles id) ≡ true) N (all_passed (λ e. is_some (get S.articles e.1)) (entries N) all) n id g

@@ -1,7 +1,8 @@
 -- What a writer took after several calls.
-use Rattle.std.proofs.Common.{arith, ◌≡◌, ℕ, ◌<◌, ◌+◌, List, [], ◌∷◌, ◌++◌, Option, Result, Ok, Err, length, get_or, take, drop, drop-cons, add-one, subst}
-use Rattle.std.{proofs.{Common.{refl, sym, ap, ◌∙◌, append_assoc}, lemmas.List.{append-nil, take-append-drop}}, specs.Io.KnownBytes.{Appends}}
-use Rattle.nntp_spool.specs.{Writing.{Wrote}, Inner.Writing.{WritesBut}, Watched.{inner_of}, declared.watched.Watched.{Watched}}
+use Rattle.std.proofs.Common.{arith, ◌≡◌, ℕ, false, List, [], ◌∷◌, ◌++◌, Option, Result, Ok, Err, take, drop, subst}
+use Rattle.std.{proofs.{Common.{refl, sym, ap, ◌∙◌, append_assoc}, lemmas.List.{append-nil, take-append-drop}}, specs.{Io.KnownBytes.{Appends}, Prelude.{◌||◌}}}
+use Rattle.nntp_spool.specs.{Writing.{Wrote}, Inner.{Writing.{WritesBut}, Buffering.{taken, waiting, writer_failed, IsSameWriter}}, Watched.{inner_of}}
+use Rattle.nntp_spool.specs.declared.{buffered_output.BufferedOutput.{BufferedOutput}, watched.Watched.{Watched}}
 
 Appends-nil : (a : Option (List ℕ)) → Appends a a []
 Appends-nil a = grind (arith, append-nil)
@@ -12,10 +13,6 @@ Appends-then a b c x y h g = grind (arith, append_assoc)
 Wrote-start : (a : Option (List ℕ)) (whole : List ℕ) → Wrote a a whole whole
 Wrote-start a whole = ([], refl, Appends-nil a)
 
--- before the first of several calls
-pub Wrote-all : (a : Option (List ℕ)) (waiting whole rest : List ℕ) → whole ≡ rest → Wrote a a (waiting ++ whole) (waiting ++ rest)
-Wrote-all a waiting whole rest e = subst (λ (t : List ℕ). Wrote a a (waiting ++ whole) (waiting ++ t)) e (Wrote-start a (waiting ++ whole))
-
 -- a call stopped before this rest of what waited and its octets
 pub Wrote-on : (a b c : Option (List ℕ)) (whole waiting x y rest : List ℕ) → Wrote a b whole (waiting ++ (x ++ y)) → Wrote b c (waiting ++ x) rest → Wrote a c whole (rest ++ y)
 Wrote-on a b c whole waiting x y rest h g = grind (arith, append_assoc, Appends-then)
@@ -23,18 +20,44 @@ Wrote-on a b c whole waiting x y rest h g = grind (arith, append_assoc, Appends-
 pub Wrote-take : (a b c : Option (List ℕ)) (whole rest : List ℕ) (n : ℕ) → Wrote a b whole rest → Appends b c (take n rest) → Wrote a c whole (drop n rest)
 Wrote-take a b c whole rest n h g = search (arith, take-append-drop, append_assoc, Appends-then)
 
--- one more of items whose texts stand one after the other
-module _ {X : Type 0} (T : List X → List ℕ) (f : X → List ℕ) (law : (x : X) (xs : List X) → T (x ∷ xs) ≡ f x ++ T xs) where
-  pub Wrote-head : (a b c : Option (List ℕ)) (whole waiting : List ℕ) (xs : List X) (x : X) (more : List X) (piece rest : List ℕ) → xs ≡ x ∷ more → piece ≡ f x
-      → Wrote a b whole (waiting ++ T xs) → Wrote b c (waiting ++ piece) rest → Wrote a c whole (rest ++ T more)
-  Wrote-head a b c whole waiting xs x more piece rest e is h g =
-      Wrote-on a b c whole waiting (f x) (T more) rest (subst (λ (t : List ℕ). Wrote a b whole (waiting ++ t)) (ap T e ∙ law x more) h)
-      (subst (λ (t : List ℕ). Wrote b c (waiting ++ t) rest) is g)
+-- items, the text of several of them, one after the other, and of each
+pub record Texts (X : Type 0) : Type 0 where
+  pub all : List X → List ℕ
+  pub one : X → List ℕ
+  pub law : (x : X) (xs : List X) → all (x ∷ xs) ≡ one x ++ all xs
 
-  -- of the items of a slice
-  pub Wrote-item : (a b c : Option (List ℕ)) (whole waiting : List ℕ) (xs : List X) (i : ℕ) (d : X) (piece rest : List ℕ) → i < length xs → piece ≡ f (get_or xs i d)
-      → Wrote a b whole (waiting ++ T (drop i xs)) → Wrote b c (waiting ++ piece) rest → Wrote a c whole (rest ++ T (drop (i + 1) xs))
-  Wrote-item a b c whole waiting xs i d piece rest lt is h g = search (arith, Wrote-head, add-one, drop-cons)
+-- of a whole text so much was passed on to a writer that this much is left
+pub record Buffered {W : Type 0} (told : W → Option (List ℕ)) (old new : BufferedOutput W) (whole left : List ℕ) : Type 0 where
+  pub wrote : Wrote (taken told old) (taken told new) (waiting old ++ whole) (waiting new ++ left)
+  pub same : writer_failed new ≡ writer_failed old
+  pub writer : IsSameWriter old new
+
+-- nothing was yet
+pub starts : {W : Type 0} (told : W → Option (List ℕ)) (old : BufferedOutput W) (whole left : List ℕ) → whole ≡ left → Buffered told old old whole left
+starts told old whole left e = record {
+  wrote = subst (λ (t : List ℕ). Wrote (taken told old) (taken told old) (waiting old ++ whole) (waiting old ++ t)) e (Wrote-start _ (waiting old ++ whole));
+  same = refl;
+  writer = refl;
+}
+
+-- the text of the first item that is left is passed on
+module _ {X W : Type 0} (t : Texts X) (told : W → Option (List ℕ)) (old mid : BufferedOutput W) (whole : List ℕ) (xs more : List X) (x : X) (piece : List ℕ)
+    (first : xs ≡ x ∷ more) (is : piece ≡ t.one x) (so_far : Buffered told old mid whole (t.all xs)) where
+  next : (b : Option (List ℕ)) (rest : List ℕ) → Wrote (taken told mid) b (waiting mid ++ piece) rest
+      → Wrote (taken told old) b (waiting old ++ whole) (rest ++ t.all more)
+  next b rest put =
+      let text : t.all xs ≡ piece ++ t.all more = ap t.all first ∙ t.law x more ∙ ap (λ (u : List ℕ). u ++ t.all more) (sym is) in
+      let before = subst (λ (u : List ℕ). Wrote (taken told old) (taken told mid) (waiting old ++ whole) (waiting mid ++ u)) text so_far.wrote in
+      Wrote-on _ _ b (waiting old ++ whole) (waiting mid) piece (t.all more) rest before put
+
+  pub goes_on : (new : BufferedOutput W) → Wrote (taken told mid) (taken told new) (waiting mid ++ piece) (waiting new) → writer_failed new ≡ (writer_failed mid || false)
+      → IsSameWriter mid new → Buffered told old new whole (t.all more)
+  goes_on new put works same = record { wrote = next _ (waiting new) put; same = grind (arith, so_far.same); writer = same ∙ so_far.writer }
+
+  -- after a fault only a front of it
+  pub stops : (b : Option (List ℕ)) → (left : List ℕ) × Wrote (taken told mid) b (waiting mid ++ piece) left
+      → (left : List ℕ) × Wrote (taken told old) b (waiting old ++ whole) left
+  stops b w = (_, next b w.0 w.1)
 
 -- a call that is to write all that is left
 pub Wrote-last : (a b c : Option (List ℕ)) (whole y rest : List ℕ) → Wrote a b whole y → Wrote b c y rest → Wrote a c whole rest

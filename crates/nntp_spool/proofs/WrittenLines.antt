@@ -1,9 +1,11 @@
 -- What a writer took of lines.
-use Rattle.std.proofs.{Common.{arith, ◌≡◌, ℕ, List, [], ◌∷◌, ◌++◌, Option, subst, sym, ap}, lemmas.List.{append-nil, Concat.{flat_map-append}}}
+use Rattle.std.proofs.{Common.{arith, ◌≡◌, ℕ, List, [], ◌∷◌, ◌++◌, Option, subst, refl, sym, ap, map as list_map}, lemmas.List.{append-nil, Concat.{flat_map-append}}}
+use Rattle.std.specs.{Prelude.{String}, List.{flat_map}, declared.rc.RcStr.{RcStr}, Rc.{rc_str_bytes}, String.{string_bytes}}
 use Rattle.nntp_wire.specs.declared.limit.Limit.{Limit}
-use Rattle.nntp_article.specs.Session.Spool.{Spool}
-use Rattle.nntp_spool.specs.{Limited.{LimitedSpool}, Text.{with_line_ends, group_line, article_line, limit_lines, content_lines, spool_text}, Writing.{Wrote}}
-use Rattle.nntp_spool.proofs.Written.{Wrote-on, Wrote-first}
+use Rattle.nntp_article.specs.Session.Spool.{Spool, Numbers}
+use Rattle.nntp_spool.specs.{Limited.{LimitedSpool}, Text.{with_line_ends, group_line, number_line, article_line, limit_lines, content_lines, spool_text}}
+use Rattle.nntp_spool.specs.{Text.{barred, group_lines, article_lines}, Writing.{Wrote}, declared.value.article.StoredArticle.{StoredArticle}}
+use Rattle.nntp_spool.{specs.Inner.ArticleLines.{text_stored}, proofs.Written.{Wrote-on, Wrote-first, Texts}}
 
 pub with_line_ends-cons : (line : List ℕ) (lines : List (List ℕ)) → with_line_ends (line ∷ lines) ≡ with_line_ends (line ∷ []) ++ with_line_ends lines
 with_line_ends-cons line lines = ap (λ (t : List ℕ). t ++ with_line_ends lines) (sym (append-nil (line ++ 10 ∷ [])))
@@ -49,3 +51,29 @@ Limit-first start a b waiting limit L S rest same none e f g =
     let first = subst (λ (l : Limit). Wrote a b (waiting ++ with_line_ends (limit_lines l)) rest) e g in
     let all = Lines-first a b waiting (limit_lines L.limit) (content_lines S) rest first in
     grind arith
+
+-- ---- the texts of a loop's items
+
+abbrev pub barred_texts : Texts (List ℕ)
+barred_texts = record { all = λ lines. with_line_ends (barred lines); one = λ line. 124 ∷ line ++ 10 ∷ []; law = λ x xs. refl }
+
+abbrev pub number_texts : {A : Type 0} → Texts (ℕ × RcStr A)
+number_texts = record {
+  all = λ es. with_line_ends (list_map (λ e. number_line e.0 (rc_str_bytes e.1)) es);
+  one = λ e. with_line_ends (number_line e.0 (rc_str_bytes e.1) ∷ []);
+  law = λ x xs. with_line_ends-cons (number_line x.0 (rc_str_bytes x.1)) (list_map (λ e. number_line e.0 (rc_str_bytes e.1)) xs);
+}
+
+abbrev pub group_texts : {A : Type 0} → Texts (String A × Numbers)
+group_texts = record {
+  all = λ es. with_line_ends (flat_map group_lines (list_map (λ e. (string_bytes e.0, e.1)) es));
+  one = λ e. with_line_ends (group_lines (string_bytes e.0, e.1));
+  law = λ x xs. with_line_ends-append (group_lines (string_bytes x.0, x.1)) _;
+}
+
+abbrev pub article_texts : {A : Type 0} → Texts (RcStr A × StoredArticle A)
+article_texts = record {
+  all = λ es. with_line_ends (flat_map article_lines (list_map (λ e. (rc_str_bytes e.0, text_stored e.1)) es));
+  one = λ e. with_line_ends (article_lines (rc_str_bytes e.0, text_stored e.1));
+  law = λ x xs. with_line_ends-append (article_lines (rc_str_bytes x.0, text_stored x.1)) _;
+}

@@ -6,19 +6,9 @@ use Rattle.nntp_spool.proofs.text.fields.article_opening.Goals.{then-ne-via-then
 use Rattle.nntp_spool.proofs.text.fields.article_opening.Goals.{in_default-via-in_default}
 use Rattle.nntp_spool.proofs.text.fields.article_opening.Goals as goal
 
--- four tests, of which one fails
-module _ {A : Type 0} (x : A) where
-  abbrev tested : Bool → Bool → Bool → Bool → Option A
-  tested a b c d = if a && b && c && d then Some x else None
-
-  second : (a b c d : Bool) → b ≡ false → None ≡ tested a b c d
-  second a b c d e = grind arith
-
-  third : (a b c d : Bool) → c ≡ false → None ≡ tested a b c d
-  third a b c d e = grind arith
-
-  fourth : (a b c d : Bool) → d ≡ false → None ≡ tested a b c d
-  fourth a b c d e = grind arith
+-- four tests, of which one of the last three fails
+untested : {A : Type 0} (x : A) (a b c d : Bool) → (b && c && d) ≡ false → None ≡ (if a && b && c && d then Some x else None)
+untested x a b c d e = grind arith
 
 -- what a count was read as
 no_count : (is : Bool) (v : ℕ) → None ≡ (if is then Some v else None) → is ≡ false
@@ -35,14 +25,17 @@ module _ (word id heads bodies : List ℕ) where
   no_word : bytes_eq word (codes "article") ≡ false → None ≡ opened
   no_word e = rw e refl
 
+  refused : (not (is_empty id) && is_count heads && is_count bodies) ≡ false → None ≡ opened
+  refused e = untested said (bytes_eq word (codes "article")) (not (is_empty id)) (is_count heads) (is_count bodies) e
+
   no_id : not (is_empty id) ≡ false → None ≡ opened
-  no_id e = second said (bytes_eq word (codes "article")) (not (is_empty id)) (is_count heads) (is_count bodies) e
+  no_id e = refused (rw e refl)
 
   no_heads : None ≡ (if is_count heads then Some (value_of heads) else None) → None ≡ opened
-  no_heads e = third said (bytes_eq word (codes "article")) (not (is_empty id)) (is_count heads) (is_count bodies) (no_count (is_count heads) (value_of heads) e)
+  no_heads e = refused (let is = no_count (is_count heads) (value_of heads) e in grind arith)
 
   no_bodies : None ≡ (if is_count bodies then Some (value_of bodies) else None) → None ≡ opened
-  no_bodies e = fourth said (bytes_eq word (codes "article")) (not (is_empty id)) (is_count heads) (is_count bodies) (no_count (is_count bodies) (value_of bodies) e)
+  no_bodies e = refused (let is = no_count (is_count bodies) (value_of bodies) e in grind arith)
 
 pub returns-then-ne : goal.returns-then-ne
 returns-then-ne c = grind (arith, no_word, not-true, no_id, length_is_empty)

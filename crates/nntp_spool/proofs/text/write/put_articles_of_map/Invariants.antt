@@ -1,13 +1,8 @@
-use Rattle.std.{proofs.Common.{◌≡◌, ◌++◌, map as list_map}, specs.{List.{flat_map}, FinMap.{entries}, Rc.{rc_str_bytes}}}
-use Rattle.nntp_spool.specs.{Text.{with_line_ends, article_lines}, Inner.{ArticleLines.{text_stored}, ArticlesView.{articles_shown}, Buffering.{taken}}}
-use Rattle.nntp_spool.specs.{Inner.Buffering.{waiting, writer_failed, IsSameWriter}, Writing.{Wrote}}
+use Rattle.std.specs.{List.{flat_map}, FinMap.{entries}}
+use Rattle.nntp_spool.specs.{Text.{with_line_ends, article_lines}, Inner.ArticlesView.{articles_shown}}
+use Rattle.nntp_spool.proofs.{Written.{Buffered}, WrittenLines.{article_texts}}
 use Rattle.nntp_spool.proofs.text.write.put_articles_of_map.Given as goal
 
 abbrev pub invariant-loop-id : goal.invariant-loop-id
-invariant-loop-id g l = record {
-  wrote : Wrote (taken g.W.Write.contents l.fn.output) (taken g.W.Write.contents l.output)
-      (waiting l.fn.output ++ with_line_ends (flat_map article_lines (entries (articles_shown l.articles.entries))))
-      (waiting l.output ++ with_line_ends (flat_map article_lines (list_map (λ e. (rc_str_bytes e.0, text_stored e.1)) l.entries)));
-  same : writer_failed l.output ≡ writer_failed l.fn.output;
-  writer : IsSameWriter l.fn.output l.output;
-}
+invariant-loop-id g l =
+    Buffered g.W.Write.contents l.fn.output l.output (with_line_ends (flat_map article_lines (entries (articles_shown l.articles.entries)))) (article_texts.all l.entries)

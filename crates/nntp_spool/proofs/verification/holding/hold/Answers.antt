@@ -1,7 +1,7 @@
-use Rattle.std.proofs.Common.{refl, subst, ◌∙◌}
-use Rattle.nntp_article.specs.{Session.Spool.{Spool}, Inner.Listed.{lists}}
-use Rattle.nntp_said.specs.{Facts.{Holds}, Inner.FactView.{fact_of}}
-use Rattle.nntp_spool.{specs.Inner.AskedCounts.{AreCounted}, proofs.HeldFacts.{none_left, first_passed, first_held}}
+use Rattle.std.proofs.Common.{refl, ◌∙◌}
+use Rattle.nntp_article.specs.Inner.Listed.{lists}
+use Rattle.nntp_said.specs.Inner.FactView.{fact_of}
+use Rattle.nntp_spool.proofs.HeldFacts.{none_left, first_passed, first_held}
 use Rattle.nntp_spool.proofs.verification.holding.hold.Goals.{else-not-is_implied-via-then-not-is_implied+in_ok-holds+else-not-branch}
 use Rattle.nntp_spool.proofs.verification.holding.hold.Goals.{else-not-is_implied-via-else-not-is_implied}
 use Rattle.nntp_spool.proofs.verification.holding.hold.Goals as goal
@@ -14,9 +14,9 @@ loop-fact-preserved g c =
     let passed = first_passed S (lists c.args.listed.now) c.args.facts.now l.facts c.pass_first.new.self l.invariant.0 c.pass_first.ensures in
     elim c.else-not-is_implied.branch [
       | else-not-is_implied-via-then-not-is_implied+in_ok-holds+else-not-branch w ↦
-          let held = subst (λ (S : Spool). Holds S fact) l.invariant.2 (w.in_ok-holds.ensures.holds.0 w.if-not-branch.false) in (
+          let held = rw l.invariant.2 at (w.in_ok-holds.ensures.holds.0 w.if-not-branch.false) in (
             passed (first_held S fact l.facts c.in-Some.ensures held),
-            rw w.counts-is (subst (λ (S : Spool). AreCounted S w.holds.new.counts) l.invariant.2 w.in_ok-holds.ensures.counted),
+            rw (w.counts-is, ← l.invariant.2) w.in_ok-holds.ensures.counted,
             w.group-is ∙ w.in_ok-holds.ensures.spool ∙ l.invariant.2,
           )
       | else-not-is_implied-via-else-not-is_implied w ↦ (

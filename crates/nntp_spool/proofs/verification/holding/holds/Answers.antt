@@ -1,7 +1,4 @@
-use Rattle.std.proofs.Common.{sym, subst, ◌∙◌}
-use Rattle.nntp_article.specs.Inner.Listed.{lists}
-use Rattle.nntp_said.specs.Inner.FactView.{fact_of}
-use Rattle.nntp_spool.specs.Inner.Sessions.{SaysThese}
+use Rattle.std.proofs.Common.{sym, ◌∙◌}
 use Rattle.nntp_spool.proofs.verification.holding.holds.Goals as goal
 
 pub returns-in-OverviewsAre-clause-holds : goal.returns-in-OverviewsAre-clause-holds
@@ -9,5 +6,5 @@ returns-in-OverviewsAre-clause-holds g c = rw c.in-OverviewsAre.is c.lists_overv
 
 pub returns-in-GroupsAre-clause-holds : goal.returns-in-GroupsAre-clause-holds
 returns-in-GroupsAre-clause-holds g c =
-    let these = subst (λ fact. SaysThese (lists c.args.listed.now) (fact_of fact)) c.in-GroupsAre.is c.requires.listed in
+    let these = rw c.in-GroupsAre.is at c.requires.listed in
     rw (c.in-GroupsAre.is, these.0 ∙ sym c.groups.ensures, sym c.spool-in-GroupsAre.ensures) c.lists_groups.ensures.lists

@@ -18,23 +18,7 @@ pub returns-in_err-name : goal.returns-in_err-name
 returns-in_err-name g c = grind (arith, err_from_is_err_and, misplaced)
 
 pub returns-then-has_id : goal.returns-then-has_id
-returns-then-has_id g c =
-    let name = c.args.name.now in
-    let id = c.args.id.now in
-    let n = c.args.number in
-    let texts = c.in_ok-name.ensures in
-    let works = ap (λ b. b.failed) (sym c.self.view_is) ∙ c.if-self.false in
-    let fault = ap (λ b. place_fault (greatest b.limit) b.spool name n id) (sym c.self.view_is) ∙ ap (λ limit. place_fault limit c.self.inside.content name n id) (sym c.value.ensures) ∙ texts.0 in
-    let there = ap (λ b. has_id (numbers b.spool name) id) (sym c.self.view_is) ∙ ap (λ (x : List ℕ × List ℕ). has_id (numbers c.self.inside.content x.0) x.1) (λ i. (sym texts.1 i, sym texts.2 i)) in
-    repeated c.args.self.now name n id works fault (there ∙ sym c.if-has_id.ensures)
+returns-then-has_id g c = grind (arith, repeated)
 
 pub returns-in_default : goal.returns-in_default
-returns-in_default g c =
-    let name = c.args.name.now in
-    let id = c.args.id.now in
-    let n = c.args.number in
-    let texts = c.in_ok-name.ensures in
-    let works = ap (λ b. b.failed) (sym c.self.view_is) ∙ c.if-self.false in
-    let fault = ap (λ b. place_fault (greatest b.limit) b.spool name n id) (sym c.self.view_is) ∙ ap (λ limit. place_fault limit c.self.inside.content name n id) (sym c.value.ensures) ∙ texts.0 in
-    let there = ap (λ b. has_id (numbers b.spool name) id) (sym c.self.view_is) ∙ ap (λ (x : List ℕ × List ℕ). has_id (numbers c.self.inside.content x.0) x.1) (λ i. (sym texts.1 i, sym texts.2 i)) in
-    unheld c.args.self.now name n id _ works fault (there ∙ sym c.if-has_id.ensures) refl
+returns-in_default g c = grind (arith, unheld)

@@ -1,6 +1,4 @@
-use Rattle.std.proofs.Common.{subst}
-use Rattle.nntp_spool.specs.Inner.Text.{HasLineCounts}
 use Rattle.nntp_spool.proofs.value.content.Content.count_articles.Goals as goal
 
 pub returns-clause-line_counts : goal.returns-clause-line_counts
-returns-clause-line_counts g c = subst HasLineCounts c.self.view_is c.self.invariant.0
+returns-clause-line_counts g c = rw (← c.self.view_is) c.self.invariant.0

@@ -7,10 +7,7 @@ or-requires g c = c.self.invariant.1
 
 pub returns-in-Some : goal.returns-in-Some
 returns-in-Some g c =
-    ap Some c.or.ensures ∙ ap option_copied (sym c.in-Some.is) ∙ c.get.ensures.value
-    ∙ group_got c.self.inside.groups.entries c.args.self.now.groups c.args.name.now (ap (λ s. s.groups) c.self.view_is)
+    ap Some c.or.ensures ∙ ap option_copied (sym c.in-Some.is) ∙ c.get.ensures.value ∙ group_got _ _ c.args.name.now (ap (λ s. s.groups) c.self.view_is)
 
 pub returns-in-None : goal.returns-in-None
-returns-in-None g c =
-    ap option_copied (sym c.in-None.is) ∙ c.get.ensures.value
-    ∙ group_got c.self.inside.groups.entries c.args.self.now.groups c.args.name.now (ap (λ s. s.groups) c.self.view_is)
+returns-in-None g c = ap option_copied (sym c.in-None.is) ∙ c.get.ensures.value ∙ group_got _ _ c.args.name.now (ap (λ s. s.groups) c.self.view_is)

@@ -1,8 +1,8 @@
-use Rattle.std.proofs.{Common.{sym, ap, subst, ◌∙◌, rules}, lemmas.Iterator.{Search.{all_from_yields_List}, Consumers.{YieldsList-from_rest}}}
+use Rattle.std.proofs.{Common.{sym, ap, ◌∙◌, rules}, lemmas.Iterator.{Search.{all_from_yields_List}, Consumers.{YieldsList-from_rest}}}
 use Rattle.std.specs.{List.{list_all}, String.{string_bytes}}
 use borrow.Author.Tests.{tests}
 use Rattle.nntp_article.specs.Session.Spool.{Name, Numbers}
-use Rattle.nntp_spool.{specs.{Content.{all_known}, Inner.Text.{HasLineCounts}}, proofs.ShownMaps.{group_entries}}
+use Rattle.nntp_spool.{specs.Content.{all_known}, proofs.ShownMaps.{group_entries}}
 use Rattle.nntp_wire.proofs.ShownMaps.{list_all-map}
 use Rattle.nntp_spool.proofs.value.content.Content.has_articles.Goals as goal
 
@@ -14,4 +14,4 @@ returns-clause-value g c =
     all ∙ sym (list_all-map known (λ e. (string_bytes e.0, e.1)) es) ∙ ap (list_all known) (group_entries es c.args.self.now.groups (ap (λ s. s.groups) c.self.view_is) c.iter.ensures.ordered)
 
 pub returns-clause-line_counts : goal.returns-clause-line_counts
-returns-clause-line_counts g c = subst HasLineCounts c.self.view_is c.self.invariant.0
+returns-clause-line_counts g c = rw (← c.self.view_is) c.self.invariant.0

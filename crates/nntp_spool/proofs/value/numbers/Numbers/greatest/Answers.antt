@@ -1,11 +1,8 @@
-use Rattle.std.{proofs.Common.{Some, None, length, ◌-◌, subst, ap, ◌∙◌}, specs.List.{slice_get}}
-use Rattle.nntp_spool.proofs.{GatheredEntries.{none_listed}, ShownNumbers.{IsLastOf, greatest_is, none_there}}
+use Rattle.nntp_spool.proofs.{GatheredEntries.{none_listed}, ShownNumbers.{greatest_is, none_is}}
 use Rattle.nntp_spool.proofs.value.numbers.Numbers.greatest.Goals as goal
 
 pub returns-in-Some : goal.returns-in-Some
-returns-in-Some g c = subst (λ N. IsLastOf N (Some c.in-Some.numbered.now.0)) c.self.view_is
-    (greatest_is c.self.inside.ids.items c.in-Some.numbered.now c.self.invariant.0 (c.in-Some.ensures.value ∙ ap (λ ids. slice_get ids (length ids - 1)) c.deref.ensures.value))
+returns-in-Some g c = greatest_is c.self.inside.ids.items _ _ c.self.invariant.0 c.self.view_is c.deref.ensures.value c.in-Some.numbered.now c.in-Some.ensures.value
 
 pub returns-in-None : goal.returns-in-None
-returns-in-None g c = subst (λ N. IsLastOf N None) c.self.view_is
-    (none_there c.self.inside.ids.items (none_listed c.self.inside.ids.items (c.in-None.ensures.value ∙ ap (λ ids. slice_get ids (length ids - 1)) c.deref.ensures.value)))
+returns-in-None g c = none_is c.self.inside.ids.items _ _ c.self.invariant.0 c.self.view_is c.deref.ensures.value (none_listed _ c.in-None.ensures.value)

@@ -1,6 +1,4 @@
-use Rattle.std.proofs.Common.{subst}
-use Rattle.nntp_spool.specs.Inner.Text.{IsWritten}
 use Rattle.nntp_spool.proofs.value.spool.Spool.counts.Goals as goal
 
 pub returns-clause-is_written : goal.returns-clause-is_written
-returns-clause-is_written g c = subst IsWritten c.self.view_is (record { is_spool = c.self.invariant; line_counts = c.count_articles.ensures.line_counts })
+returns-clause-is_written g c = rw (← c.self.view_is) (record { is_spool = c.self.invariant; line_counts = c.count_articles.ensures.line_counts })
