@@ -6,7 +6,8 @@ use Rattle.nntp_wire.{specs.Decided.{is_group_name, is_message_id}, proofs.Shown
 use Rattle.nntp_article.specs.{Article.Parts.{Id}, Session.{Machine.{is_article_number}, Spool.{Name, Spool, Numbers, Text, numbers, is_line}}}
 use Rattle.nntp_spool.specs.{Numbers.{has_id}, Inner.{Numbers.{with_number}, Content.{with_number_in, without_articles, AreNumbers, IsNamed, IsArticle}}}
 use Rattle.nntp_spool.specs.{Inner.{Content.{IsContent}, Building.{group_fault, place_fault, article_fault}}, Content.{is_head_of, with_group, with_article}}
-use Rattle.nntp_spool.{specs.Content.{no_spool}, proofs.{MapEntries.{empty_has, got_more}, NumbersInOrder.{no_numbers, one_more}, ShownMaps.{octet_keys, spool_is}, WholeSpools.{value_of_some}}}
+use Rattle.nntp_spool.{specs.Content.{no_spool}, proofs.{MapEntries.{empty_has, got_more}, NumbersInOrder.{no_numbers, one_more}, ShownMaps.{octet_keys}}}
+use Rattle.nntp_spool.proofs.{ShownMaps.{spool_is}, WholeSpools.{value_of_some}}
 use Rattle.nntp_spool.specs.declared.value.spool_fault.SpoolFault.TheVariants as faults
 
 -- a test that found no fault

@@ -5,7 +5,8 @@ use Rattle.std.specs.{Prelude.{nat_lt, ◌==◌}, declared.cmp.Ordering.{Orderin
 use Rattle.std.specs.{Cmp.{both_ways, nat_cmp_total}, List.{All, AllByRecursion, list_all, slice_get}, Map.{lookup, keys_of}, FinMap.{FinMap, get, entries}}
 use Rattle.std.specs.FinMap.{IsAntisymmetric, is_sorted, get-from_entries, nat_cmp-IsAntisymmetric}
 use Rattle.nntp_article.specs.Session.Spool.{Numbers, IsNumber}
-use Rattle.nntp_spool.{specs.Ascending.{is_last}, proofs.{MapEntries.{less_is, got_all, all_got, all_found, tied_itself, apart}, NumbersInOrder.{all_passed, passed_all}}}
+use Rattle.nntp_spool.{specs.Ascending.{is_last}, proofs.{MapEntries.{less_is, got_all, all_got, all_found, tied_itself, apart}, NumbersInOrder.{all_passed}}}
+use Rattle.nntp_spool.proofs.NumbersInOrder.{passed_all}
 use Rattle.nntp_wire.proofs.ShownMaps.{shown, shown_entry, get-shown}
 
 module _ {K : Type 0} {R : K → K → Ordering} (o : IsTotalOrder R) where

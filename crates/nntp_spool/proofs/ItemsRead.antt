@@ -8,9 +8,9 @@ use Rattle.nntp_spool.specs.Reading.{◌>>=◌, fault, shaped, Place, Turn, On, 
 use Rattle.nntp_spool.specs.{Reading.{item_then, item_at}, Fields.{OpeningValue, Group, Article, End, fields_of, opening_of}, Ascending.{is_last}}
 use Rattle.nntp_spool.specs.{Content.{with_group, with_article, is_head_of, ids_have_articles}, Inner.Content.{AreNumbers, IsNamed, IsArticle}}
 use Rattle.nntp_spool.proofs.{FollowingNumbers.{number_lines}, NameOctets.{name-lacks, name-some, id-lacks, id-some}, LineFields.{opening-group_line}}
-use Rattle.nntp_spool.proofs.{LineFields.{opening-article_line, OpeningLine, opening_line}, NumbersRead.{bind_ok, unless_ok, guard_ok, fits_test, shaped_ok, ok_is, done}}
-use Rattle.nntp_spool.proofs.{NumbersRead.{line_takes, numbers_take, numbers_again, entries-with_all}, ArticleLinesRead.{barred_lines_take, barred_lines_again}}
-use Rattle.nntp_spool.proofs.NumbersInOrder.{entries-empty, no_numbers, all_more, with_all-entries}
+use Rattle.nntp_spool.proofs.{LineFields.{opening-article_line, OpeningLine, opening_line}, NumbersRead.{bind_ok, unless_ok, guard_ok, fits_test, shaped_ok}}
+use Rattle.nntp_spool.proofs.{NumbersRead.{ok_is, done, line_takes, numbers_take, numbers_again, entries-with_all}, ArticleLinesRead.{barred_lines_take}}
+use Rattle.nntp_spool.proofs.{ArticleLinesRead.{barred_lines_again}, NumbersInOrder.{entries-empty, no_numbers, all_more, with_all-entries}}
 use Rattle.nntp_spool.specs.declared.text.read_fault.Kind.TheVariants as kinds
 
 -- ---- what was read

@@ -1,10 +1,9 @@
 -- Words of a line, and the one spelling of a number.
 use Rattle.std.proofs.Common.{◌≡◌, ℕ, suc, ◌^◌, ◌<◌, Bool, true, false, not, cond, eqb, List, [], ◌∷◌, ◌++◌, Option, None, Some, length, get_or, refl, sym, ap}
 use Rattle.std.proofs.{Common.{subst, ◌∙◌, arith}, lemmas.{Slice.Eq.{bytes_eq-Decides}, Bool.{and_from, and_parts, not-true, Decides.{nat_tests}}}}
-use Rattle.std.proofs.lemmas.{List.Splits.{join_with_byte-slice_split}, Fmt.{digits_decimal, digits_value-decimal, decimal-digits_value, decimal_nonempty}}
-use Rattle.std.{proofs.lemmas.Fmt.{first_decimal, decimal_digit}, specs.{Prelude.{◌&&◌, bytes_eq, codes}, List.{list_all, join_with_byte}}}
-use Rattle.std.specs.{Char.{is_ascii_digit}, Fmt.{decimal}}
-use Rattle.std.proofs.lemmas.List.Sums.{AllPass-from_list_all, list_all-from_AllPass}
+use Rattle.std.proofs.lemmas.{List.{Splits.{join_with_byte-slice_split}, Sums.{AllPass-from_list_all, list_all-from_AllPass}}, Fmt.{digits_decimal}}
+use Rattle.std.{proofs.lemmas.Fmt.{digits_value-decimal, decimal-digits_value, decimal_nonempty, first_decimal, decimal_digit}, specs.Prelude.{◌&&◌, bytes_eq}}
+use Rattle.std.specs.{Prelude.{codes}, List.{list_all, join_with_byte}, Char.{is_ascii_digit}, Fmt.{decimal}}
 use Rattle.nntp_article.specs.Article.Parts.{is_empty}
 use Rattle.nntp_spool.specs.{Text.{number_line, group_line, article_line}, Fields.{fields_of, are_digits, is_decimal, is_count, value_of, number_and_id}}
 use Rattle.nntp_spool.{specs.Fields.{opening_of, OpeningValue, Group, Article, End}, proofs.{SplitLines.{segments_at}, Decimals.{own}, MapEntries.{some_is}}}

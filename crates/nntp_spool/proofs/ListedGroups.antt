@@ -1,8 +1,8 @@
 -- The groups of lines, one after the other.
 use Rattle.std.proofs.Common.{◌≡◌, ℕ, zero, suc, ◌≤◌, Bool, true, false, IsTrue, length, List, [], ◌∷◌, Option, map, refl, sym, arith, ◌⊎◌, inl, inr, ⊎_elim}
-use Rattle.std.{proofs.lemmas.{Bool.{true≢false, and_parts, or_right}, List.Elements.{recursion_from_All, All-from_recursion, All-weaker, All-map, All-contains}}, specs.Prelude.{◌↔◌, ◌||◌}}
-use Rattle.std.specs.{Prelude.{Contains, IfSome}, List.{list_any, count_by, AllByRecursion}, Option.{option_map_or}, Cmp.Lexicographic.{bytes_decides}}
-use Rattle.std.specs.FinMap.{entries}
+use Rattle.std.proofs.lemmas.{Bool.{true≢false, and_parts, or_right}, List.Elements.{recursion_from_All, All-from_recursion, All-weaker, All-map, All-contains}}
+use Rattle.std.specs.{Prelude.{◌↔◌, ◌||◌, Contains, IfSome}, List.{list_any, count_by, AllByRecursion}, Option.{option_map_or}}
+use Rattle.std.specs.{Cmp.Lexicographic.{bytes_decides}, FinMap.{entries}}
 use Rattle.nntp_wire.specs.{Decided.{is_group_name, matches_name}, Inner.Decided.{is_asked}, Name.{IsGroupName}, Wildmat.{MatchesName}, Listing.{ActiveValue}}
 use Rattle.nntp_wire.proofs.DecidedLemmas.{group_name-iff}
 use Rattle.nntp_article.specs.Session.{Spool.{Spool, Name, IsGroup, IsNumber, numbers}, Machine.{is_same, names_differ, ActivesAgree}}

@@ -1,8 +1,9 @@
 -- Entries in the order of their keys.
 use Rattle.std.proofs.Common.{arith, ◌≡◌, ◌⊎◌, Bool, true, false, cond, T, List, [], ◌∷◌, ◌++◌, Option, None, Some, refl, sym, ap, ◌∙◌}
 use Rattle.std.{proofs.lemmas.Bool.{and_parts}, specs.{declared.cmp.Ordering.{Ordering, TheVariants.{Less, Greater}}, Ordering.{is_lt, eq_by_cmp}}}
-use Rattle.std.specs.{Ordering.{ordering_reverse}, Cmp.{IsTotalOrder, eq_by_cmp_equiv}, List.{list_all, AllByRecursion}, FinMap.{FinMap, get, get-empty, empty, entries, insert}}
-use Rattle.std.specs.FinMap.{put, find, is_sorted, entries-insert, get-insert, entries_sorted, get-entries, IsAntisymmetric, Entries.{below_all}}
+use Rattle.std.specs.{Ordering.{ordering_reverse}, Cmp.{IsTotalOrder, eq_by_cmp_equiv}, List.{list_all, AllByRecursion}, FinMap.{FinMap, get, get-empty, empty}}
+use Rattle.std.specs.FinMap.{entries, insert, put, find, is_sorted, entries-insert, get-insert, entries_sorted, get-entries, IsAntisymmetric}
+use Rattle.std.specs.FinMap.Entries.{below_all}
 use Rattle.nntp_wire.proofs.ShownMaps.{equal_is}
 use Rattle.nntp_spool.specs.Ascending.{is_last}
 

@@ -1,15 +1,16 @@
 -- Numbers that follow one another are numbers of a group, and the other way round.
 use Rattle.std.proofs.Common.{◌≡◌, ◌⊎◌, inl, inr, ℕ, ◌+◌, ◌<◌, ◌≤◌, ◌^◌, Bool, true, false, List, [], ◌∷◌, ◌++◌, None, Some, length, refl, sym, ap, ◌∙◌}
 use Rattle.std.proofs.{Common.{append_assoc, arith}, lemmas.{Bool.{true≢false, false_from_ne_true, and_parts, Decides.{nat_tests}}, List.{nil_from_length}}}
-use Rattle.std.{proofs.lemmas.Slice.Eq.{bytes_eq-Decides}, specs.{Prelude.{◌||◌, bytes_eq}, List.{list_all, list_any, AllByRecursion}, Ordering.{nat_cmp}}}
-use Rattle.std.specs.{Ordering.{is_lt, eq_by_cmp}, Cmp.{nat_cmp_total}, FinMap.{get, insert, empty, entries, len, find, is_sorted, entries_sorted, get-entries}}
-use Rattle.std.specs.FinMap.{get-empty, len-empty, len-entries, same_entries_map, nat_cmp-IsAntisymmetric, Entries.{below_all}}
-use Rattle.std.proofs.lemmas.List.{Folds.{list_any_none}, Elements.{recursion_from_All, All-from_recursion}, Sums.{AllPass-from_list_all, list_all-from_AllPass}}
+use Rattle.std.proofs.lemmas.List.{Folds.{list_any_none}, Elements.{recursion_from_All, All-from_recursion}, Sums.{AllPass-from_list_all}}
+use Rattle.std.{proofs.lemmas.{List.Sums.{list_all-from_AllPass}, Slice.Eq.{bytes_eq-Decides}}, specs.{Prelude.{◌||◌, bytes_eq}, List.{list_all, list_any}}}
+use Rattle.std.specs.{List.{AllByRecursion}, Ordering.{nat_cmp, is_lt, eq_by_cmp}, Cmp.{nat_cmp_total}, FinMap.{get, insert, empty, entries, len, find}}
+use Rattle.std.specs.FinMap.{is_sorted, entries_sorted, get-entries, get-empty, len-empty, len-entries, same_entries_map, nat_cmp-IsAntisymmetric}
+use Rattle.std.specs.FinMap.Entries.{below_all}
 use Rattle.nntp_wire.specs.Decided.{is_message_id}
 use Rattle.nntp_article.specs.Session.{Machine.{is_article_number}, Spool.{Numbers}}
 use Rattle.nntp_spool.{specs.{Numbers.{has_id}, Ascending.{is_last}, Inner.Content.{AreNumbers}}, proofs.FollowingNumbers.{AllFollow, with_all}}
-use Rattle.nntp_spool.proofs.MapEntries.{is_passed, empty_has, less_before, find_middle, find_front, got_all, all_got, entries-insert_last, apart, tied_itself, got_more}
-use Rattle.nntp_spool.proofs.NumbersRead.{num_between, entries-with_all}
+use Rattle.nntp_spool.proofs.MapEntries.{is_passed, empty_has, less_before, find_middle, find_front, got_all, all_got, entries-insert_last, apart, tied_itself}
+use Rattle.nntp_spool.proofs.{MapEntries.{got_more}, NumbersRead.{num_between, entries-with_all}}
 
 pub either_false : (a b : Bool) → (a || b) ≡ false → (a ≡ false) × (b ≡ false)
 either_false a b e = grind arith

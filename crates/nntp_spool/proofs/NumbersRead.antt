@@ -1,6 +1,6 @@
 -- The numbers of a group that are read are those that are written, and those that are written are read.
-use Rattle.std.proofs.Common.{◌≡◌, ℕ, zero, suc, ◌+◌, ◌^◌, ◌<◌, ◌≤◌, Bool, true, false, not, cond, List, [], ◌∷◌, ◌++◌, Option, Some, Result, Ok, Err, length, refl}
-use Rattle.std.proofs.{Common.{sym, ap, subst, ◌∙◌, append_assoc, arith}, lemmas.{Bool.{and_parts, Decides.{nat_tests}}, List.{append-nil}}}
+use Rattle.std.proofs.Common.{◌≡◌, ℕ, zero, suc, ◌+◌, ◌^◌, ◌<◌, ◌≤◌, Bool, true, false, not, cond, List, [], ◌∷◌, ◌++◌, Option, Some, Result, Ok, Err, length}
+use Rattle.std.proofs.{Common.{refl, sym, ap, subst, ◌∙◌, append_assoc, arith}, lemmas.{Bool.{and_parts, Decides.{nat_tests}}, List.{append-nil}}}
 use Rattle.std.specs.{Cmp.{nat_cmp_total}, FinMap.{entries, insert}}
 use Rattle.nntp_wire.specs.Decided.{is_message_id}
 use Rattle.nntp_article.specs.Session.{Spool.{Numbers}, Machine.{is_article_number}}

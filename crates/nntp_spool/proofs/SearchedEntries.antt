@@ -1,11 +1,11 @@
 -- What a binary search finds among entries in the order of their keys.
 use Rattle.std.proofs.Common.{◌≡◌, ℕ, ◌+◌, ◌<◌, zero, suc, true, false, Option, None, Some, option_map, List, [], ◌∷◌, map, length, get_or, refl, sym, ap}
 use Rattle.std.proofs.{Common.{subst, ◌∙◌, arith}, lemmas.{Bool.{and_parts, cases_lt}, Option.{slice_get-get_or, slice_get_within, get_or_from_slice_get}}}
-use Rattle.std.proofs.lemmas.{Map.{Entries.{lookup_from_place, place_from_lookup, length-keys_of}, Keys.{IsDistinct-from_sorted, Less-from_sorted}}, List.Sorted.{searchable_from_sorted}}
-use Rattle.std.specs.{declared.cmp.Ordering.{Ordering, TheVariants.{Less, Equal, Greater}}, Ordering.{is_lt, is_eq, eq_by_cmp, ordering_index}}
-use Rattle.std.specs.{Cmp.{IsTotalOrder, IsEquivalence}, List.{slice_get, AllByRecursion, Sorted.{IsNonDecreasingBy, IsPartitionPoint, IsStrictlySortedBy}}}
-use Rattle.std.specs.{Map.{lookup, keys_of}, FinMap.{get, is_sorted, IsAntisymmetric, Entries.{below_all}}}
-use Rattle.std.proofs.Math.ListN.{get_or-map}
+use Rattle.std.proofs.lemmas.Map.{Entries.{lookup_from_place, place_from_lookup, length-keys_of}, Keys.{IsDistinct-from_sorted, Less-from_sorted}}
+use Rattle.std.{proofs.{lemmas.List.Sorted.{searchable_from_sorted}, Math.ListN.{get_or-map}}, specs.declared.cmp.Ordering.{Ordering, TheVariants.{Less}}}
+use Rattle.std.specs.{declared.cmp.Ordering.TheVariants.{Equal, Greater}, Ordering.{is_lt, is_eq, eq_by_cmp, ordering_index}, Cmp.{IsTotalOrder, IsEquivalence}}
+use Rattle.std.specs.{List.{slice_get, AllByRecursion, Sorted.{IsNonDecreasingBy, IsPartitionPoint, IsStrictlySortedBy}}, Map.{lookup, keys_of}, FinMap.{get}}
+use Rattle.std.specs.FinMap.{is_sorted, IsAntisymmetric, Entries.{below_all}}
 use Rattle.nntp_wire.proofs.ShownMaps.{shown, shown_entry, get-shown, equal_is}
 use Rattle.nntp_spool.proofs.MapEntries.{less_is}
 

@@ -1,14 +1,15 @@
 -- What a list of ascending numbers shows.
-use Rattle.std.proofs.Common.{◌≡◌, ◌⊎◌, inl, inr, ⊎_elim, ℕ, ◌-◌, ◌+◌, ◌<◌, ◌≤◌, zero, suc, Bool, true, false, T, Option, None, Some, MatchOption, is_some, List, [], ◌∷◌, ◌++◌, map}
-use Rattle.std.proofs.{Common.{length, get_or, take, drop, append_assoc, refl, sym, ap, subst, ◌∙◌, arith}, lemmas.Bool.{and_parts, true≢false, Decides.{nat_tests}}}
-use Rattle.std.proofs.lemmas.List.{map-append, take-append-drop, length-map, length-take-le, length-drop, get_or-take, get_or-drop, append-nil, Elements.{recursion_from_All}}
-use Rattle.std.proofs.{Math.ListN.{get_or-map}, lemmas.Map.{Keys.{non_decreasing_from_sorted}, Entries.{length-keys_of}}}
-use Rattle.std.specs.{Ordering.{nat_cmp, is_eq}, Cmp.{nat_cmp_total}, Map.{lookup, keys_of}}
-use Rattle.std.specs.{declared.rc.RcStr.{RcStr}, Rc.{rc_str_bytes}, FinMap.{get, len, len-entries, insert, put, is_sorted, entries}}
-use Rattle.std.specs.{FinMap.{entries-insert, same_entries_map, entries_sorted, nat_cmp-IsAntisymmetric, Entries.{below_all}}, List.{slice_get}}
-use Rattle.std.specs.List.{insert as list_insert, AllByRecursion, Sorted.{IsNonDecreasingBy, IsPartitionPoint}}
+use Rattle.std.proofs.Common.{◌≡◌, ◌⊎◌, inl, inr, ⊎_elim, ℕ, ◌-◌, ◌+◌, ◌<◌, ◌≤◌, zero, suc, Bool, true, false, T, Option, None, Some, MatchOption, is_some}
+use Rattle.std.proofs.{Common.{List, [], ◌∷◌, ◌++◌, map, length, get_or, take, drop, append_assoc, refl, sym, ap, subst, ◌∙◌, arith}, lemmas.Bool.{and_parts}}
+use Rattle.std.proofs.lemmas.{Bool.{true≢false, Decides.{nat_tests}}, List.{map-append, take-append-drop, length-map, length-take-le, length-drop, get_or-take}}
+use Rattle.std.proofs.lemmas.{List.{get_or-drop, append-nil, Elements.{recursion_from_All}}, Map.{Keys.{non_decreasing_from_sorted}, Entries.{length-keys_of}}}
+use Rattle.std.{proofs.Math.ListN.{get_or-map}, specs.{Ordering.{nat_cmp, is_eq}, Cmp.{nat_cmp_total}, Map.{lookup, keys_of}, declared.rc.RcStr.{RcStr}}}
+use Rattle.std.specs.{Rc.{rc_str_bytes}, FinMap.{get, len, len-entries, insert, put, is_sorted, entries, entries-insert, same_entries_map, entries_sorted}}
+use Rattle.std.specs.{FinMap.{nat_cmp-IsAntisymmetric, Entries.{below_all}}, List.{slice_get, insert as list_insert, AllByRecursion}}
+use Rattle.std.specs.List.Sorted.{IsNonDecreasingBy, IsPartitionPoint}
 use Rattle.nntp_article.specs.{Session.Spool.{Numbers, IsNumber, IsNextAbove, IsNextBelow, NoneAbove, NoneBelow}, Inner.Spool.{IsFirst}}
-use Rattle.nntp_spool.{specs.Inner.Numbers.{numbers_shown, AreAscending, AreParts}, proofs.{GatheredEntries.{none_listed}, MapEntries.{got_all, is_passed}, SearchedEntries.{strict}}}
+use Rattle.nntp_spool.{specs.Inner.Numbers.{numbers_shown, AreAscending, AreParts}, proofs.{GatheredEntries.{none_listed}, MapEntries.{got_all, is_passed}}}
+use Rattle.nntp_spool.proofs.SearchedEntries.{strict}
 use Rattle.nntp_wire.proofs.ShownMaps.{get-shown, entries-from_entries}
 
 abbrev pub IsLastOf : Numbers → Option ℕ → Type 0

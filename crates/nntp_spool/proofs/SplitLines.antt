@@ -4,8 +4,7 @@ use Rattle.std.proofs.{Common.{◌∙◌, arith}, lemmas.{Bool.{cases_lt, le-ltb
 use Rattle.std.{proofs.lemmas.List.Sums.{fails_before_first}, specs.{Prelude.{position}, List.{slice_split, onto_first}}}
 use Rattle.memchr.specs.Find.{IsFirstByte, is_byte}
 use Rattle.nntp_wire.proofs.ArgumentLemmas.{position-found}
-use Rattle.nntp_spool.proofs.MapEntries.{some_is, some_none}
-use Rattle.nntp_spool.specs.Reading.{next_line, segments_of, fault, is_end}
+use Rattle.nntp_spool.{proofs.MapEntries.{some_is, some_none}, specs.Reading.{next_line, segments_of, fault, is_end}}
 use Rattle.nntp_article.specs.Article.Parts.{is_empty}
 use Rattle.nntp_spool.specs.declared.text.read_fault.Kind.TheVariants as kinds
 

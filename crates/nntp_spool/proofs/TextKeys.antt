@@ -1,7 +1,7 @@
 -- Octets that aren't text are no key.
-use Rattle.std.proofs.{Common.{◌≡◌, true, false, ℕ, List, [], ◌∷◌, None, refl, sym, subst, ◌∙◌}, lemmas.{Bool.{false_from_ne_true}, Str.{IsUtf8-string_bytes}, Map.Text.{is_eq-slice_cmp}}}
-use Rattle.std.{proofs.lemmas.Slice.Eq.{bytes_eq-Decides}, specs.{Prelude.{String}, Ordering.{nat_cmp, is_eq}, Cmp.Lexicographic.{slice_cmp}, Map.{lookup}}}
-use Rattle.std.specs.{Str.{IsUtf8}, declared.rc.RcStr.{RcStr}, Rc.{rc_str_bytes}, String.{string_bytes}}
+use Rattle.std.proofs.{Common.{◌≡◌, true, false, ℕ, List, [], ◌∷◌, None, refl, sym, subst, ◌∙◌}, lemmas.{Bool.{false_from_ne_true}, Str.{IsUtf8-string_bytes}}}
+use Rattle.std.{proofs.lemmas.{Map.Text.{is_eq-slice_cmp}, Slice.Eq.{bytes_eq-Decides}}, specs.{Prelude.{String}, Ordering.{nat_cmp, is_eq}}}
+use Rattle.std.specs.{Cmp.Lexicographic.{slice_cmp}, Map.{lookup}, Str.{IsUtf8}, declared.rc.RcStr.{RcStr}, Rc.{rc_str_bytes}, String.{string_bytes}}
 
 key_is_text : {A : Type 0} (k : RcStr A) → IsUtf8 (rc_str_bytes k)
 key_is_text k = IsUtf8-string_bytes k.text.value

@@ -1,16 +1,17 @@
 -- The text of a whole spool is read as this spool.
 use Rattle.std.proofs.Common.{◌≡◌, ℕ, ◌+◌, ◌^◌, ◌<◌, ◌≤◌, Bool, true, List, [], ◌∷◌, ◌++◌, Ok, length, map, refl, sym, ap, ◌∙◌, append_assoc, arith}
-use Rattle.std.proofs.{Common.{length-append}, lemmas.{Bool.{and_from, and_parts, Decides.{nat_tests}}, List.{length-map, Folds.{list_all-append, list_all-map}}}}
-use Rattle.std.specs.{Prelude.{codes}, Fmt.{decimal}, Ordering.{nat_cmp}, Cmp.{nat_cmp_total, Lexicographic.{slice_cmp, nat_list_cmp_total}}, List.{list_all}}
-use Rattle.std.specs.{List.{flat_map, AllByRecursion}, FinMap.{entries, len, nat_cmp-IsAntisymmetric}}
+use Rattle.std.proofs.{Common.{length-append}, lemmas.{Bool.{and_from, and_parts, Decides.{nat_tests}}, List.{length-map, Folds.{list_all-append}}}}
+use Rattle.std.{proofs.lemmas.List.Folds.{list_all-map}, specs.{Prelude.{codes}, Fmt.{decimal}, Ordering.{nat_cmp}, Cmp.{nat_cmp_total}}}
+use Rattle.std.specs.{Cmp.Lexicographic.{slice_cmp, nat_list_cmp_total}, List.{list_all, flat_map, AllByRecursion}, FinMap.{entries, len}}
+use Rattle.std.specs.FinMap.{nat_cmp-IsAntisymmetric}
 use Rattle.nntp_wire.specs.{Limit.{greatest}, declared.limit.Limit.{Limit}}
 use Rattle.nntp_article.specs.{Article.Parts.{Line, Id}, Session.{Spool.{Name, Spool, Numbers, Text, is_line}, Machine.{is_article_number}}}
 use Rattle.nntp_spool.specs.{Limited.{LimitedSpool}, Inner.{Text.{HasLineCounts}, Content.{IsNamed, IsArticle, IsContent}}, Text.{number_line, group_line}}
 use Rattle.nntp_spool.specs.Text.{article_line, barred, group_lines, article_lines, limit_lines, content_lines, spool_lines, spool_text, with_line_ends}
 use Rattle.nntp_spool.{specs.{Reading.{segments_of, limit_at, content_at, spool_at}, Content.{no_spool, ids_have_articles}}, proofs.MapEntries.{all_got}}
 use Rattle.nntp_spool.proofs.{MapEntries.{got_all}, LineFields.{lacks, lacks-append, lacks-digits, are_digits-decimal, parts_front, list_all_weaken}}
-use Rattle.nntp_spool.proofs.{NameOctets.{name-lacks, id-lacks}, ShownMaps.{octet_keys}, NumbersInOrder.{few_numbers, passed_all}, NumbersRead.{num_below}, LimitLines.{greatest_small}}
-use Rattle.nntp_spool.proofs.{LimitLines.{some_limit_line, limit_again}, ItemsOfText.{no_entries, groups_again, first_lines, tail_lines}}
+use Rattle.nntp_spool.proofs.{NameOctets.{name-lacks, id-lacks}, ShownMaps.{octet_keys}, NumbersInOrder.{few_numbers, passed_all}, NumbersRead.{num_below}}
+use Rattle.nntp_spool.proofs.{LimitLines.{greatest_small, some_limit_line, limit_again}, ItemsOfText.{no_entries, groups_again, first_lines, tail_lines}}
 
 -- ---- lines have no line feed inside
 

@@ -1,6 +1,6 @@
 -- What a writer took after several calls.
-use Rattle.std.proofs.Common.{arith, ◌≡◌, ℕ, false, List, [], ◌∷◌, ◌++◌, Option, Result, Ok, Err, take, drop, subst}
-use Rattle.std.{proofs.{Common.{refl, sym, ap, ◌∙◌, append_assoc}, lemmas.List.{append-nil, take-append-drop}}, specs.{Io.KnownBytes.{Appends}, Prelude.{◌||◌}}}
+use Rattle.std.proofs.Common.{arith, ◌≡◌, ℕ, false, List, [], ◌∷◌, ◌++◌, Option, Result, Ok, Err, take, drop, subst, refl, sym, ap, ◌∙◌, append_assoc}
+use Rattle.std.{proofs.lemmas.List.{append-nil, take-append-drop}, specs.{Io.KnownBytes.{Appends}, Prelude.{◌||◌}}}
 use Rattle.nntp_spool.specs.{Writing.{Wrote}, Inner.{Writing.{WritesBut}, Buffering.{taken, waiting, writer_failed, IsSameWriter}}, Watched.{inner_of}}
 use Rattle.nntp_spool.specs.declared.{buffered_output.BufferedOutput.{BufferedOutput}, watched.Watched.{Watched}}
 

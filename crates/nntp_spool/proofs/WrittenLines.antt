@@ -1,6 +1,7 @@
 -- What a writer took of lines.
-use Rattle.std.proofs.{Common.{arith, ◌≡◌, ℕ, List, [], ◌∷◌, ◌++◌, Option, subst, refl, sym, ap, map as list_map}, lemmas.List.{append-nil, Concat.{flat_map-append}}}
-use Rattle.std.specs.{Prelude.{String}, List.{flat_map}, declared.rc.RcStr.{RcStr}, Rc.{rc_str_bytes}, String.{string_bytes}}
+use Rattle.std.proofs.{Common.{arith, ◌≡◌, ℕ, List, [], ◌∷◌, ◌++◌, Option, subst, refl, sym, ap, map as list_map}, lemmas.List.{append-nil}}
+use Rattle.std.{proofs.lemmas.List.Concat.{flat_map-append}, specs.{Prelude.{String}, List.{flat_map}, declared.rc.RcStr.{RcStr}, Rc.{rc_str_bytes}}}
+use Rattle.std.specs.String.{string_bytes}
 use Rattle.nntp_wire.specs.declared.limit.Limit.{Limit}
 use Rattle.nntp_article.specs.Session.Spool.{Spool, Numbers}
 use Rattle.nntp_spool.specs.{Limited.{LimitedSpool}, Text.{with_line_ends, group_line, number_line, article_line, limit_lines, content_lines, spool_text}}

@@ -3,8 +3,8 @@ use Rattle.std.proofs.Common.{◌≡◌, ℕ, zero, suc, ◌+◌, Bool, true, fa
 use Rattle.std.proofs.lemmas.{Bool.{and_parts, and_from, Decides.{nat_tests}}, List.{Folds.{list_all-append}, Splits.{slice_split-cons_yes}}}
 use Rattle.std.{proofs.lemmas.List.Splits.{slice_split-cons_no}, specs.{Prelude.{◌==◌, codes, IfSome}, List.{list_all, flat_map, filter, slice_split}}}
 use Rattle.std.specs.List.{onto_first, position_or_len, AllByRecursion, cons_option}
-use Rattle.nntp_wire.specs.{Octets.{is_blank, is_clean, tab}, Inner.Octets.{are_octets}, Block.{AreClean}, Words.{words_of, is_some_octets}, Listing.{OverviewValue, overview_by, overview_of, overview_of_fields}}
-use Rattle.nntp_wire.specs.Listing.{overviews_of, first_words, fields_of, number_alone, id_alone}
+use Rattle.nntp_wire.specs.{Octets.{is_blank, is_clean, tab}, Inner.Octets.{are_octets}, Block.{AreClean}, Words.{words_of, is_some_octets}}
+use Rattle.nntp_wire.specs.Listing.{OverviewValue, overview_by, overview_of, overview_of_fields, overviews_of, first_words, fields_of, number_alone, id_alone}
 use Rattle.nntp_article.specs.Article.{Parts.{Line, Header, is_colon, with_line, headers, is_named}, Fields.{Word, words_in, words_of_header, words_named}}
 use Rattle.nntp_article.specs.{Article.Fields.{fields_told, fields_of_head}, Inner.Fields.{is_word, AreWords}, Session.Spool.{is_line}}
 use Rattle.nntp_article.{specs.declared.article.field.Field.{Field, TheVariants.{Subject, From, Date, References}}, proofs.ArticleLemmas.IdLemmas.{is_solid}}

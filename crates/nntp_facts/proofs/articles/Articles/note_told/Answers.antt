@@ -1,9 +1,8 @@
 use Rattle.std.{proofs.Common.{true, Some, sym, subst, ◌∙◌}, specs.List.{AllByRecursion}}
 use Rattle.nntp_wire.specs.{Listing.{OverviewValue, overviews_of}, Inner.View.{overview_value}}
-use Rattle.nntp_article.specs.{Article.Fields.{fields_told}, Inner.Fields.{AreWords}}
+use Rattle.nntp_article.{specs.{Article.Fields.{fields_told}, Inner.Fields.{AreWords}}, proofs.ArticleLemmas.WordsOfLines.{overviews_words}}
 use Rattle.nntp_theory.proofs.OkResults.{if_ok}
 use Rattle.nntp_facts.specs.Inner.{Articles.{telling}, ArticleView.{is_added}, KeptSaying.{IsSaidAdded, said_alone}}
-use Rattle.nntp_article.proofs.ArticleLemmas.WordsOfLines.{overviews_words}
 use Rattle.nntp_facts.proofs.Keeping.SaidOfArticles.{first_said}
 use Rattle.nntp_facts.proofs.articles.Articles.note_told.Goals as goal
 

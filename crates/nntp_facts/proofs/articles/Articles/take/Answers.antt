@@ -1,7 +1,7 @@
 use Rattle.std.{proofs.Common.{ap, sym, map, ◌∙◌}, specs.{Ordering.{nat_cmp}, Cmp.Lexicographic.{slice_cmp, nat_list_cmp_total}, Rc.{rc_str_bytes}}}
 use Rattle.nntp_wire.proofs.ShownMaps.{entries-shown}
-use Rattle.nntp_facts.specs.Inner.{Articles.{with_denied}, ArticleView.{known_article, entries_value}, Readers.{shown_article, articles_shown_in, shown_articles}}
-use Rattle.nntp_facts.proofs.Keeping.KeptIds.{articles-with_denied}
+use Rattle.nntp_facts.specs.Inner.{Articles.{with_denied}, ArticleView.{known_article, entries_value}, Readers.{shown_article, articles_shown_in}}
+use Rattle.nntp_facts.{specs.Inner.Readers.{shown_articles}, proofs.Keeping.KeptIds.{articles-with_denied}}
 use Rattle.std.specs.FinMap as finite
 use Rattle.nntp_facts.proofs.articles.Articles.take.Goals as goal
 

@@ -1,10 +1,9 @@
 use Rattle.std.{proofs.Common.{◌≡◌, [], ◌∷◌, ◌++◌, refl, sym, ap, subst, ◌∙◌, append-nil, append_assoc}, specs.List.{AllByRecursion}}
 use Rattle.nntp_wire.specs.{Listing.{OverviewValue, overviews_of}, Inner.View.{overview_value}}
-use Rattle.nntp_article.specs.{Article.Fields.{fields_told}, Inner.Fields.{AreWords}}
+use Rattle.nntp_article.{specs.{Article.Fields.{fields_told}, Inner.Fields.{AreWords}}, proofs.ArticleLemmas.WordsOfLines.{overviews_words}}
 use Rattle.nntp_theory.specs.Inner.Together.{said_of}
 use Rattle.nntp_facts.{specs.Inner.{Kept.{AreKept}, KeptSaying.{MayGive, with_overviews}, ListedOverviews.{HaveOwn}}, proofs.Keeping.OverviewsJoin.{none_yet}}
 use Rattle.nntp_facts.proofs.Keeping.{OverviewsJoin.{so_far, AreGiven, said_so_far, said_next, may_give_next, one_more_given}, SaidOfArticles.{nothing_more}}
-use Rattle.nntp_article.proofs.ArticleLemmas.WordsOfLines.{overviews_words}
 use Rattle.nntp_facts.proofs.kept.Kept.give_all.Goals as goal
 
 pub loop-overview-init : goal.loop-overview-init

@@ -1,4 +1,5 @@
-use Rattle.std.proofs.{Common.{◌<◌, ◌≤◌, nat_lt, arith, rules}, lemmas.{Bool.Decides.{nat_tests}, List.Sorted.{IsPartitionPoint-from_clause, IsPartitionedBy-ltb}}}
+use Rattle.std.proofs.{Common.{◌<◌, ◌≤◌, nat_lt, arith, rules}, lemmas.{Bool.Decides.{nat_tests}, List.Sorted.{IsPartitionPoint-from_clause}}}
+use Rattle.std.proofs.lemmas.List.Sorted.{IsPartitionedBy-ltb}
 use borrow.Author.Tests.{tests}
 use Rattle.nntp_spool.proofs.ShownNumbers.{rise, parts_are}
 use Rattle.nntp_spool.proofs.value.numbers.split_before.Goals as goal

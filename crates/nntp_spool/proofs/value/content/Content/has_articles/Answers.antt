@@ -1,5 +1,5 @@
-use Rattle.std.proofs.{Common.{sym, ap, ◌∙◌, rules}, lemmas.Iterator.{Search.{all_from_yields_List}, Consumers.{YieldsList-from_rest}}}
-use Rattle.std.specs.{List.{list_all}, String.{string_bytes}}
+use Rattle.std.{proofs.{Common.{sym, ap, ◌∙◌, rules}, lemmas.Iterator.{Search.{all_from_yields_List}, Consumers.{YieldsList-from_rest}}}, specs.List.{list_all}}
+use Rattle.std.specs.String.{string_bytes}
 use borrow.Author.Tests.{tests}
 use Rattle.nntp_article.specs.Session.Spool.{Name, Numbers}
 use Rattle.nntp_spool.{specs.Content.{all_known}, proofs.ShownMaps.{group_entries}}

@@ -1,5 +1,5 @@
-use Rattle.std.proofs.{Common.{is_some, ap, sym, ◌∙◌}, lemmas.{Bool.{true≢false}, Result.{on_ok_weaker, on_err_weaker}}}
-use Rattle.std.specs.{Option.{option_copied_mut}, Ordering.{nat_cmp}, Cmp.Lexicographic.{slice_cmp, nat_list_cmp_total}, Rc.{rc_str_bytes}, String.{string_bytes}}
+use Rattle.std.{proofs.{Common.{is_some, ap, sym, ◌∙◌}, lemmas.{Bool.{true≢false}, Result.{on_ok_weaker, on_err_weaker}}}, specs.Option.{option_copied_mut}}
+use Rattle.std.specs.{Ordering.{nat_cmp}, Cmp.Lexicographic.{slice_cmp, nat_list_cmp_total}, Rc.{rc_str_bytes}, String.{string_bytes}}
 use Rattle.nntp_wire.proofs.ShownMaps.{replaced, insert-same}
 use Rattle.nntp_spool.proofs.{BuiltContent.{number_in_group}, ShownMaps.{octet_keys, spool_is, group_got}}
 use Rattle.std.specs.FinMap as map
