@@ -1,7 +1,7 @@
 -- Membership by recursion, and what holds of each element of a list.
-use Rattle.std.proofs.Common.{◌≡◌, ◌+◌, ◌≤◌, suc, length, length-append, map, arith, Bool, ◌⊎◌, IsTrue, List, [], ◌∷◌, ◌++◌, Option, None, Some, option_map}
+use Rattle.std.proofs.Common.{ap, ◌≡◌, ◌+◌, ◌≤◌, suc, length, length-append, map, arith, Bool, ◌⊎◌, IsTrue, List, [], ◌∷◌, ◌++◌, Option, None, Some, option_map}
 use Rattle.std.proofs.{Common.{inl, inr, refl, ◌∙◌}, lemmas.{Bool.{or_left, or_right, or_cases, and_from, and_parts}, List.Folds.{list_any-append}}}
-use Rattle.std.specs.{List.{AllByRecursion, list_any, list_all, flat_map}, Prelude.{Contains}, Option.{option_or}}
+use Rattle.std.specs.{Prelude.{IfSome, Contains}, List.{AllByRecursion, list_any, list_all, flat_map}, Option.{option_or}}
 use Rattle.nntp_said.proofs.FiniteMapsDecided.{Dec}
 use Rattle.nntp_theory.specs.Given.{first_given}
 
@@ -123,6 +123,18 @@ none_there {A} f xs x i none = grind (arith, first_there f xs x)
 pub part_first : {A B C : Type 0} (part : A → C) (f : B → Option A) (xs : List B) → first_given (λ x. option_map part (f x)) xs ≡ option_map part (first_given f xs)
 part_first part f [] = refl
 part_first part f (x ∷ xs) = grind (arith, part_first part f xs)
+
+-- where what is there has it, it has it, if there is anything
+pub if_some : {A : Type 0} (o : Option A) (Q : A → Type 0) → ((x : A) → o ≡ Some x → Q x) → IfSome o Q
+if_some o Q h = grind arith
+
+-- what one of them gives is what the first gives, where each says it of one thing
+pub first_is : {A B : Type 0} (Q : A → Type 0) → ((x y : A) → Q x → Q y → x ≡ y) → (f : B → Option A) (xs : List B)
+    → ((z : B) → In z xs → (x : A) → f z ≡ Some x → Q x) → (z : B) → In z xs → (x : A) → f z ≡ Some x → first_given f xs ≡ Some x
+first_is Q one f xs says z i x e =
+    let w = first_there f xs z x i e in
+    let v = first_found f xs w.0 w.1 in
+    w.1 ∙ ap Some (one w.0 x (says v.0 v.1 w.0 v.2) (says z i x e))
 
 -- a list where each passes
 pub every : {A : Type 0} (p : A → Bool) (xs : List A) → ((x : A) → In x xs → IsTrue (p x)) → IsTrue (list_all p xs)

@@ -1,23 +1,23 @@
 -- What doesn't stand together conflicts at some point, and so at a first one.
-use Rattle.std.proofs.Common.{◌≡◌, ℕ, ◌+◌, ◌<◌, ◌^◌, ◌⊎◌, true, false, IsTrue, List, [], ◌∷◌, ◌++◌, map, Option, None, Some, inl, inr, refl, sym, ap, subst}
-use Rattle.std.proofs.{Common.{◌∙◌, arith, Bool}, lemmas.Bool.{true≢false, cases_Bool, cases_eq, eqb-true, false_from_ne_true, cases_lt}}
-use Rattle.std.specs.{Prelude.{IsFalse, IfSome, option_map, not}, List.{AllByRecursion, list_any, flat_map}, Cmp.Lexicographic.{same_text}}
+use Rattle.nntp_theory.proofs.{Members.{if_some, In, all_at, all_from, in_map, any_in, found_in, first_there, part_first, to_flat}, PointsByRank.{each}}
+use Rattle.nntp_theory.proofs.{PointsByRank.{or_next, PointsOf, of_rank}, Given.{GivenHolds.{one_given}, ConstructedSpool.{made, made_group, made_given}}}
+use Rattle.nntp_theory.proofs.{Together.ListedOverviews.{overview_at, overview_of, told_by}, Session.NumbersOfShownGroups.{Placed as IsPlaced}}
+use Rattle.nntp_theory.proofs.{Session.{NumbersWithinLimit.{free_in_limit}, FittingFacts.{IsFitting}}, GivenNumbers.AsksDecided.{denied_or_not}}
+use Rattle.nntp_theory.proofs.{GivenNumbers.AsksDecided.{too_many_or_not, unmet_or_met}, Conflicts.{with_told, told_together, told_fit}}
+use Rattle.nntp_theory.{proofs.Ids.SmallGivenSpool.{names_of, shown_name, name_shown}, specs.Given.{asks_of, is_shown_group, first_given, id_in, head_in}}
+use Rattle.nntp_theory.specs.{Given.{fields_in, body_in, is_known, is_denied, demand, IsGivenNumber, HasGivenNumbers}, Inner.Given.{size}}
+use Rattle.nntp_theory.specs.{Inner.{Together.{IsWellFormed, AgreesWithItself, Together}, Conflict.{FitsThere}}, Together.{is_possible, MeetsDemand, IsFewFor}}
+use Rattle.nntp_theory.specs.{Together.{denies_group, number_in, shows_article, denies_article, GiveOne}, Conflict.{Placed, told_with, SomeHas, Point, Step}}
+use Rattle.nntp_theory.specs.Conflict.{Group, Number, Count, First, IdOf, PlaceOf, Article, HeadOf, BodyOf, FieldOf, words_told, ConflictAt, rank, IsFirstPoint}
+use Rattle.std.proofs.Common.{◌≡◌, ℕ, ◌+◌, ◌<◌, ◌^◌, ◌⊎◌, true, false, IsTrue, List, [], ◌∷◌, ◌++◌, map, Option, Some, inl, inr, refl, sym, ap, subst, ◌∙◌}
+use Rattle.std.{proofs.{Common.{arith, Bool}, lemmas.Bool.{true≢false, cases_Bool, cases_eq, eqb-true, false_from_ne_true, cases_lt}}, specs.Prelude.{IsFalse}}
+use Rattle.std.specs.{Prelude.{IfSome, not}, List.{AllByRecursion, list_any, flat_map}, Cmp.Lexicographic.{same_text}}
 use Rattle.nntp_wire.specs.{declared.marks.Marks.{Marks, TheVariants.{Lenient}}, Listing.{OverviewValue}}
 use Rattle.nntp_article.specs.{Article.{Parts.{Id, Line}, Fields.{Word, Fields, words_in}}, declared.article.field.Field.{Field, TheVariants.{Subject, From}}}
 use Rattle.nntp_article.specs.{declared.{article.field.Field.TheVariants.{Date, References}, session.profile.Profile.{Profile}}, Session.Spool.{Name, Numbers}}
 use Rattle.nntp_article.specs.Session.{Spool.{numbers}, Machine.{is_same}}
 use Rattle.nntp_said.{proofs.FiniteMapsDecided.{Dec, dec_some, dec_texts, dec_lists, dec_all}, specs.{Asks.{Ask}, Facts.{Fact, IdAt, TextIs, FieldsAre}}}
 use Rattle.nntp_said.specs.Facts.{OverviewsAre}
-use Rattle.nntp_theory.specs.Given.{asks_of, is_shown_group, first_given, id_in, head_in, fields_in, body_in, is_known, is_denied, demand, IsGivenNumber}
-use Rattle.nntp_theory.specs.{Given.{HasGivenNumbers}, Inner.{Given.{size}, Together.{IsWellFormed, AgreesWithItself, Together}, Conflict.{FitsThere}}}
-use Rattle.nntp_theory.specs.{Together.{is_possible, MeetsDemand, IsFewFor, denies_group, number_in, shows_article, denies_article, GiveOne}, Conflict.{Placed}}
-use Rattle.nntp_theory.specs.Conflict.{told_with, SomeHas, Point, Step, Group, Number, Count, First, IdOf, PlaceOf, Article, HeadOf, BodyOf, FieldOf}
-use Rattle.nntp_theory.{specs.Conflict.{words_told, ConflictAt, rank, IsFirstPoint}, proofs.{PointsByRank.{each, or_next, PointsOf, of_rank}, Members.{In}}}
-use Rattle.nntp_theory.proofs.{Members.{all_at, all_from, in_map, any_in, found_in, first_there, part_first, to_flat}, Given.GivenHolds.{one_given}}
-use Rattle.nntp_theory.proofs.{Given.ConstructedSpool.{made, made_group, made_given}, Together.ListedOverviews.{overview_at, overview_of, told_by}}
-use Rattle.nntp_theory.proofs.Session.{NumbersOfShownGroups.{Placed as IsPlaced}, NumbersWithinLimit.{free_in_limit}, FittingFacts.{IsFitting}}
-use Rattle.nntp_theory.proofs.{GivenNumbers.AsksDecided.{denied_or_not, too_many_or_not, unmet_or_met}, Conflicts.{with_told, told_together, told_fit}}
-use Rattle.nntp_theory.proofs.Ids.SmallGivenSpool.{names_of, shown_name, name_shown}
 
 -- ---- what a fact gives
 
@@ -200,7 +200,8 @@ module _ (facts : List Fact) where
           | inl t ↦ (let f = found_in (shows_article id) facts t in inl (to_flat article_keys f.0 id facts f.1 (article_keyed id f.0 f.2)))
           | inr f ↦ inr (λ t. absurd (true≢false (sym t ∙ f)))
         ])
-        (λ id. elim (both_or_apart (list_any (shows_article id) facts) (list_any (denies_article id) facts)) [ inl h ↦ inl (Article id, refl, h) | inr free ↦ inr free ])
+        (λ id. elim (both_or_apart (list_any (shows_article id) facts) (list_any (denies_article id) facts))
+        [ inl h ↦ inl (Article id, refl, h) | inr free ↦ inr free ])
 
     heads : AtRank 8 ⊎ ((id : Id) → GiveOne (head_in id) facts)
     heads = each_given article_keys head_in dec_lists head_keyed (AtRank 8) (λ id c. (HeadOf id, refl, c))
@@ -213,17 +214,11 @@ module _ (facts : List Fact) where
 
     -- where the words of each header are told in one way, so are all
     all_fields : ((k : Id × Field) → GiveOne (words_told k.0 k.1) facts) → (id : Id) → GiveOne (fields_in id) facts
-    all_fields one id = all_from (IsFirst (fields_in id)) facts (λ fact i. by fact i (fields_in id fact) refl)
-      where
-        by : (fact : Fact) → In fact facts → (o : Option Fields) → fields_in id fact ≡ o → IfSome o (λ x. first_given (fields_in id) facts ≡ Some x)
-        by fact i None e = tt
-        by fact i (Some x) e =
-            let z = first_there (fields_in id) facts fact x i e in
-            let same : (field : Field) → words_in z.0 field ≡ words_in x field = λ field.
-            (let first = one_given (words_told id field) facts (one (id, field)) fact i (words_in x field) (ap (option_map (λ x. words_in x field)) e) in
-            let whole : Some (words_in z.0 field) ≡ Some (words_in x field) = sym (part_first (λ x. words_in x field) (fields_in id) facts ∙ ap (option_map (λ x. words_in x field)) z.1) ∙ first in
-            cc) in
-            z.1 ∙ ap Some (λ i. record { subject = same Subject i; from = same From i; date = same Date i; references = same References i })
+    all_fields one id = all_from (IsFirst (fields_in id)) facts (λ fact i. if_some (fields_in id fact) (λ x. first_given (fields_in id) facts ≡ Some x) (λ x e.
+        let z = first_there (fields_in id) facts fact x i e in
+        let same : (field : Field) → words_in z.0 field ≡ words_in x field = λ field.
+        grind (arith, part_first (λ x. words_in x field) (fields_in id) facts, one_given (words_told id field) facts (one (id, field)) fact i) in
+        z.1 ∙ ap Some (λ i. record { subject = same Subject i; from = same From i; date = same Date i; references = same References i })))
 
     -- ---- all of them
 

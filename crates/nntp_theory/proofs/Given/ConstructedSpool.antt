@@ -1,10 +1,9 @@
 -- A construction of the spool that is given.
 use Rattle.std.proofs.Common.{◌≡◌, ℕ, ◌+◌, ◌<◌, ◌≤◌, ◌↔◌, ◌⊎◌, true, cond, eqb, IsTrue, List, [], ◌∷◌, ◌++◌, map, length, Option, None, Some, is_some, IsSome}
-use Rattle.std.proofs.{Common.{inl, inr, refl, sym, ap, subst, ◌∙◌, arith, length-append}, lemmas.Bool.{cases_lt, or_left, or_right, eq-eqb}}
-use Rattle.std.{proofs.lemmas.Map.Steps.{le-length_from_below}, specs.{Prelude.{unwrap_or, option_to_list}, List.{list_any, flat_map}, Ordering.{nat_cmp}}}
-use Rattle.std.specs.{Cmp.{nat_cmp_total, IsTotalOrder, Lexicographic.{slice_cmp, same_text, nat_list_cmp_total}}, FinMap.{FinMap, get, empty, keys, entries}}
-use Rattle.std.specs.FinMap.{from_sorted, entries-from_sorted, nat_cmp-IsAntisymmetric, slice_cmp-IsAntisymmetric, IsAntisymmetric}
-use Rattle.std.specs.declared.cmp.Ordering.{Ordering}
+use Rattle.std.proofs.{Common.{inl, inr, refl, sym, ap, subst, ◌∙◌, arith, length-append}, lemmas.{Bool.{cases_lt}, Map.Steps.{le-length_from_below}}}
+use Rattle.std.specs.{Prelude.{unwrap_or, option_to_list}, List.{list_any, flat_map}, Ordering.{nat_cmp}, Cmp.{nat_cmp_total, IsTotalOrder}}
+use Rattle.std.specs.{Cmp.Lexicographic.{slice_cmp, same_text, nat_list_cmp_total}, FinMap.{FinMap, get, empty, keys, entries, from_sorted}}
+use Rattle.std.specs.{FinMap.{entries-from_sorted, nat_cmp-IsAntisymmetric, slice_cmp-IsAntisymmetric, IsAntisymmetric}, declared.cmp.Ordering.{Ordering}}
 use Rattle.nntp_article.specs.{Session.{Spool.{Spool, Text, Numbers, IsNumber, IsGroup, numbers, Name}, Machine.{is_same}}, Article.Parts.{Id}}
 use Rattle.nntp_article.specs.Article.Fields.{made_head}
 use Rattle.nntp_said.specs.Facts.{Fact, TextIs, FieldsAre}

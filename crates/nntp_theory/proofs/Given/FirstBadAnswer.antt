@@ -1,8 +1,8 @@
 -- Some spool permits a session, or exactly one answer is the first that none does.
 use Rattle.nntp_wire.specs.{declared.marks.Marks.{Marks}, Answer.{Asked, Response}}
 use Rattle.std.proofs.Common.{◌≡◌, ℕ, zero, suc, ◌+◌, ◌<◌, ◌≤◌, ◌^◌, ◌⊎◌, List, [], ◌∷◌, ◌++◌, length, take, Option, None, inl, inr, sym, ap, subst, ◌∙◌, arith}
-use Rattle.std.{proofs.{Math.Seq.{take-length}, lemmas.Bool.{cases_order, true≢false}}, specs.{Prelude.{unwrap_or}, Ordering.{nat_cmp}}}
-use Rattle.std.specs.{Cmp.Lexicographic.{slice_cmp}, FinMap.{get, empty, get-empty}}
+use Rattle.std.{proofs.{Math.Seq.{take-length}, lemmas.Bool.{true≢false}}, specs.{Prelude.{unwrap_or}, Ordering.{nat_cmp}, Cmp.Lexicographic.{slice_cmp}}}
+use Rattle.std.specs.FinMap.{get, empty, get-empty}
 use Rattle.nntp_article.specs.Session.{Spool.{Spool, Numbers, IsSpool, numbers, Name}, Machine.{State, Visible, Run, start, visible_after}}
 use Rattle.nntp_article.specs.declared.session.profile.Profile.{Profile}
 use Rattle.nntp_said.specs.{Asks.{position_after}, declared.position.Position.{Position, TheVariants.{Nowhere}}, Facts.{Fact, facts_from}}
@@ -73,12 +73,9 @@ pub permitted_or_bad : (profile : Profile) (ps : List Asked) (answers : List Res
     ⊎ ((k : ℕ) × IsFirstUnpermitted profile ps answers k)
 permitted_or_bad profile ps answers small = subst
     (λ all. SomePermits profile ps all ⊎ ((k : ℕ) × IsFirstUnpermitted profile ps answers k)) (take-length answers)
-    (holds_or_ends (λ n. SomePermits profile ps (take n answers)) (length answers) (none_permitted profile ps answers) decided)
-  where
-    decided : (n : ℕ) → n ≤ length answers → SomePermits profile ps (take n answers) ⊎ (SomePermits profile ps (take n answers) → ⊥)
-    decided n le =
-        let few = size_fewer profile.marks start.visible Nowhere ps answers n in
-        elim (some_or_none profile ps (take n answers) (omega arith)) [ inl some ↦ inl some | inr none ↦ inr (λ h. none h.0 h.1 h.2) ]
+    (holds_or_ends (λ n. SomePermits profile ps (take n answers)) (length answers) (none_permitted profile ps answers) (λ n le.
+    elim (some_or_none profile ps (take n answers) (omega (arith, size_fewer profile.marks start.visible Nowhere ps answers n)))
+    [ inl some ↦ inl some | inr none ↦ inr (λ h. none h.0 h.1 h.2) ]))
 
 -- and never both
 pub never_both : (profile : Profile) (ps : List Asked) (answers : List Response) (k : ℕ) → SomePermits profile ps answers → IsFirstUnpermitted profile ps answers k → ⊥

@@ -1,9 +1,8 @@
 -- What stands together holds of the spool that is given for it.
 use Rattle.std.proofs.Common.{◌≡◌, ℕ, ◌+◌, ◌<◌, ◌⊎◌, true, false, IsTrue, List, [], ◌∷◌, ◌++◌, map, length, Option, None, Some, is_some, inl, inr, refl, sym}
-use Rattle.std.proofs.{Common.{ap, subst, ◌∙◌, arith}, lemmas.Bool.{true≢false, and_parts, false_from_ne_true, eqb-true, eq-eqb}}
-use Rattle.std.{proofs.lemmas.List.Elements.{All-from_recursion}, specs.{Prelude.{IsFalse, IfSome, IsSome, MatchOption, unwrap_or}, List.{AllByRecursion}}}
-use Rattle.std.specs.{List.{list_any}, Ordering.{nat_cmp}, FinMap.{get, empty, entries, get-entries, get-empty, nat_cmp-IsAntisymmetric}}
-use Rattle.std.specs.FinMap.{slice_cmp-IsAntisymmetric}
+use Rattle.std.proofs.{Common.{ap, subst, ◌∙◌, arith}, lemmas.{Bool.{true≢false, false_from_ne_true, eqb-true}, List.Elements.{All-from_recursion}}}
+use Rattle.std.specs.{Prelude.{IsFalse, IfSome, IsSome, unwrap_or}, List.{AllByRecursion, list_any}, FinMap.{get, empty, entries, get-entries, get-empty}}
+use Rattle.std.specs.FinMap.{nat_cmp-IsAntisymmetric, slice_cmp-IsAntisymmetric}
 use Rattle.nntp_article.specs.Article.{Parts.{head_part, body_part, is_empty, Id, Line}, Fields.{Fields, fields_of_head, fields_told, made_head}}
 use Rattle.nntp_article.specs.Session.{Spool.{Spool, Text, Numbers, IsNumber, IsGroup, numbers, text_of, Lists, Name}, Machine.{is_same, overview_numbers}}
 use Rattle.nntp_article.specs.{Session.Machine.{head_fits, active_fits, ActivesAgree, HasOverview}, Inner.Fields.{AreWords}}
@@ -27,11 +26,7 @@ entry_of_number N n id e = entry_in nat_cmp-IsAntisymmetric n id (entries N) (sy
 
 -- a number of a name is one of a group
 pub group_of_number : (S : Spool) (name : Name) (n : ℕ) → IsNumber (numbers S name) n → (N : Numbers) × (get S.groups name ≡ Some N) × (numbers S name ≡ N)
-group_of_number S name n i = by (get S.groups name) refl i
-  where
-    by : (o : Option Numbers) → get S.groups name ≡ o → IsNumber (unwrap_or o empty) n → (N : Numbers) × (get S.groups name ≡ Some N) × (unwrap_or (get S.groups name) empty ≡ N)
-    by None e i = absurd (not_number empty n (get-empty nat_cmp n) i)
-    by (Some N) e i = (N, e, ap (λ o. unwrap_or o empty) e)
+group_of_number S name n i = let N = some_is (get S.groups name) (grind (arith, not_number, get-empty)) in (N.0, N.1, ap (λ o. unwrap_or o empty) N.1)
 
 -- where there is an empty line, the parts make the whole
 pub parts_joined : (lines : List Line) → list_any is_empty lines ≡ true → lines ≡ head_part lines ++ [] ∷ body_part lines
@@ -181,14 +176,10 @@ module _ (profile : Profile) (B : ℕ) (G : Spool) (facts : List Fact) (s : Sett
   -- an article of G is as an overview tells
   overview_tells : (os : List OverviewValue) (fact : Fact) → In fact facts → ((id : Id) → fields_in id fact ≡ first_given (fields_of_overview id) os) → AllByRecursion (TellsOwn os) os
       → AllByRecursion IsProperOverview os → (o : OverviewValue) → In o os → IsSome (get G.articles o.id) → HasOverview G o
-  overview_tells os fact i is own proper o j there = by (get G.articles o.id) refl there
-    where
-      told : first_given (fields_in o.id) facts ≡ Some (fields_told o)
-      told = one_given (fields_in o.id) facts (s.together.fields o.id) fact i (fields_told o) (is o.id ∙ all_at (TellsOwn os) o os own j)
-
-      by : (t : Option Text) → get G.articles o.id ≡ t → IsSome t → MatchOption t ⊥ (λ t. fields_of_head t.head ≡ fields_told o)
-      by None e there = cc
-      by (Some t) e there = fields_are o.id t (fields_told o) e told (all_at IsProperOverview o os proper j).1
+  overview_tells os fact i is own proper o j there =
+      let t = some_is (get G.articles o.id) there in
+      let told = one_given (fields_in o.id) facts (s.together.fields o.id) fact i (fields_told o) (is o.id ∙ all_at (TellsOwn os) o os own j) in
+      grind (arith, t.1, fields_are o.id t.0 (fields_told o) t.1 told (all_at IsProperOverview o os proper j).1)
 
   -- an overview that was sent is G's, where its number is one
   overview_holds : (name : Name) (r : Range) (os : List OverviewValue) → In (OverviewsAre name r os) facts → Lists (numbers G name) r (overview_numbers os)

@@ -1,18 +1,17 @@
 -- The spool that is given is a spool.
-use Rattle.std.specs.{Prelude.{IfSome, option_map, unwrap_or}, List.{AllByRecursion, list_any}, Option.{option_map_or}, FinMap.{get, len}}
-use Rattle.std.{specs.Cmp.Lexicographic.{same_text}, proofs.Common.{◌≡◌, ℕ, ◌≤◌, true, IsTrue, List, ◌∷◌, ◌++◌, ◌∙◌, Option, None, Some, is_some, IsSome, inl}}
-use Rattle.std.proofs.{Common.{inr, refl, sym, ap, subst, arith}, lemmas.{Bool.{true≢false, and_parts, or_cases}, List.Elements.{All-from_recursion}}}
-use Rattle.nntp_theory.proofs.{GivenNumbers.MetNumbersStand.{some_counted}, Together.{FewEnough.{within_one}, ListedOverviews.{told_by}}}
-use Rattle.nntp_theory.proofs.Given.{ShownNames.{shown_named}, GivenHolds.{Setting, one_given, group_of_number, id_cases, shown_at, unshown_once}}
-use Rattle.nntp_theory.proofs.{Members.{In, all_at, all_both, any_in, found_in, first_found, none_there}, Ids.MadeHead.{made_says_id, made_head_is_head}}
+use Rattle.nntp_said.specs.{Asks.{Ask}, Facts.{Fact, TextIs, FieldsAre, OverviewsAre}}
+use Rattle.nntp_theory.proofs.{Members.{if_some, In, all_at, all_both, any_in, found_in, first_found, none_there}, GivenNumbers.MetNumbersStand.{some_counted}}
+use Rattle.nntp_theory.proofs.{Together.{FewEnough.{within_one}, ListedOverviews.{told_by}}, Given.{ShownNames.{shown_named}, GivenHolds.{Setting, one_given}}}
+use Rattle.nntp_theory.proofs.{Given.GivenHolds.{group_of_number, id_cases, shown_at, unshown_once}, Ids.MadeHead.{made_says_id, made_head_is_head}}
 use Rattle.nntp_theory.proofs.{Ids.MadeHead.{made_is_clean}, Session.{FittingFacts.{IsFitting}, NumbersWithinLimit.{free_in_limit, shown_in_limit}}}
 use Rattle.nntp_theory.{proofs.Session.NumbersWithinLimit.{end_in_limit}, specs.Given.{mentions, is_mentioned, gives_article, id_shown, first_given, head_in}}
-use Rattle.nntp_theory.specs.{Given.{fields_in, asks_of, is_shown, is_given_end, says_some}, Inner.Together.{IsProperOverview, IsWellFormed}}
-use Rattle.nntp_theory.specs.Together.{number_in, IsFewFor}
+use Rattle.nntp_theory.specs.{Given.{fields_in, asks_of}, Inner.Together.{IsProperOverview, IsWellFormed}, Together.{number_in, IsFewFor}}
+use Rattle.std.specs.{Prelude.{option_map, unwrap_or}, List.{AllByRecursion}, Option.{option_map_or}, FinMap.{get, len}, Cmp.Lexicographic.{same_text}}
+use Rattle.std.proofs.Common.{◌≡◌, ℕ, ◌≤◌, true, IsTrue, List, ◌∷◌, ◌++◌, ◌∙◌, Option, None, Some, is_some, IsSome, inl, inr, refl, sym, ap, subst, arith}
+use Rattle.std.proofs.lemmas.{Bool.{true≢false, and_parts, or_cases}, List.Elements.{All-from_recursion}}
 use Rattle.nntp_article.specs.Article.{Parts.{is_head, said_id, head_part, body_part, Id, Line}, Fields.{Fields, fields_of_head, made_head}}
-use Rattle.nntp_article.specs.{Inner.Fields.{AreWords}, Session.{Spool.{Spool, Text, IsNumber, IsGroup, numbers, IsSpool, Name, is_line}, Machine.{is_same}}}
+use Rattle.nntp_article.specs.{Inner.Fields.{AreWords}, Session.{Spool.{Spool, Text, IsNumber, numbers, IsSpool, Name, is_line}, Machine.{is_same}}}
 use Rattle.nntp_article.specs.{Session.Machine.{says_own_id}, declared.session.profile.Profile.{Profile}}
-use Rattle.nntp_said.specs.Facts.{Fact, TextIs, FieldsAre, OverviewsAre}
 use Rattle.nntp_wire.specs.Name.{IsMessageId}
 
 -- a head for an id, without lines that hold NUL, CR or LF, and it says no other id
@@ -44,18 +43,14 @@ module _ (profile : Profile) (B : ℕ) (G : Spool) (facts : List Fact) (s : Sett
   in_limit : (name : Name) (n : ℕ) → IsNumber (numbers G name) n → (1 ≤ n) × (n ≤ profile.limit)
   in_limit name n i =
       let g = group_of_number G name n i in
-      let group : IsGroup G name = ap is_some g.1 in
-      elim ((s.given.numbers_given name group n).0 i) [
-        | inl known ↦ elim (or_cases (is_shown (asks_of name facts) n) (is_given_end (asks_of name facts) n) known) [
-          | inl shown ↦ shown_in_limit profile facts s.how s.fitting s.placed name n shown
-          | inr end ↦
-              let stand = s.together.numbers name in
-              let few = stand.few (numbers G name) (s.given.numbers_given name group) in
-              end_in_limit profile facts s.how s.fitting s.placed name n (len (numbers G name)) (and_parts (list_any says_some (asks_of name facts)) _ end).1
-              (λ ask i. within_one (numbers G name) ask (all_at (IsFewFor (numbers G name)) ask (asks_of name facts) few i)) (some_counted (numbers G name) n i) (stand.not_denied n (inl known))
-        ]
-        | inr more ↦ (more.first.0, free_in_limit profile facts s.how s.fitting s.placed name ((s.given.groups name).0 group) n more.first.1)
-      ]
+      let given = s.given.numbers_given name (ap is_some g.1) in
+      let stand = s.together.numbers name in
+      let few = λ (ask : Ask) (i : In ask (asks_of name facts)). within_one (numbers G name) ask
+      (all_at (IsFewFor (numbers G name)) ask (asks_of name facts) (stand.few (numbers G name) given) i) in
+      let ends = end_in_limit profile facts s.how s.fitting s.placed name n (len (numbers G name)) in
+      let shown = shown_in_limit profile facts s.how s.fitting s.placed name n in
+      let free = free_in_limit profile facts s.how s.fitting s.placed name ((s.given.groups name).0 (ap is_some g.1)) n in
+      grind (arith, given n, or_cases, and_parts, shown, ends, few, some_counted (numbers G name) n i, stand.not_denied n, free)
 
   -- an id that is shown is mentioned
   shown_mentioned : (name : Name) (n : ℕ) (id : Id) → id_shown facts name n ≡ Some id → IsTrue (is_mentioned facts id)
@@ -64,13 +59,18 @@ module _ (profile : Profile) (B : ℕ) (G : Spool) (facts : List Fact) (s : Sett
   -- within a group an id has one number
   one_number : (name : Name) (n m : ℕ) (id : Id) → get (numbers G name) n ≡ Some id → get (numbers G name) m ≡ Some id → n ≡ m
   one_number name n m id e f =
-      let one = one_given (number_in name id) facts (s.together.ids_once name id) in
-      let other = id_cases profile B G facts s name m id f in
-      elim (id_cases profile B G facts s name n id e) [
-        | inl a ↦ (let at = shown_at profile B G facts s name n id a in
-            grind (arith, other, shown_at profile B G facts s name m id, one, at, shown_mentioned name n id a, true≢false))
-        | inr a ↦ grind (arith, other, shown_mentioned name m id, unshown_once profile B G facts s name n m id e f, true≢false)
-      ]
+      grind (
+        arith,
+        one_given (number_in name id) facts (s.together.ids_once name id),
+        id_cases profile B G facts s name n id e,
+        id_cases profile B G facts s name m id f,
+        shown_at profile B G facts s name n id,
+        shown_at profile B G facts s name m id,
+        shown_mentioned name n id,
+        shown_mentioned name m id,
+        unshown_once profile B G facts s name n m id e f,
+        true≢false,
+      )
 
   -- ids of articles are message ids
   is_id : (id : Id) → IsSome (get G.articles id) → IsMessageId id
@@ -102,18 +102,14 @@ module _ (profile : Profile) (B : ℕ) (G : Spool) (facts : List Fact) (s : Sett
   made_is : (id : Id) → IsMessageId id → first_given (head_in id) facts ≡ None → IsHeadOf id (made_head id (first_given (fields_in id) facts))
   made_is id is none =
       let told = first_given (fields_in id) facts in
-      let words = by told refl in
+      let words = if_some told AreWords (λ fields e.
+      let f = first_found (fields_in id) facts fields e in
+      told_words id f.0 fields (formed f.0 f.1) (none_there (head_in id) facts f.0 f.1 none) f.2) in
       record {
         is_a_head = made_head_is_head id told words;
         is_clean = made_is_clean id told is words;
         own = λ said e. (let same : Some said ≡ Some id = sym e ∙ made_says_id id told is words in cc);
       }
-    where
-      by : (o : Option Fields) → first_given (fields_in id) facts ≡ o → IfSome o AreWords
-      by None e = tt
-      by (Some fields) e =
-          let f = first_found (fields_in id) facts fields e in
-          told_words id f.0 fields (formed f.0 f.1) (none_there (head_in id) facts f.0 f.1 none) f.2
 
   -- the head of an id is one
   head_is : (id : Id) (t : Text) → get G.articles id ≡ Some t → IsHeadOf id t.head

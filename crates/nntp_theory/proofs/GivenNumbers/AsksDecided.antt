@@ -1,7 +1,7 @@
 -- Whether each part of what is asked of a group stands can be decided, where there are the given numbers.
-use Rattle.std.proofs.{Common.{ℕ, ◌||◌, ◌==◌, ◌⊎◌, IsTrue, List, is_some, inl, inr, sym, ◌∙◌, arith}, lemmas.Bool.{true≢false, not-false, cases_Bool, eqb-true}}
-use Rattle.std.{proofs.lemmas.Bool.{eq-eqb, leb-true, le-leb, or_cases, or_left, or_right, cases_lt}, specs.Prelude.{not, nat_le, IsFalse}}
-use Rattle.std.specs.{List.{AllByRecursion, list_all}, Cmp.{nat_cmp_total}, FinMap.{get, keys, contains_key-keys, nat_cmp-IsAntisymmetric}}
+use Rattle.std.proofs.{Common.{ℕ, ◌||◌, ◌==◌, ◌⊎◌, IsTrue, List, is_some, inl, inr, sym, ◌∙◌, arith}, lemmas.Bool.{cases_Bool, eqb-true, eq-eqb, leb-true}}
+use Rattle.std.{proofs.lemmas.Bool.{le-leb, or_cases, or_left, or_right, cases_lt}, specs.{Prelude.{not, nat_le, IsFalse}, List.{AllByRecursion, list_all}}}
+use Rattle.std.specs.{Cmp.{nat_cmp_total}, FinMap.{get, keys, contains_key-keys, nat_cmp-IsAntisymmetric}}
 use Rattle.nntp_article.specs.Session.Spool.{Numbers, IsNumber}
 use Rattle.nntp_said.{proofs.FiniteMapsDecided.{Dec, dec_true, dec_by, dec_all, each_key, passes, fails}, specs.Asks.{Ask}}
 use Rattle.nntp_theory.specs.{declared.demand.Demand.{Demand, TheVariants.{NoDemand, NotEmpty, OnlyOne, SecondIs, Impossible}}, Given.{demand, is_known}}

@@ -1,11 +1,11 @@
 -- What numbers meet stands together.
+use Rattle.std.proofs.Common.{◌⊎◌, ◌≡◌, ℕ, ◌≤◌, Bool, true, false, ◌==◌, not, IsTrue, List, [], ◌∷◌, is_some, MatchOption, inl, inr, refl, sym, subst, ◌∙◌}
+use Rattle.std.proofs.{Common.{arith, ◌&&◌}, lemmas.Bool.{true≢false, or_left, or_right, or_cases, and_parts, eqb-true, ltb-true, cases_Bool, not-true}}
+use Rattle.std.proofs.lemmas.{Bool.{cases_eq, cases_order, eq-eqb, and_from, le-leb, lt-ltb, Decides.{nat_tests}}, Map.Views.{Contains-from_any}}
+use Rattle.std.{proofs.lemmas.Map.{Views.{list_any-from_Contains, tells_apart}, Lookups.{exact_unsigned}}, specs.Prelude.{IsFalse, Contains}}
+use Rattle.std.specs.{List.{AllByRecursion, list_any}, Cmp.{nat_cmp_total, nat_eq_equiv, eq_by_cmp_equiv}, FinMap.{get, len, keys, insert, remove, get-insert}}
+use Rattle.std.specs.FinMap.{get-remove, len-insert, len-remove, empty_of_len, get-empty, contains_key-keys}
 use Rattle.nntp_wire.specs.declared.range.Range.{Range}
-use Rattle.std.proofs.Common.{◌≡◌, ℕ, ◌≤◌, Bool, true, false, ◌==◌, not, IsTrue, List, [], ◌∷◌, is_some, MatchOption, inl, inr, refl, sym, subst, ◌∙◌, arith}
-use Rattle.std.proofs.{Common.{◌&&◌}, lemmas.Bool.{true≢false, or_left, or_right, or_cases, and_parts, eqb-true, ltb-true, cases_Bool, not-true, cases_eq}}
-use Rattle.std.proofs.lemmas.{Bool.{cases_order, eq-eqb, and_from, le-leb, lt-ltb, Decides.{nat_tests}}, Map.Views.{Contains-from_any, list_any-from_Contains}}
-use Rattle.std.{proofs.lemmas.Map.{Views.{tells_apart}, Lookups.{exact_unsigned}}, specs.{Prelude.{IsFalse, Contains}, List.{AllByRecursion, list_any}}}
-use Rattle.std.specs.{Cmp.{nat_cmp_total, nat_eq_equiv, eq_by_cmp_equiv}, FinMap.{get, len, keys, insert, remove, get-insert, get-remove, len-insert}}
-use Rattle.std.specs.FinMap.{len-remove, empty_of_len, get-empty, contains_key-keys}
 use Rattle.nntp_article.specs.Session.{Spool.{Numbers, IsNumber, least, IsInRange}, Machine.{is_in_range}}
 use Rattle.nntp_said.specs.Asks.{Ask, Meets, ListsIn}
 use Rattle.nntp_theory.specs.Given.{shows, denies, is_shown, is_denied, demand_in, demand, wants, IsOneMore, IsGivenNumber, HasGivenNumbers, says_some}
@@ -74,10 +74,6 @@ possible_in N ask h = grind (arith, every, in_range_back, contains_in, eq-eqb, l
 
 -- ---- keys
 
--- where no number is unknown, each is known
-pub any_unknown : (asks : List Ask) (ns : List ℕ) → list_any (λ n. not (is_known asks n)) ns ≡ false → (n : ℕ) → In n ns → IsTrue (is_known asks n)
-any_unknown asks ns none n i = grind (arith, cases_Bool, true≢false, any_in)
-
 -- a number is one of the keys
 pub key_in : (N : Numbers) (n : ℕ) → IsNumber N n → In n (keys N)
 key_in N n i = in_contains n (keys N) (Contains-from_any (tells_apart exact_unsigned) n (keys N) (sym (contains_key-keys N n) ∙ i))
@@ -107,6 +103,17 @@ shown_known asks n s = or_left (is_shown asks n) _ s
 some_there : (N : Numbers) (ask : Ask) → Meets N ask → says_some ask ≡ true → (n : ℕ) × IsNumber N n
 some_there N (ListsIn r (m ∷ ns)) h t = (m, shown_is_number N (ListsIn r (m ∷ ns)) m h (or_left (m == m) _ (eq-eqb m m refl)))
 some_there N ask h t = elim (firsts N) [ Empty e none ↦ absurd (grind (arith, none)) | Begins c e here all ↦ (c, here) ]
+
+-- each number is known, or one of them is the one more
+pub known_or_more : (asks : List Ask) (G : Numbers) → HasGivenNumbers asks G
+    → ((n : ℕ) → IsNumber G n → IsTrue (is_known asks n)) ⊎ ((e : ℕ) × IsNumber G e × IsOneMore asks e)
+known_or_more asks G given = elim (cases_Bool (list_any (λ n. not (is_known asks n)) (keys G))) [
+  | inr none ↦ inl (λ n i. grind (arith, cases_Bool (is_known asks n), true≢false, any_in (λ n. not (is_known asks n)) n (keys G) (key_in G n i)))
+  | inl some ↦
+      let f = found_in (λ n. not (is_known asks n)) (keys G) some in
+      let there = key_is G f.0 f.1 in
+      inr (f.0, there, elim ((given f.0).0 there) [ inl t ↦ absurd (true≢false (sym t ∙ not-true _ f.2)) | inr x ↦ x ])
+]
 
 -- there is one more number at most
 pub one_more_once : (asks : List Ask) (e d : ℕ) → IsOneMore asks e → IsOneMore asks d → e ≡ d
@@ -153,17 +160,14 @@ module _ (asks : List Ask) (N : Numbers) (met : AllByRecursion (Meets N) asks) (
 
   -- there are no more given numbers than N's
   pub as_few : (G : Numbers) → HasGivenNumbers asks G → len G ≤ len N
-  as_few G given =
-      elim (cases_Bool (list_any (λ n. not (is_known asks n)) (keys G))) [
-        | inr none ↦ len_le nat_cmp_total G N (λ n i. known_in_N n (any_unknown asks (keys G) none n (key_in G n i)))
-        | inl some ↦
-            let f = found_in (λ n. not (is_known asks n)) (keys G) some in
-            let there = key_is G f.0 f.1 in
-            let x : IsOneMore asks f.0 = elim ((given f.0).0 there) [ inl t ↦ absurd (true≢false (sym t ∙ not-true _ f.2)) | inr x ↦ x ] in
-            let c = wanted_there (IsNumber N) (demand asks) f.0 (demand_of N asks met) x.wanted in
-            let only : IsNumber G c.0 → c.0 ≡ f.0 = grind (arith, true≢false, one_more_once) in
-            subst (λ n. n ≤ len N) (len_replaced G f.0 c.0 there only) (len_le nat_cmp_total (insert (remove G f.0) c.0 []) N (λ n i. replaced_in_N G given f.0 c.0 x c.1 n i))
-      ]
+  as_few G given = elim (known_or_more asks G given) [
+    | inl known ↦ len_le nat_cmp_total G N (λ n i. known_in_N n (known n i))
+    | inr (e, there, x) ↦
+        let c = wanted_there (IsNumber N) (demand asks) e (demand_of N asks met) x.wanted in
+        let only : IsNumber G c.0 → c.0 ≡ e = grind (arith, given c.0, true≢false, one_more_once) in
+        subst (λ n. n ≤ len N) (len_replaced G e c.0 there only)
+        (len_le nat_cmp_total (insert (remove G e) c.0 []) N (λ n i. replaced_in_N G given e c.0 x c.1 n i))
+  ]
 
   -- and so what is asked stands together
   pub asks_stand : AsksStand asks

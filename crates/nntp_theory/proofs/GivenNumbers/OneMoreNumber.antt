@@ -3,7 +3,7 @@ use Rattle.std.proofs.Common.{◌≡◌, ℕ, ◌≤◌, Bool, cond, IsTrue, Lis
 use Rattle.std.{proofs.lemmas.Bool.{false_from_ne_true, true≢false}, specs.List.{list_any, flat_map}}
 use Rattle.nntp_said.specs.Asks.{Ask}
 use Rattle.nntp_theory.specs.{Given.{is_known, is_denied, demand, wants, IsOneMore}, Inner.OneMore.{free, if_wanted}}
-use Rattle.nntp_theory.proofs.{GivenNumbers.FirstFreeNumber.{free_is, free_none, first_free_once}, Members.{In, any_in, found_in, to_flat, from_flat}}
+use Rattle.nntp_theory.proofs.{GivenNumbers.FirstFreeNumber.{free_is, free_none}, Members.{In, any_in, found_in, to_flat, from_flat}}
 use Rattle.nntp_theory.proofs.Ids.SmallGivenSpool.{named_by, known_named}
 
 -- ---- the numbers that are known

@@ -1,9 +1,9 @@
 -- Where marks are strict, no number is given beside those that are known.
 use Rattle.std.proofs.{Common.{◌≡◌, ℕ, true, cond, IsTrue, List, [], ◌∷◌, inl, inr, refl, sym, subst, arith}, lemmas.Bool.{true≢false, and_from, or_left}}
 use Rattle.std.{proofs.lemmas.Bool.{or_right, cases_lt, eq-eqb, lt-ltb}, specs.List.{AllByRecursion, list_any}}
-use Rattle.nntp_wire.specs.{declared.{water_marks.WaterMarks.{WaterMarks}, marks.Marks.TheVariants.{Strict}}, Listing.{ActiveValue}}
+use Rattle.nntp_wire.specs.declared.{water_marks.WaterMarks.{WaterMarks}, marks.Marks.TheVariants.{Strict}}
 use Rattle.nntp_article.specs.Session.{Spool.{Name}, Machine.{is_same}}
-use Rattle.nntp_said.specs.{Asks.{Ask, Estimates, Bounds}, Facts.{Fact, Asks, GroupsAre}}
+use Rattle.nntp_said.specs.{Asks.{Estimates}, Facts.{Fact, Asks}}
 use Rattle.nntp_theory.{specs.Given.{asks_in, asks_of, is_known, says_some, IsOneMore}, proofs.Members.{In, all_at, any_in, found_in, to_flat, from_flat}}
 use Rattle.nntp_theory.proofs.{GivenNumbers.{MetNumbersStand.{wants_less}, GivenNumbersMeet.{some_said}}, Session.NumbersOfShownGroups.{IsSelectable, Placed}}
 
@@ -19,21 +19,12 @@ module _ (facts : List Fact) (placed : AllByRecursion (Placed Strict facts) fact
   marked name t =
       let f = found_in says_some (asks_of name facts) t in
       let g = from_flat (asks_in name) f.0 facts f.1 in
-      by g.0 g.1 f.0 g.2 f.2
-    where
-      by : (fact : Fact) → In fact facts → (ask : Ask) → In ask (asks_in name fact) → says_some ask ≡ true → (m : WaterMarks) × In (Estimates Strict m) (asks_of name facts)
-      by (GroupsAre p lines) i ask j t =
-          let f = from_flat (λ (line : ActiveValue). cond (is_same line.name name) (Bounds line.low line.high ∷ []) []) ask lines j in
-          absurd (grind (arith, f.2))
-      by fact i ask j t = grind (arith, selected, all_at (Placed Strict facts) fact facts placed i)
+      grind (arith, selected, all_at (Placed Strict facts) g.0 facts placed g.1, from_flat)
 
   -- so there is no one more: where a number would do, the low mark does
   pub none_more : (name : Name) (n : ℕ) → IsOneMore (asks_of name facts) n → ⊥
   none_more name n x =
-      let asks = asks_of name facts in
-      let some = some_said asks n (inr x) in
-      let k = marked name some in
-      let m = k.0 in
-      let known : IsTrue (is_known asks m.low) =
-      grind (arith, or_right, and_from, any_in, or_left, eq-eqb) in
+      let m = marked name (some_said (asks_of name facts) n (inr x)) in
+      let known : IsTrue (is_known (asks_of name facts) m.0.low) =
+      grind (arith, some_said (asks_of name facts) n (inr x), or_right, and_from, any_in, or_left, eq-eqb) in
       grind (arith, cases_lt, true≢false, any_in, or_left, lt-ltb, wants_less)

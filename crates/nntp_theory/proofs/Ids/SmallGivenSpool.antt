@@ -1,17 +1,17 @@
 -- A session that says little is given a small spool.
+use Rattle.nntp_theory.proofs.{GivenNumbers.MetNumbersStand.{known_or_more, one_more_once}, Members.{In, any_in, found_in, to_flat, from_flat, parts_few}}
+use Rattle.nntp_theory.proofs.{Ids.NumbersOfInventedIds.{mentioned}, Maps.{sorted_keys, keys_among, in_get}, Together.FactsOfASpoolStand.{same_itself, listed}}
+use Rattle.nntp_theory.{proofs.Together.FactsOfASpoolStand.{in_listed}, specs.Given.{shows, HasGivenNumbers, asks_in, asks_of, shows_group, is_shown_group}}
+use Rattle.nntp_theory.specs.{Given.{unshown_in, unshown_ids, is_known}, Inner.Given.{size_in, size}}
 use Rattle.nntp_wire.specs.{declared.marks.Marks.TheVariants.{Strict}, Listing.{ActiveValue, OverviewValue}}
-use Rattle.std.proofs.Common.{◌≡◌, ℕ, ◌+◌, ◌<◌, ◌≤◌, ◌^◌, true, false, cond, not, IsTrue, List, [], ◌∷◌, ◌++◌, map, length, inl, inr, refl, sym, ap, ◌∙◌, arith}
-use Rattle.std.proofs.{Common.{length-append}, lemmas.{Bool.{cases_Bool, eqb-true, not-true, true≢false, or_cases, and_parts}, List.{length-map}}}
-use Rattle.std.{proofs.lemmas.{List.Folds.{flat_map-map}, Map.{Keys.{IsDistinct-from_sorted}, Text.{is_eq-slice_cmp}}}, specs.List.{AllByRecursion, list_any}}
-use Rattle.std.specs.{List.{flat_map, IsDistinct}, Ordering.{nat_cmp, eq_by_cmp}, Cmp.{nat_cmp_total, Lexicographic.{slice_cmp, same_text, nat_list_cmp_total}}}
-use Rattle.std.specs.FinMap.{keys, entries, entries_sorted, nat_cmp-IsAntisymmetric, slice_cmp-IsAntisymmetric}
-use Rattle.nntp_article.specs.{Session.{Spool.{Spool, Numbers, IsNumber, IsGroup, numbers, Name}, Machine.{is_same, overview_numbers}}, Article.Parts.{Id}}
+use Rattle.std.proofs.Common.{◌≡◌, ℕ, ◌+◌, ◌<◌, ◌≤◌, ◌^◌, true, false, cond, IsTrue, List, [], ◌∷◌, ◌++◌, map, length, inl, inr, refl, sym, ap, arith}
+use Rattle.std.proofs.{Common.{length-append}, lemmas.{Bool.{eqb-true, or_cases, and_parts}, List.{length-map, Folds.{flat_map-map}}}}
+use Rattle.std.{proofs.lemmas.Map.{Keys.{IsDistinct-from_sorted}, Text.{is_eq-slice_cmp}}, specs.List.{AllByRecursion, flat_map, IsDistinct}}
+use Rattle.std.specs.{Ordering.{nat_cmp, eq_by_cmp}, Cmp.{nat_cmp_total, Lexicographic.{slice_cmp, same_text, nat_list_cmp_total}}, FinMap.{keys, entries}}
+use Rattle.std.specs.FinMap.{entries_sorted, nat_cmp-IsAntisymmetric, slice_cmp-IsAntisymmetric}
+use Rattle.nntp_article.specs.{Session.{Spool.{Spool, Numbers, IsGroup, numbers, Name}, Machine.{is_same, overview_numbers}}, Article.Parts.{Id}}
 use Rattle.nntp_said.specs.{Asks.{Ask, Estimates, Bounds, ListsIn, Has, StandsAt, StepsUp, StepsDown}, declared.position.Position.TheVariants.{First}}
 use Rattle.nntp_said.specs.Facts.{Fact, ThereIs, Asks, IdAt, OverviewsAre, GroupsAre}
-use Rattle.nntp_theory.specs.Given.{shows, IsOneMore, HasGivenNumbers, asks_in, asks_of, shows_group, is_shown_group, unshown_in, unshown_ids, is_known}
-use Rattle.nntp_theory.{specs.Inner.Given.{size_in, size}, proofs.Members.{In, any_in, found_in, to_flat, from_flat, parts_few}}
-use Rattle.nntp_theory.proofs.{GivenNumbers.MetNumbersStand.{one_more_once, any_unknown, key_in, key_is}, Ids.NumbersOfInventedIds.{mentioned}}
-use Rattle.nntp_theory.proofs.{Maps.{sorted_keys, keys_among, in_get}, Together.FactsOfASpoolStand.{same_itself, listed, in_listed}}
 
 -- ---- the names and numbers that are shown, as lists
 
@@ -137,18 +137,13 @@ mentioned_few (fact ∷ facts) = grind (arith, length-append, length-map, mentio
 
 -- there is one number more than are known, at most
 pub given_few : (name : Name) (facts : List Fact) (N : Numbers) → HasGivenNumbers (asks_of name facts) N → length (entries N) ≤ 1 + length (shown_numbers name facts)
-given_few name facts N given =
-    let asks = asks_of name facts in
-    elim (cases_Bool (list_any (λ n. not (is_known asks n)) (keys N))) [
-      | inr none ↦ (let le = keys_among nat_cmp_total N (shown_numbers name facts) (λ n i. known_number name facts n (any_unknown asks (keys N) none n (key_in N n i))) in omega arith)
-      | inl some ↦
-          let f = found_in (λ n. not (is_known asks n)) (keys N) some in
-          let unshown : (n : ℕ) → IsNumber N n → is_known asks n ≡ false → IsOneMore asks n = λ n i h. elim ((given n).0 i) [ inl t ↦ absurd (true≢false (sym t ∙ h)) | inr x ↦ x ] in
-          let one = unshown f.0 (key_is N f.0 f.1) (not-true _ f.2) in
-          let le = keys_among nat_cmp_total N (f.0 ∷ shown_numbers name facts)
-          (λ n i. grind (arith, known_number name facts n, one_more_once asks f.0 n one, unshown n i)) in
-          omega arith
-    ]
+given_few name facts N given = elim (known_or_more (asks_of name facts) N given) [
+  | inl known ↦ (let le = keys_among nat_cmp_total N (shown_numbers name facts) (λ n i. known_number name facts n (known n i)) in omega arith)
+  | inr (e, there, x) ↦
+      let le = keys_among nat_cmp_total N (e ∷ shown_numbers name facts)
+      (λ n i. grind (arith, known_number name facts n, one_more_once (asks_of name facts) e n x, given n)) in
+      omega arith
+]
 
 -- ids for which none is shown are no more than the numbers
 unshown_few : (facts : List Fact) (name : Name) (es : List (ℕ × Id)) → length (unshown_in facts name es) ≤ length es

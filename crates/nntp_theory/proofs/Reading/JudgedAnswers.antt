@@ -58,11 +58,11 @@ module _ (Stand : List Paired → Type 0) where
   one_judged past a b c (Refused x) (Refused y) (n, h) (m, k) = let one = one-next a b c x y n m in (ap Refused one.0, one.1)
   one_judged past a b c (Accepted x) (Refused y) (n, h) (m, none) = absurd (none (subst (λ pair. Stand (past ++ pair ∷ [])) (one-next a b c x y n m).0 h))
   one_judged past a b c (Refused x) (Accepted y) (n, none) (m, h) = absurd (none (subst (λ pair. Stand (past ++ pair ∷ [])) (sym (one-next a b c x y n m).0) h))
-  one_judged past a b c (Accepted x) (Unspelled i place initial block) (n, h) (at, passed) = absurd (next-no-end (bad PairMalformed) a b x n (passed-ends a c place initial block passed))
-  one_judged past a b c (Refused x) (Unspelled i place initial block) (n, h) (at, passed) = absurd (next-no-end (bad PairMalformed) a b x n (passed-ends a c place initial block passed))
-  one_judged past a b c (Unspelled i place initial block) (Accepted y) (at, passed) (m, k) = absurd (next-no-end (bad PairMalformed) a c y m (passed-ends a b place initial block passed))
-  one_judged past a b c (Unspelled i place initial block) (Refused y) (at, passed) (m, k) = absurd (next-no-end (bad PairMalformed) a c y m (passed-ends a b place initial block passed))
   one_judged past a b c (Unspelled i place initial block) (Unspelled j also other next) (at, passed) (to, second) = grind (arith, one-passed a b c place also initial other block next passed second)
+  one_judged past a b c x (Unspelled i place initial block) h (at, passed) =
+      absurd (next-no-end (bad PairMalformed) a b _ h.0 (passed-ends a c place initial block passed))
+  one_judged past a b c (Unspelled i place initial block) y (at, passed) k =
+      absurd (next-no-end (bad PairMalformed) a c _ k.0 (passed-ends a b place initial block passed))
 
   -- ---- several answers
 

@@ -48,11 +48,7 @@ module _ (profile : Profile) (facts : List Fact) (how : Marks) (fitting : AllByR
   end_in_limit name n count t few some free =
       let f = found_in (λ ask. is_end ask n) (asks_of name facts) t in
       let g = from_flat (asks_in name) f.0 facts f.1 in
-      by g.0 (fits g.0 g.1) f.0 g.2 f.2 (few f.0 f.1) (any_in (λ ask. denies ask n) f.0 (asks_of name facts) f.1)
-    where
-      by : (fact : Fact) → IsFitting profile fact → (ask : Ask) → In ask (asks_in name fact) → is_end ask n ≡ true → IsTrue (is_within (estimate_in ask) count)
-          → (IsTrue (denies ask n) → IsTrue (is_denied (asks_of name facts) n)) → (1 ≤ n) × (n ≤ profile.limit)
-      by fact h ask i t few denied = grind (arith, from_flat)
+      grind (arith, fits g.0 g.1, few f.0 f.1, any_in (λ ask. denies ask n) f.0 (asks_of name facts) f.1, from_flat)
 
   -- so a number that isn't denied is within it
   pub free_in_limit : (name : Name) → IsTrue (is_shown_group facts name) → (n : ℕ) → IsFalse (is_denied (asks_of name facts) n) → n ≤ profile.limit

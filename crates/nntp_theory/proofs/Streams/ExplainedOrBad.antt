@@ -1,7 +1,7 @@
 -- Of the spools with some property one explains two streams, or exactly one answer is bad.
 use Rattle.std.{specs.Prelude.{⊤}, proofs.Common.{◌≡◌, ◌≢◌, ℕ, zero, suc, ◌+◌, ◌<◌, ◌≤◌, ◌^◌, ◌⊎◌, List, [], ◌∷◌, ◌++◌, length, take, inl, inr, refl, sym, ap}}
-use Rattle.std.proofs.{Common.{subst, ◌∙◌, arith, length-append, append_assoc}, Math.Seq.{take-length}, lemmas.Bool.{cases_lt, cases_order}}
-use Rattle.std.proofs.lemmas.List.{append-nil, length-take, nil_from_length}
+use Rattle.std.proofs.{Common.{subst, ◌∙◌, arith, length-append, append_assoc}, Math.Seq.{take-length}, lemmas.{Bool.{cases_lt}, List.{append-nil}}}
+use Rattle.std.proofs.lemmas.List.{length-take, nil_from_length}
 use Rattle.nntp_article.specs.Session.{Spool.{Spool, IsSpool}, Machine.{Run, start}, Explains.{ExplainsUpTo, Explains, ExplainsFirst, BadAmong, Bad}}
 use Rattle.nntp_article.specs.declared.session.profile.Profile.{Profile}
 use Rattle.nntp_wire.{specs.{Session.{Spelled, prompts_of, ClientStream}, Answer.{Asked, Response, Spells}}, proofs.SpellsDecided.{some-spelling}}

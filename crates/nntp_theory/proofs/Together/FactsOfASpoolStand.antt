@@ -1,4 +1,10 @@
 -- What holds of a spool stands together.
+use Rattle.nntp_theory.proofs.Members.{if_some, first_is, In, all_at, all_front, all_back, all_both, all_from, any_in, found_in, in_map, from_map, contains_in}
+use Rattle.nntp_theory.proofs.{Members.{in_contains, first_found, first_there}, Together.ListedOverviews.{overview_at, overview_of, told_by}}
+use Rattle.nntp_theory.{proofs.GivenNumbers.{MetNumbersStand.{asks_stand}, AskedOfAGroup.{met_by_facts}}, specs.Given.{asks_of, shows_group, is_shown_group}}
+use Rattle.nntp_theory.specs.Given.{first_given, id_of_overview, id_in, id_shown, has_overview_of, head_in, fields_of_overview, fields_in, body_in}
+use Rattle.nntp_theory.specs.{Inner.Together.{IsProperOverview, IsWellFormed, TellsOwn, AgreesWithItself, Together}, Together.{denies_group}}
+use Rattle.nntp_theory.specs.Together.{number_of_overview, number_in, shows_article, denies_article, GiveOne}
 use Rattle.std.proofs.Common.{◌≡◌, ℕ, ◌↔◌, Bool, true, cond, IsTrue, List, [], ◌∷◌, ◌++◌, map, Option, None, Some, is_some, IsSome, refl, sym, ap, subst, ◌∙◌}
 use Rattle.std.proofs.{Common.{arith}, lemmas.Bool.{true≢false, and_parts, eqb-true, eq-eqb, false_from_ne_true, not-true}}
 use Rattle.std.{proofs.lemmas.List.Elements.{recursion_from_All}, specs.{Prelude.{IfSome, option_map}, List.{AllByRecursion, list_any}, Option.{option_map_or}}}
@@ -7,12 +13,6 @@ use Rattle.nntp_article.specs.{Article.{Parts.{Line, Id, head_part, body_part}, 
 use Rattle.nntp_article.specs.Session.{Spool.{IsGroup, numbers, IsSpool, HasText, text_of, is_line, Name}, Machine.{is_same, HasOverview}}
 use Rattle.nntp_article.{specs.Inner.Fields.{AreWords}, proofs.ArticleLemmas.{HeadHasNoEmptyLine.{parts}, WordsOfLines.{head_has_words}}}
 use Rattle.nntp_said.specs.Facts.{Fact, Holds, ThereIs, ThereIsNo, IdAt, TextIs, NoArticle, FieldsAre, OverviewsAre, GroupsAre}
-use Rattle.nntp_theory.specs.Given.{asks_of, shows_group, is_shown_group, first_given, id_of_overview, id_in, id_shown, has_overview_of, head_in}
-use Rattle.nntp_theory.specs.{Given.{fields_of_overview, fields_in, body_in}, Inner.Together.{IsProperOverview, IsWellFormed, TellsOwn, AgreesWithItself}}
-use Rattle.nntp_theory.specs.{Inner.Together.{Together}, Together.{denies_group, number_of_overview, number_in, shows_article, denies_article, GiveOne}}
-use Rattle.nntp_theory.proofs.Members.{In, all_at, all_front, all_back, all_both, all_from, any_in, found_in, in_map, from_map, contains_in, in_contains}
-use Rattle.nntp_theory.proofs.{Members.{first_found, first_there}, Together.ListedOverviews.{overview_at, overview_of, told_by}}
-use Rattle.nntp_theory.proofs.GivenNumbers.{MetNumbersStand.{asks_stand}, AskedOfAGroup.{met_by_facts}}
 use Rattle.nntp_wire.specs.{Listing.{ActiveValue, OverviewValue}, Wildmat.{MatchesName}, Decided.{matches_name}, Name.{IsGroupName}}
 use Rattle.nntp_wire.{specs.declared.command.What.{What, TheVariants.{Article}}, proofs.DecidedLemmas.{matches_name-iff}}
 
@@ -37,14 +37,7 @@ matching name p = grind (arith, matches_name-iff)
 -- what facts give is one, where each of them says it of one thing
 give_one : {A : Type 0} (Q : A → Type 0) → ((x y : A) → Q x → Q y → x ≡ y) → (f : Fact → Option A) (facts : List Fact)
     → ((fact : Fact) → In fact facts → (x : A) → f fact ≡ Some x → Q x) → GiveOne f facts
-give_one {A} Q one f facts says = all_from _ facts (λ fact i. by fact i (f fact) refl)
-  where
-    by : (fact : Fact) → In fact facts → (o : Option A) → f fact ≡ o → IfSome o (λ x. first_given f facts ≡ Some x)
-    by fact i None e = tt
-    by fact i (Some x) e =
-        let z = first_there f facts fact x i e in
-        let w = first_found f facts z.0 z.1 in
-        z.1 ∙ ap Some (one z.0 x (says w.0 w.1 z.0 w.2) (says fact i x e))
+give_one Q one f facts says = all_from _ facts (λ fact i. if_some (f fact) (λ x. first_given f facts ≡ Some x) (first_is Q one f facts says fact i))
 
 module _ (limit : ℕ) (S : Spool) (facts : List Fact) (spool : IsSpool limit S) (holds : AllByRecursion (Holds S) facts) where
   -- a fact holds
@@ -212,10 +205,7 @@ module _ (limit : ℕ) (S : Spool) (facts : List Fact) (spool : IsSpool limit S)
   fields_given os h o i =
       let z = first_there (fields_of_overview o.id) os o (fields_told o) i (grind (arith, same_itself)) in
       let t = overview_text o (all_at (HasOverview S) o os h i) in
-      z.1 ∙ ap Some (fields_once o.id z.0 (fields_told o) (fields_by_overviews o.id z.0 os h z.1) (has_fields o t))
-    where
-      has_fields : (o : OverviewValue) → (t : Text) × (get S.articles o.id ≡ Some t) × (fields_of_head t.head ≡ fields_told o) → HasFields o.id (fields_told o)
-      has_fields o t = t
+      z.1 ∙ ap Some (fields_once o.id z.0 (fields_told o) (fields_by_overviews o.id z.0 os h z.1) t)
 
   -- overviews agree with one another, as S has one id at a number, and one number for an id
   agrees_with_itself : (fact : Fact) → Holds S fact → AgreesWithItself fact
@@ -226,16 +216,12 @@ module _ (limit : ℕ) (S : Spool) (facts : List Fact) (spool : IsSpool limit S)
       in_S o i = (all_at _ o os h.1 i).0
 
       id_given : (o : OverviewValue) → In o os → first_given (id_of_overview o.number) os ≡ Some o.id
-      id_given o i =
-          let z = first_there (id_of_overview o.number) os o o.id i (grind (arith, eq-eqb)) in
-          let w = first_found (id_of_overview o.number) os z.0 z.1 in
-          grind (arith, in_S o i, in_S w.0 w.1, eqb-true)
+      id_given o i = first_is (λ id. get (numbers S name) o.number ≡ Some id) (λ x y e f. cc) (id_of_overview o.number) os
+          (λ p j id e. grind (arith, in_S p j, eqb-true)) o i o.id (grind (arith, eq-eqb))
 
       number_given : (o : OverviewValue) → In o os → first_given (number_of_overview o.id) os ≡ Some o.number
-      number_given o i =
-          let z = first_there (number_of_overview o.id) os o o.number i (grind (arith, same_itself)) in
-          let w = first_found (number_of_overview o.id) os z.0 z.1 in
-          grind (arith, in_S o i, in_S w.0 w.1, same_text w.0.id o.id, spool.one_to_one name w.0.number o.number o.id)
+      number_given o i = first_is (λ n. get (numbers S name) n ≡ Some o.id) (λ n m e f. spool.one_to_one name n m o.id e f) (number_of_overview o.id) os
+          (λ p j n e. grind (arith, in_S p j, same_text p.id o.id)) o i o.number (grind (arith, same_itself))
   agrees_with_itself fact h = grind (arith, all_from, fields_given)
 
   -- what is said stands together

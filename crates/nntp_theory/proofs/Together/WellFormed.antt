@@ -3,7 +3,7 @@ use Rattle.nntp_wire.specs.{declared.marks.Marks.{Marks}, Octets.{crlf}, Inner.O
 use Rattle.nntp_wire.specs.{Block.{AreClean}, Listing.{OverviewValue, active_groups, overviews_of}, Answer.{Asked, Response, group_is, numbers_are, sends}}
 use Rattle.nntp_wire.specs.Answer.{active_are, plain, Spells, SaysByLines, SaysGroup, SaysNumbers, SaysArticle, SaysActive, SaysOverviews, SaysCapabilities}
 use Rattle.nntp_wire.{specs.Answer.{SaysCode, block_octets, IsCleanBlock, overviews_are}, proofs.{AnswerLemmas.{says-ways}, OctetLemmas.{octets-parts}}}
-use Rattle.nntp_wire.proofs.{OctetLemmas.{unstuffed-octets}, ListingLemmas.{active_groups-named, overviews_of-named}}
+use Rattle.nntp_wire.proofs.ListingLemmas.{active_groups-named, overviews_of-named}
 use Rattle.std.{proofs.Common.{◌≡◌, ℕ, true, IsTrue, List, [], ◌∷◌, ◌++◌, ◌⊎◌, Option, Some, arith}, specs.{Prelude.{IfSome, ⊤}, List.{AllByRecursion}}}
 use Rattle.nntp_article.specs.{Session.{Spool.{is_line}, Machine.{Visible, only}}, declared.session.profile.Profile.{Profile}}
 use Rattle.nntp_article.proofs.ArticleLemmas.WordsOfLines.{overview_has_words}
