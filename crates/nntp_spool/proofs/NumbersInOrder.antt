@@ -1,15 +1,42 @@
 -- Numbers that follow one another are numbers of a group, and the other way round.
 use Rattle.std.proofs.Common.{◌≡◌, ◌⊎◌, inl, inr, ℕ, ◌+◌, ◌<◌, ◌≤◌, ◌^◌, Bool, true, false, List, [], ◌∷◌, ◌++◌, None, Some, length, refl, sym, ap, ◌∙◌}
-use Rattle.std.proofs.{Common.{append_assoc, arith}, lemmas.{Bool.{true≢false, false_from_ne_true, and_parts, Decides.{nat_tests}}, List.{nil_from_length}}}
+use Rattle.std.proofs.{Common.{append_assoc, arith}, lemmas.{Bool.{true≢false, false_from_ne_true, and_parts, Decides.{nat_tests}}, List.{nil_from_length, append-nil}}}
 use Rattle.std.{proofs.lemmas.Slice.Eq.{bytes_eq-Decides}, specs.{Prelude.{◌||◌, bytes_eq}, List.{list_all, list_any, AllByRecursion}, Ordering.{nat_cmp}}}
 use Rattle.std.specs.{Ordering.{is_lt, eq_by_cmp}, Cmp.{nat_cmp_total}, FinMap.{get, insert, empty, entries, len, find, is_sorted, entries_sorted, get-entries}}
 use Rattle.std.specs.FinMap.{get-empty, len-empty, len-entries, same_entries_map, nat_cmp-IsAntisymmetric, Entries.{below_all}}
 use Rattle.std.proofs.lemmas.List.{Folds.{list_any_none}, Elements.{recursion_from_All, All-from_recursion}, Sums.{AllPass-from_list_all, list_all-from_AllPass}}
 use Rattle.nntp_wire.specs.Decided.{is_message_id}
 use Rattle.nntp_article.specs.Session.{Machine.{is_article_number}, Spool.{Numbers}}
-use Rattle.nntp_spool.{specs.{Numbers.{has_id}, Ascending.{is_last}, Inner.Content.{AreNumbers}}, proofs.FollowingNumbers.{AllFollow, with_all}}
+use Rattle.nntp_spool.specs.{Numbers.{has_id}, Ascending.{is_last}, Inner.Content.{AreNumbers}, Text.{number_line}}
 use Rattle.nntp_spool.proofs.MapEntries.{is_passed, empty_has, less_before, find_middle, find_front, got_all, all_got, entries-insert_last, apart, tied_itself, got_more}
-use Rattle.nntp_spool.proofs.NumbersRead.{num_between, entries-with_all}
+use Rattle.std.specs.Prelude.{map}
+
+-- a number that may stand behind others
+pub record Follows (limit : ℕ) (N : Numbers) (n : ℕ) (id : List ℕ) : Type 0 where
+  pub num : is_article_number limit n ≡ true
+  pub is_id : is_message_id id ≡ true
+  pub last : is_last N n ≡ true
+  pub fresh : has_id N id ≡ false
+
+abbrev pub number_lines : List (ℕ × List ℕ) → List (List ℕ)
+number_lines es = map (λ e. number_line e.0 e.1) es
+
+-- each may stand behind those before it
+abbrev pub AllFollow : ℕ → Numbers → List (ℕ × List ℕ) → Type 0
+AllFollow limit N [] = Unit {0}
+AllFollow limit N (e ∷ es) = Follows limit N e.0 e.1 × AllFollow limit (insert N e.0 e.1) es
+
+abbrev pub with_all : Numbers → List (ℕ × List ℕ) → Numbers
+with_all N [] = N
+with_all N (e ∷ es) = with_all (insert N e.0 e.1) es
+
+pub entries-with_all : (limit : ℕ) (N : Numbers) (es : List (ℕ × List ℕ)) → AllFollow limit N es → entries (with_all N es) ≡ entries N ++ es
+entries-with_all limit N [] h = sym (append-nil (entries N))
+entries-with_all limit N (e ∷ es) h =
+    entries-with_all limit (insert N e.0 e.1) es h.1 ∙ ap (λ (fs : List (ℕ × List ℕ)). fs ++ es) (entries-insert_last nat_cmp_total N e.0 e.1 h.0.last) ∙ append_assoc (entries N) (e ∷ []) es
+
+pub num_between : (limit n : ℕ) → is_article_number limit n ≡ true → (1 ≤ n) × (n ≤ limit)
+num_between limit n h = (grind (arith, nat_tests, and_parts), grind (arith, nat_tests, and_parts))
 
 pub either_false : (a b : Bool) → (a || b) ≡ false → (a ≡ false) × (b ≡ false)
 either_false a b e = grind arith

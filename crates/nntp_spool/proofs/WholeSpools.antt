@@ -5,7 +5,7 @@ use Rattle.std.{proofs.lemmas.List.Folds.{list_all-append}, specs.{Prelude.{unwr
 use Rattle.std.specs.{Ordering.{nat_cmp}, Cmp.{nat_cmp_total, Lexicographic.{nat_list_cmp_total, bytes_decides}}, FinMap.{get, empty, entries, get-empty}}
 use Rattle.std.specs.FinMap.{nat_cmp-IsAntisymmetric}
 use Rattle.nntp_wire.{proofs.DecidedLemmas.{group_name-iff, message_id-iff}, specs.Limit.{greatest}}
-use Rattle.nntp_spool.proofs.{LineFields.{list_all_weaken}, MapEntries.{empty_has, all_got, got_all}, NumbersInOrder.{no_numbers, all_passed, passed_all}, NumbersRead.{num_between, ok_is}}
+use Rattle.nntp_spool.proofs.{LineFields.{list_all_weaken}, MapEntries.{empty_has, all_got, got_all}, NumbersInOrder.{num_between, no_numbers, all_passed, passed_all}, NumbersRead.{ok_is}}
 use Rattle.nntp_spool.{proofs.{ShownMaps.{octet_keys}, TextTaken.{text_takes}, TextReadAgain.{text_again, counted}}, specs.Content.{all_known}}
 use Rattle.nntp_spool.specs.{Content.{ids_have_articles}, Inner.{Content.{IdsHaveArticles, AreNumbers, IsNamed, IsContent}, Text.{IsWritten}}}
 use Rattle.nntp_spool.specs.{Reading.{spool_at}, declared.text.read_fault.ReadFault.{ReadFault}, Limited.{LimitedSpool, IsWithinLimit}, Text.{spool_text}}
