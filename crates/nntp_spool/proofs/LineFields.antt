@@ -4,7 +4,7 @@ use Rattle.std.proofs.{Common.{subst, ◌∙◌, arith}, lemmas.{Slice.Eq.{bytes
 use Rattle.std.proofs.lemmas.{List.Splits.{join_with_byte-slice_split}, Fmt.{digits_decimal, digits_value-decimal, decimal-digits_value, decimal_nonempty}}
 use Rattle.std.{proofs.lemmas.Fmt.{first_decimal, decimal_digit}, specs.{Prelude.{◌&&◌, bytes_eq, codes}, List.{list_all, join_with_byte}}}
 use Rattle.std.specs.{Char.{is_ascii_digit}, Fmt.{decimal}}
-use Rattle.std.proofs.lemmas.List.Sums.{AllPass-from_list_all, list_all-from_AllPass}
+use Rattle.std.proofs.lemmas.List.{Folds.{list_all-append}, Sums.{AllPass-from_list_all, list_all-from_AllPass}}
 use Rattle.nntp_article.specs.Article.Parts.{is_empty}
 use Rattle.nntp_spool.specs.{Text.{number_line, group_line, article_line}, Fields.{fields_of, are_digits, is_decimal, is_count, value_of, number_and_id}}
 use Rattle.nntp_spool.{specs.Fields.{opening_of, OpeningValue, Group, Article, End}, proofs.{SplitLines.{segments_at}, Decimals.{own}, MapEntries.{some_is}}}
@@ -24,8 +24,7 @@ lacks_from c (x ∷ xs) h =
     grind (arith, nat_tests, and_from, lacks_from c xs (λ k lt. h (suc k) (omega arith)))
 
 pub lacks-append : (c : ℕ) (xs ys : List ℕ) → lacks c xs ≡ true → lacks c ys ≡ true → lacks c (xs ++ ys) ≡ true
-lacks-append c [] ys h g = g
-lacks-append c (x ∷ xs) ys h g = let both = and_parts (not (eqb x c)) (lacks c xs) h in and_from (not (eqb x c)) (lacks c (xs ++ ys)) both.0 (lacks-append c xs ys both.1 g)
+lacks-append c xs ys h g = list_all-append (λ x. not (eqb x c)) xs ys ∙ and_from (lacks c xs) (lacks c ys) h g
 
 pub lacks-digits : (c : ℕ) (xs : List ℕ) → c < 48 → are_digits xs ≡ true → lacks c xs ≡ true
 lacks-digits c xs lt h = list_all_weaken is_ascii_digit (λ x. not (eqb x c)) (λ x d. grind (arith, nat_tests)) xs h

@@ -1,5 +1,5 @@
 -- Numbers that follow one another are numbers of a group, and the other way round.
-use Rattle.std.proofs.Common.{◌≡◌, ◌⊎◌, inl, inr, ℕ, ◌+◌, ◌<◌, ◌≤◌, ◌^◌, Bool, true, false, List, [], ◌∷◌, ◌++◌, None, Some, length, refl, sym, ap, ◌∙◌}
+use Rattle.std.proofs.Common.{◌≡◌, ◌⊎◌, ⊎_elim, ℕ, ◌+◌, ◌<◌, ◌≤◌, ◌^◌, Bool, true, false, List, [], ◌∷◌, ◌++◌, None, Some, length, refl, sym, ap, ◌∙◌}
 use Rattle.std.proofs.{Common.{append_assoc, arith}, lemmas.{Bool.{true≢false, false_from_ne_true, and_parts, Decides.{nat_tests}}, List.{nil_from_length, append-nil}}}
 use Rattle.std.{proofs.lemmas.Slice.Eq.{bytes_eq-Decides}, specs.{Prelude.{◌||◌, bytes_eq}, List.{list_all, list_any, AllByRecursion}, Ordering.{nat_cmp}}}
 use Rattle.std.specs.{Ordering.{is_lt, eq_by_cmp}, Cmp.{nat_cmp_total}, FinMap.{get, insert, empty, entries, len, find, is_sorted, entries_sorted, get-entries}}
@@ -71,14 +71,10 @@ pub one_more : (limit : ℕ) (N : Numbers) (n : ℕ) (id : List ℕ) → AreNumb
 one_more limit N n id a num is_id fresh =
     let before = got_more nat_cmp_total nat_cmp-IsAntisymmetric N n id in
     record {
-      each = λ q x g. each_is q x (before q x g);
+      each = λ q x g. ⊎_elim (λ e. rw (e.0, e.1) (num, is_id)) (a.each q x) (before q x g);
       one_to_one = λ q m x g h. one_is q m x (before q x g) (before m x h);
     }
   where
-    each_is : (q : ℕ) (x : List ℕ) → ((q ≡ n) × (x ≡ id)) ⊎ (get N q ≡ Some x) → (is_article_number limit q ≡ true) × (is_message_id x ≡ true)
-    each_is q x (inl e) = (ap (is_article_number limit) e.0 ∙ num, ap is_message_id e.1 ∙ is_id)
-    each_is q x (inr g) = a.each q x g
-
     one_is : (q m : ℕ) (x : List ℕ) → ((q ≡ n) × (x ≡ id)) ⊎ (get N q ≡ Some x) → ((m ≡ n) × (x ≡ id)) ⊎ (get N m ≡ Some x) → q ≡ m
     one_is q m x h h2 = search (arith, fresh_id)
 

@@ -91,38 +91,33 @@ with_line_ends-append xs ys = flat_map-append (λ line. line ++ 10 ∷ []) xs ys
 pub Lines-first : (a b : Option (List ℕ)) (waiting : List ℕ) (xs ys : List (List ℕ)) (rest : List ℕ)
     → Wrote a b (waiting ++ with_line_ends xs) rest → Wrote a b (waiting ++ with_line_ends (xs ++ ys)) (rest ++ with_line_ends ys)
 Lines-first a b waiting xs ys rest g =
-    subst (λ (t : List ℕ). Wrote a b (waiting ++ t) (rest ++ with_line_ends ys)) (sym (with_line_ends-append xs ys))
-    (Wrote-first a b waiting (with_line_ends xs) (with_line_ends ys) rest g)
+    rw (with_line_ends-append xs ys) (Wrote-first a b waiting (with_line_ends xs) (with_line_ends ys) rest g)
 
 pub Lines-next : (a b c : Option (List ℕ)) (whole waiting : List ℕ) (xs ys : List (List ℕ)) (rest : List ℕ)
     → Wrote a b whole (waiting ++ with_line_ends (xs ++ ys)) → Wrote b c (waiting ++ with_line_ends xs) rest
     → Wrote a c whole (rest ++ with_line_ends ys)
 Lines-next a b c whole waiting xs ys rest h g =
-    Wrote-on a b c whole waiting (with_line_ends xs) (with_line_ends ys) rest
-    (subst (λ (t : List ℕ). Wrote a b whole (waiting ++ t)) (with_line_ends-append xs ys) h) g
+    Wrote-on a b c whole waiting (with_line_ends xs) (with_line_ends ys) rest (rw (with_line_ends-append xs ys) at h) g
 
 -- the first line of a group, and of an article
 pub Group-first : (a b : Option (List ℕ)) (waiting name : List ℕ) (n count : ℕ) (more : List (List ℕ)) (rest : List ℕ) → n ≡ count
     → Wrote a b (waiting ++ with_line_ends (group_line name n ∷ [])) rest
     → Wrote a b (waiting ++ with_line_ends (group_line name count ∷ more)) (rest ++ with_line_ends more)
 Group-first a b waiting name n count more rest e g =
-    Lines-first a b waiting (group_line name count ∷ []) more rest
-    (subst (λ (k : ℕ). Wrote a b (waiting ++ with_line_ends (group_line name k ∷ [])) rest) e g)
+    Lines-first a b waiting (group_line name count ∷ []) more rest (rw e at g)
 
 pub Article-first : (a b : Option (List ℕ)) (waiting id : List ℕ) (m heads n bodies : ℕ) (more : List (List ℕ)) (rest : List ℕ) → m ≡ heads → n ≡ bodies
     → Wrote a b (waiting ++ with_line_ends (article_line id m n ∷ [])) rest
     → Wrote a b (waiting ++ with_line_ends (article_line id heads bodies ∷ more)) (rest ++ with_line_ends more)
 Article-first a b waiting id m heads n bodies more rest e f g =
-    Lines-first a b waiting (article_line id heads bodies ∷ []) more rest
-    (grind arith)
+    Lines-first a b waiting (article_line id heads bodies ∷ []) more rest (rw (e, f) at g)
 
 -- the lines of a spool's limit, where nothing waits before them
 pub Limit-first : (start a b : Option (List ℕ)) (waiting : List ℕ) (limit : Limit) (L : LimitedSpool) (S : Spool) (rest : List ℕ)
     → a ≡ start → waiting ≡ [] → limit ≡ L.limit → S ≡ L.spool
     → Wrote a b (waiting ++ with_line_ends (limit_lines limit)) rest → Wrote start b (spool_text L) (rest ++ with_line_ends (content_lines S))
 Limit-first start a b waiting limit L S rest same none e f g =
-    let left = rest ++ with_line_ends (content_lines S) in
-    let first = subst (λ (l : Limit). Wrote a b (waiting ++ with_line_ends (limit_lines l)) rest) e g in
+    let first = rw e at g in
     let all = Lines-first a b waiting (limit_lines L.limit) (content_lines S) rest first in
     grind arith
 
@@ -135,7 +130,7 @@ abbrev pub number_texts : {A : Type 0} → Texts (ℕ × RcStr A)
 number_texts = record {
   all = λ es. with_line_ends (list_map (λ e. number_line e.0 (rc_str_bytes e.1)) es);
   one = λ e. with_line_ends (number_line e.0 (rc_str_bytes e.1) ∷ []);
-  law = λ x xs. with_line_ends-cons (number_line x.0 (rc_str_bytes x.1)) (list_map (λ e. number_line e.0 (rc_str_bytes e.1)) xs);
+  law = λ x xs. with_line_ends-cons (number_line x.0 (rc_str_bytes x.1)) _;
 }
 
 abbrev pub group_texts : {A : Type 0} → Texts (String A × Numbers)
