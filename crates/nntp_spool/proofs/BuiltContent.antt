@@ -1,5 +1,5 @@
 -- What a builder adds leaves groups and articles that a spool may hold.
-use Rattle.std.proofs.Common.{arith, ◌≡◌, ◌⊎◌, inl, inr, ℕ, Bool, true, false, cond, not, Option, None, Some, is_none, IsSome, refl, sym, ap, subst, ◌∙◌}
+use Rattle.std.proofs.Common.{arith, ◌≡◌, ⊎_elim, ℕ, Bool, true, false, cond, not, Option, None, Some, is_none, IsSome, refl, sym, ap, subst, ◌∙◌}
 use Rattle.std.{proofs.lemmas.Bool.{true≢false, and_parts, not-false}, specs.{Prelude.{◌&&◌, unwrap_or}, List.{list_all}, Ordering.{nat_cmp}}}
 use Rattle.std.specs.{Cmp.Lexicographic.{slice_cmp, nat_list_cmp_total}, FinMap.{get, insert, empty, get-empty}}
 use Rattle.nntp_wire.{specs.Decided.{is_group_name, is_message_id}, proofs.ShownMaps.{insert-same}}
@@ -35,11 +35,10 @@ module _ (limit : ℕ) (S : Spool) (content : IsContent limit S) where
   articles_dropped = record { groups = content.groups; articles = (nothing limit).articles }
 
   with_named : (name : Name) (N : Numbers) → IsNamed limit name N → IsContent limit (with_group S name N)
-  with_named name N named = record { groups = λ q M g. by q M (got_more nat_list_cmp_total octet_keys S.groups name N q M g); articles = content.articles }
-    where
-      by : (q : Name) (M : Numbers) → ((q ≡ name) × (M ≡ N)) ⊎ (get S.groups q ≡ Some M) → IsNamed limit q M
-      by q M (inl e) = record { is_name = ap is_group_name e.0 ∙ named.is_name; numbers = subst (AreNumbers limit) (sym e.1) named.numbers }
-      by q M (inr g) = content.groups q M g
+  with_named name N named = record {
+    groups = λ q M g. ⊎_elim (λ e. rw (e.0, e.1) named) (content.groups q M) (got_more nat_list_cmp_total octet_keys S.groups name N q M g);
+    articles = content.articles;
+  }
 
   pub group_added : (name : Name) → group_fault S name ≡ None → IsContent limit (with_group S name empty)
   group_added name e =
@@ -69,8 +68,7 @@ module _ (limit : ℕ) (S : Spool) (content : IsContent limit S) where
       let c = no_fault (not (list_all is_line t.body)) faults.BadBody _ b.1 in
       let head = and_parts (list_all is_line t.head) (is_head_of id t.head) (not-false (list_all is_line t.head && is_head_of id t.head) b.0) in
       let is : IsArticle id t = record { is_id = not-false (is_message_id id) a.0; head = head.1; head_lines = head.0; body_lines = not-false (list_all is_line t.body) c.0 } in
-      record { groups = content.groups; articles = λ q u g. by is q u (got_more nat_list_cmp_total octet_keys S.articles id t q u g) }
-    where
-      by : IsArticle id t → (q : Id) (u : Text) → ((q ≡ id) × (u ≡ t)) ⊎ (get S.articles q ≡ Some u) → IsArticle q u
-      by is q u (inl e) = subst (λ (v : Text). IsArticle q v) (sym e.1) (subst (λ (k : Id). IsArticle k t) (sym e.0) is)
-      by is q u (inr g) = content.articles q u g
+      record {
+        groups = content.groups;
+        articles = λ q u g. ⊎_elim (λ e. rw (e.0, e.1) is) (content.articles q u) (got_more nat_list_cmp_total octet_keys S.articles id t q u g);
+      }

@@ -6,8 +6,8 @@ use Rattle.std.specs.{List.{AllByRecursion}, FinMap.{FinMap, get, insert, empty,
 use Rattle.std.specs.FinMap.{same_entries_map}
 use Rattle.nntp_article.specs.{Article.Parts.{Line, Id}, Session.Spool.{Name, Spool, Numbers, Text}}
 use Rattle.nntp_spool.specs.{Inner.{Text.{HasLineCounts}, Content.{IsNamed, IsArticle, IsContent}}, Text.{group_lines, article_lines, content_lines}}
-use Rattle.nntp_spool.specs.{Reading.{fault, Place, Turn, item_at, items_at, turn_then, is_end, content_at}, Ascending.{is_last}, Content.{with_group}}
-use Rattle.nntp_spool.{specs.Content.{with_article, no_spool, ids_have_articles}, proofs.{ShownMaps.{spool_is, octet_keys}, MapEntries.{is_passed}}}
+use Rattle.nntp_spool.specs.{Reading.{fault, Place, Turn, On, Done, item_at, items_at, turn_then, is_end, content_at}, Ascending.{is_last}}
+use Rattle.nntp_spool.{specs.Content.{with_group, with_article, no_spool, ids_have_articles}, proofs.{ShownMaps.{spool_is, octet_keys}, MapEntries.{is_passed}}}
 use Rattle.nntp_spool.proofs.{MapEntries.{less_before, find_middle, all_got, entries-insert_last}, NumbersInOrder.{few_numbers}, NumbersRead.{bind_ok, ok_is}}
 use Rattle.nntp_spool.proofs.{NumbersRead.{done, fits_test}, ItemsRead.{TakenItem, item_takes, item_group_again, item_article_again, item_end_again}}
 use Rattle.nntp_spool.specs.declared.text.read_fault.Kind.TheVariants as kinds
@@ -33,46 +33,45 @@ items_take limit (suc most) articles S p x le e =
   where
     taken : (turn : Turn) → TakenItem limit articles S p turn → turn_then (items_at limit most) turn ≡ Ok x
         → ((b : Bool) (T : Spool) (q : Place) → items_at limit most b T q ≡ Ok x → Taken limit b T q x) → Taken limit articles S p x
-    taken turn (inl g) f more =
-        let rest = more false (with_group S g.name g.numbers) g.next (ap (turn_then (items_at limit most)) (sym g.is) ∙ f) in
+    taken (On false T q) (none, g) f more =
+        let rest = more false T q f in
+        let grown = ap (λ (U : Spool). entries U.groups) g.made ∙ entries-insert_last nat_list_cmp_total S.groups g.name g.numbers g.last in
         record {
           groups = (g.name, g.numbers) ∷ rest.groups;
           texts = rest.texts;
           named = (g.named, rest.named);
           are_articles = rest.are_articles;
-          none = λ is. absurd (true≢false (sym is ∙ g.none));
-          with_groups = rw (rest.with_groups, entries-insert_last nat_list_cmp_total S.groups g.name g.numbers g.last, append_assoc) refl;
-          with_texts = rest.with_texts;
+          none = λ is. absurd (true≢false (sym is ∙ none));
+          with_groups = rw (rest.with_groups, grown, append_assoc) refl;
+          with_texts = rest.with_texts ∙ ap (λ (U : Spool). entries U.articles ++ rest.texts) g.made;
           known = rest.known;
           segments = grind (arith, append_assoc);
         }
-    taken turn (inr (inl a)) f more =
-        let rest = more true (with_article S a.id a.text) a.next (ap (turn_then (items_at limit most)) (sym a.is) ∙ f) in
-        let none = rest.none refl in
+    taken (On true T q) a f more =
+        let rest = more true T q f in
+        let grown = ap (λ (U : Spool). entries U.articles) a.made ∙ entries-insert_last nat_list_cmp_total S.articles a.id a.text a.last in
         record {
           groups = [];
           texts = (a.id, a.text) ∷ rest.texts;
           named = tt;
           are_articles = (a.is_article, rest.are_articles);
           none = λ is. refl;
-          with_groups = rest.with_groups ∙ ap (λ (t : List (Name × Numbers)). entries S.groups ++ t) none;
-          with_texts = rw (rest.with_texts, entries-insert_last nat_list_cmp_total S.articles a.id a.text a.last, append_assoc) refl;
+          with_groups = rw (rest.with_groups, ap (λ (U : Spool). entries U.groups) a.made, rest.none refl) refl;
+          with_texts = rw (rest.with_texts, grown, append_assoc) refl;
           known = rest.known;
-          segments = grind (arith, append_assoc);
+          segments = let none = rest.none refl in grind (arith, append_assoc);
         }
-    taken turn (inr (inr d)) f more =
-        let same : ◌≡◌ {A = Spool × Place} (S, d.next) x = ok_is (S, d.next) x (ap (turn_then (items_at limit most)) (sym d.is) ∙ f) in
-        record {
-          groups = [];
-          texts = [];
-          named = tt;
-          are_articles = tt;
-          none = λ is. refl;
-          with_groups = ap (λ (y : Spool × Place). entries y.0.groups) (sym same) ∙ sym (append-nil (entries S.groups));
-          with_texts = ap (λ (y : Spool × Place). entries y.0.articles) (sym same) ∙ sym (append-nil (entries S.articles));
-          known = ap (λ (y : Spool × Place). ids_have_articles y.0) (sym same) ∙ d.known;
-          segments = d.segments ∙ ap (λ (y : Spool × Place). codes "end" ∷ y.1.segments) same;
-        }
+    taken (Done T q) (same, known, end) f more = rw (← ok_is (T, q) x f, same) (record {
+      groups = [];
+      texts = [];
+      named = tt;
+      are_articles = tt;
+      none = λ is. refl;
+      with_groups = sym (append-nil (entries S.groups));
+      with_texts = sym (append-nil (entries S.articles));
+      known = known;
+      segments = end;
+    })
 
 pub no_entries : {K X : Type 0} (R : K → K → Ordering) → entries (empty {X = X} {R = R}) ≡ []
 no_entries {X = X} R = nil_from_length (entries (empty {R = R})) (sym (len-entries (empty {R = R})) ∙ len-empty R X)

@@ -7,22 +7,25 @@ use Rattle.nntp_spool.specs.{declared.text.read_fault.ReadFault.{ReadFault}, Tex
 use Rattle.nntp_spool.specs.Reading.{◌>>=◌, fault, shaped, Place, Turn, On, Done, line_at, next_line, numbers_at, barred_lines_at, group_at, article_at}
 use Rattle.nntp_spool.specs.{Reading.{item_then, item_at}, Fields.{OpeningValue, Group, Article, End, fields_of, opening_of}, Ascending.{is_last}}
 use Rattle.nntp_spool.specs.{Content.{with_group, with_article, is_head_of, ids_have_articles}, Inner.Content.{AreNumbers, IsNamed, IsArticle}}
-use Rattle.nntp_spool.proofs.{FollowingNumbers.{number_lines}, NameOctets.{name-lacks, name-some, id-lacks, id-some}, LineFields.{opening-group_line}}
-use Rattle.nntp_spool.proofs.{LineFields.{opening-article_line, OpeningLine, opening_line}, NumbersRead.{bind_ok, unless_ok, guard_ok, fits_test, shaped_ok}}
-use Rattle.nntp_spool.proofs.{NumbersRead.{ok_is, done, line_takes, numbers_take, numbers_again, entries-with_all}, ArticleLinesRead.{barred_lines_take}}
-use Rattle.nntp_spool.proofs.{ArticleLinesRead.{barred_lines_again}, NumbersInOrder.{entries-empty, no_numbers, all_more, with_all-entries}}
+use Rattle.nntp_spool.proofs.{NumbersInOrder.{number_lines, entries-with_all, entries-empty, no_numbers, all_more, with_all-entries}, NameOctets.{name-lacks}}
+use Rattle.nntp_spool.proofs.{NameOctets.{name-some, id-lacks, id-some}, LineFields.{opening-group_line, opening-article_line, OpeningLine, opening_line}}
+use Rattle.nntp_spool.proofs.NumbersRead.{bind_ok, unless_ok, guard_ok, fits_test, shaped_ok, ok_is, done, line_takes, numbers_take, numbers_again}
+use Rattle.nntp_spool.proofs.ArticleLinesRead.{barred_lines_take, barred_lines_again}
 use Rattle.nntp_spool.specs.declared.text.read_fault.Kind.TheVariants as kinds
 
 -- ---- what was read
 
-record GroupTaken (limit : ℕ) (name : Name) (count : ℕ) (S : Spool) (p : Place) (x : Spool × Place) : Type 0 where
-  numbers : Numbers
-  named : IsNamed limit name numbers
-  last : is_last S.groups name ≡ true
-  made : x.0 ≡ with_group S name numbers
-  segments : group_line name count ∷ p.segments ≡ group_lines (name, numbers) ++ x.1.segments
+-- from these lines on a group was read, into a spool
+pub record TakenGroup (limit : ℕ) (S : Spool) (from : List Line) (T : Spool) (next : Place) : Type 0 where
+  pub name : Name
+  pub numbers : Numbers
+  pub named : IsNamed limit name numbers
+  pub last : is_last S.groups name ≡ true
+  pub made : T ≡ with_group S name numbers
+  pub segments : from ≡ group_lines (name, numbers) ++ next.segments
 
-group_takes : (limit line : ℕ) (name : Name) (count : ℕ) (S : Spool) (p : Place) (x : Spool × Place) → limit < 2 ^ 64 → group_at limit line name count S p ≡ Ok x → GroupTaken limit name count S p x
+group_takes : (limit line : ℕ) (name : Name) (count : ℕ) (S : Spool) (p : Place) (x : Spool × Place) → limit < 2 ^ 64 → group_at limit line name count S p ≡ Ok x
+    → TakenGroup limit S (group_line name count ∷ p.segments) x.0 x.1
 unfolding group_at
 group_takes limit line name count S p x le e =
     let a = unless_ok (is_group_name name) _ _ x e in
@@ -34,6 +37,7 @@ group_takes limit line name count S p x le e =
     let listed : entries c.0.0 ≡ es = ap entries taken.3 ∙ entries-with_all limit empty es taken.1 ∙ ap (λ fs. fs ++ es) (entries-empty empty refl) in
     let counted : count ≡ len c.0.0 = sym taken.2 ∙ ap length (sym listed) ∙ sym (len-entries c.0.0) in
     record {
+      name = name;
       numbers = c.0.0;
       named = record { is_name = a.0; numbers = subst (AreNumbers limit) (sym taken.3) (all_more limit empty es (no_numbers limit) taken.1) };
       last = b.0;
@@ -41,14 +45,17 @@ group_takes limit line name count S p x le e =
       segments = grind arith;
     }
 
-record ArticleTaken (id : Id) (heads bodies : ℕ) (S : Spool) (p : Place) (x : Spool × Place) : Type 0 where
-  text : Text
-  is_article : IsArticle id text
-  last : is_last S.articles id ≡ true
-  made : x.0 ≡ with_article S id text
-  segments : article_line id heads bodies ∷ p.segments ≡ article_lines (id, text) ++ x.1.segments
+-- or an article
+pub record TakenArticle (S : Spool) (from : List Line) (T : Spool) (next : Place) : Type 0 where
+  pub id : Id
+  pub text : Text
+  pub is_article : IsArticle id text
+  pub last : is_last S.articles id ≡ true
+  pub made : T ≡ with_article S id text
+  pub segments : from ≡ article_lines (id, text) ++ next.segments
 
-article_takes : (line : ℕ) (id : Id) (heads bodies : ℕ) (S : Spool) (p : Place) (x : Spool × Place) → article_at line id heads bodies S p ≡ Ok x → ArticleTaken id heads bodies S p x
+article_takes : (line : ℕ) (id : Id) (heads bodies : ℕ) (S : Spool) (p : Place) (x : Spool × Place) → article_at line id heads bodies S p ≡ Ok x
+    → TakenArticle S (article_line id heads bodies ∷ p.segments) x.0 x.1
 unfolding article_at
 article_takes line id heads bodies S p x e =
     let a = unless_ok (is_message_id id) _ _ x e in
@@ -61,6 +68,7 @@ article_takes line id heads bodies S p x e =
     let k = barred_lines_take bodies [] c.0.1 d.0 d.1 in
     let text : Text = record { head = c.0.0; body = d.0.0 } in
     record {
+      id = id;
       text = text;
       is_article = record { is_id = a.0; head = f.0; head_lines = ap (list_all is_line) h.3 ∙ h.1; body_lines = ap (list_all is_line) k.3 ∙ k.1 };
       last = b.0;
@@ -69,33 +77,10 @@ article_takes line id heads bodies S p x e =
     }
 
 -- what an item was read as
-pub record TakenGroup (limit : ℕ) (articles : Bool) (S : Spool) (p : Place) (turn : Turn) : Type 0 where
-  pub name : Name
-  pub numbers : Numbers
-  pub next : Place
-  pub none : articles ≡ false
-  pub named : IsNamed limit name numbers
-  pub last : is_last S.groups name ≡ true
-  pub is : turn ≡ On false (with_group S name numbers) next
-  pub segments : p.segments ≡ group_lines (name, numbers) ++ next.segments
-
-pub record TakenArticle (S : Spool) (p : Place) (turn : Turn) : Type 0 where
-  pub id : Id
-  pub text : Text
-  pub next : Place
-  pub is_article : IsArticle id text
-  pub last : is_last S.articles id ≡ true
-  pub is : turn ≡ On true (with_article S id text) next
-  pub segments : p.segments ≡ article_lines (id, text) ++ next.segments
-
-pub record TakenEnd (S : Spool) (p : Place) (turn : Turn) : Type 0 where
-  pub next : Place
-  pub known : ids_have_articles S ≡ true
-  pub is : turn ≡ Done S next
-  pub segments : p.segments ≡ codes "end" ∷ next.segments
-
 abbrev pub TakenItem : ℕ → Bool → Spool → Place → Turn → Type 0
-TakenItem limit articles S p turn = TakenGroup limit articles S p turn ⊎ (TakenArticle S p turn ⊎ TakenEnd S p turn)
+TakenItem limit articles S p (On false T next) = (articles ≡ false) × TakenGroup limit S p.segments T next
+TakenItem limit articles S p (On true T next) = TakenArticle S p.segments T next
+TakenItem limit articles S p (Done T next) = (T ≡ S) × (ids_have_articles S ≡ true) × (p.segments ≡ codes "end" ∷ next.segments)
 
 pub item_takes : (limit : ℕ) (articles : Bool) (S : Spool) (p : Place) (turn : Turn) → limit < 2 ^ 64 → item_at limit articles S p ≡ Ok turn → TakenItem limit articles S p turn
 unfolding item_at
@@ -108,34 +93,13 @@ item_takes limit articles S p turn le e =
     taken (Group name count) l q front is e =
         let none = guard_ok articles _ _ turn e in
         let c = bind_ok (group_at limit p.line name count S q) _ turn none.1 in
-        let g = group_takes limit p.line name count S q c.0 le c.1 in
-        inl (record {
-          name = name;
-          numbers = g.numbers;
-          next = c.0.1;
-          none = none.0;
-          named = g.named;
-          last = g.last;
-          is = sym (ok_is (On false c.0.0 c.0.1) turn c.2) ∙ ap (λ (T : Spool). On false T c.0.1) g.made;
-          segments = front ∙ ap (λ (t : Line). t ∷ q.segments) is.1 ∙ g.segments;
-        })
+        rw (← ok_is (On false c.0.0 c.0.1) turn c.2, front, is.1) (none.0, group_takes limit p.line name count S q c.0 le c.1)
     taken (Article id heads bodies) l q front is e =
         let c = bind_ok (article_at p.line id heads bodies S q) _ turn e in
-        let g = article_takes p.line id heads bodies S q c.0 c.1 in
-        inr (inl (record {
-          id = id;
-          text = g.text;
-          next = c.0.1;
-          is_article = g.is_article;
-          last = g.last;
-          is = sym (ok_is (On true c.0.0 c.0.1) turn c.2) ∙ ap (λ (T : Spool). On true T c.0.1) g.made;
-          segments = front ∙ ap (λ (t : Line). t ∷ q.segments) is.2 ∙ g.segments;
-        }))
-    taken End l q front is e = at_end (ids_have_articles S) refl e
-      where
-        at_end : (b : Bool) → ids_have_articles S ≡ b → cond b (done (Done S q)) (fault p.line kinds.UnknownId) ≡ Ok turn → TakenItem limit articles S p turn
-        at_end true known e = inr (inr (record { next = q; known = known; is = sym (ok_is (Done S q) turn e); segments = front ∙ ap (λ (t : Line). t ∷ q.segments) is }))
-        at_end false known e = absurd cc
+        rw (← ok_is (On true c.0.0 c.0.1) turn c.2, front, is.2) (article_takes p.line id heads bodies S q c.0 c.1)
+    taken End l q front is e =
+        let d = fits_test (ids_have_articles S) _ _ turn e in
+        rw (← ok_is (Done S q) turn d.1, front, is) (refl, d.0, refl)
 
 -- ---- what is written is read
 

@@ -1,5 +1,4 @@
 pub mod Written
-pub mod WrittenLines
 pub mod ShownMaps
 pub mod TextKeys
 pub mod ShownNumbers
@@ -9,7 +8,6 @@ pub mod RepeatedSteps
 pub mod MapEntries
 pub mod LineFields
 pub mod NameOctets
-pub mod FollowingNumbers
 pub mod NumbersRead
 pub mod LimitLines
 pub mod ArticleLinesRead

@@ -1,9 +1,9 @@
 -- Words of a line, and the one spelling of a number.
 use Rattle.std.proofs.Common.{◌≡◌, ℕ, suc, ◌^◌, ◌<◌, Bool, true, false, not, cond, eqb, List, [], ◌∷◌, ◌++◌, Option, None, Some, length, get_or, refl, sym, ap}
 use Rattle.std.proofs.{Common.{subst, ◌∙◌, arith}, lemmas.{Slice.Eq.{bytes_eq-Decides}, Bool.{and_from, and_parts, not-true, Decides.{nat_tests}}}}
-use Rattle.std.proofs.lemmas.{List.{Splits.{join_with_byte-slice_split}, Sums.{AllPass-from_list_all, list_all-from_AllPass}}, Fmt.{digits_decimal}}
-use Rattle.std.{proofs.lemmas.Fmt.{digits_value-decimal, decimal-digits_value, decimal_nonempty, first_decimal, decimal_digit}, specs.Prelude.{◌&&◌, bytes_eq}}
-use Rattle.std.specs.{Prelude.{codes}, List.{list_all, join_with_byte}, Char.{is_ascii_digit}, Fmt.{decimal}}
+use Rattle.std.proofs.lemmas.List.{Splits.{join_with_byte-slice_split}, Folds.{list_all-append}, Sums.{AllPass-from_list_all, list_all-from_AllPass}}
+use Rattle.std.proofs.lemmas.Fmt.{digits_decimal, digits_value-decimal, decimal-digits_value, decimal_nonempty, first_decimal, decimal_digit}
+use Rattle.std.specs.{Prelude.{◌&&◌, bytes_eq, codes}, List.{list_all, join_with_byte}, Char.{is_ascii_digit}, Fmt.{decimal}}
 use Rattle.nntp_article.specs.Article.Parts.{is_empty}
 use Rattle.nntp_spool.specs.{Text.{number_line, group_line, article_line}, Fields.{fields_of, are_digits, is_decimal, is_count, value_of, number_and_id}}
 use Rattle.nntp_spool.{specs.Fields.{opening_of, OpeningValue, Group, Article, End}, proofs.{SplitLines.{segments_at}, Decimals.{own}, MapEntries.{some_is}}}
@@ -23,8 +23,7 @@ lacks_from c (x ∷ xs) h =
     grind (arith, nat_tests, and_from, lacks_from c xs (λ k lt. h (suc k) (omega arith)))
 
 pub lacks-append : (c : ℕ) (xs ys : List ℕ) → lacks c xs ≡ true → lacks c ys ≡ true → lacks c (xs ++ ys) ≡ true
-lacks-append c [] ys h g = g
-lacks-append c (x ∷ xs) ys h g = let both = and_parts (not (eqb x c)) (lacks c xs) h in and_from (not (eqb x c)) (lacks c (xs ++ ys)) both.0 (lacks-append c xs ys both.1 g)
+lacks-append c xs ys h g = list_all-append (λ x. not (eqb x c)) xs ys ∙ and_from (lacks c xs) (lacks c ys) h g
 
 pub lacks-digits : (c : ℕ) (xs : List ℕ) → c < 48 → are_digits xs ≡ true → lacks c xs ≡ true
 lacks-digits c xs lt h = list_all_weaken is_ascii_digit (λ x. not (eqb x c)) (λ x d. grind (arith, nat_tests)) xs h

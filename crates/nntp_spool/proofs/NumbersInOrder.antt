@@ -1,16 +1,42 @@
 -- Numbers that follow one another are numbers of a group, and the other way round.
-use Rattle.std.proofs.Common.{◌≡◌, ◌⊎◌, inl, inr, ℕ, ◌+◌, ◌<◌, ◌≤◌, ◌^◌, Bool, true, false, List, [], ◌∷◌, ◌++◌, None, Some, length, refl, sym, ap, ◌∙◌}
+use Rattle.std.proofs.Common.{◌≡◌, ◌⊎◌, ⊎_elim, ℕ, ◌+◌, ◌<◌, ◌≤◌, ◌^◌, Bool, true, false, List, [], ◌∷◌, ◌++◌, None, Some, length, refl, sym, ap, ◌∙◌}
 use Rattle.std.proofs.{Common.{append_assoc, arith}, lemmas.{Bool.{true≢false, false_from_ne_true, and_parts, Decides.{nat_tests}}, List.{nil_from_length}}}
-use Rattle.std.proofs.lemmas.List.{Folds.{list_any_none}, Elements.{recursion_from_All, All-from_recursion}, Sums.{AllPass-from_list_all}}
-use Rattle.std.{proofs.lemmas.{List.Sums.{list_all-from_AllPass}, Slice.Eq.{bytes_eq-Decides}}, specs.{Prelude.{◌||◌, bytes_eq}, List.{list_all, list_any}}}
-use Rattle.std.specs.{List.{AllByRecursion}, Ordering.{nat_cmp, is_lt, eq_by_cmp}, Cmp.{nat_cmp_total}, FinMap.{get, insert, empty, entries, len, find}}
-use Rattle.std.specs.FinMap.{is_sorted, entries_sorted, get-entries, get-empty, len-empty, len-entries, same_entries_map, nat_cmp-IsAntisymmetric}
+use Rattle.std.proofs.lemmas.List.{append-nil, Folds.{list_any_none}, Elements.{recursion_from_All, All-from_recursion}, Sums.{AllPass-from_list_all}}
+use Rattle.std.{proofs.lemmas.{List.Sums.{list_all-from_AllPass}, Slice.Eq.{bytes_eq-Decides}}, specs.{Prelude.{◌||◌, bytes_eq, map}, List.{list_all}}}
+use Rattle.std.specs.{List.{list_any, AllByRecursion}, Ordering.{nat_cmp, is_lt, eq_by_cmp}, Cmp.{nat_cmp_total}, FinMap.{get, insert, empty, entries, len}}
+use Rattle.std.specs.FinMap.{find, is_sorted, entries_sorted, get-entries, get-empty, len-empty, len-entries, same_entries_map, nat_cmp-IsAntisymmetric}
 use Rattle.std.specs.FinMap.Entries.{below_all}
 use Rattle.nntp_wire.specs.Decided.{is_message_id}
 use Rattle.nntp_article.specs.Session.{Machine.{is_article_number}, Spool.{Numbers}}
-use Rattle.nntp_spool.{specs.{Numbers.{has_id}, Ascending.{is_last}, Inner.Content.{AreNumbers}}, proofs.FollowingNumbers.{AllFollow, with_all}}
-use Rattle.nntp_spool.proofs.MapEntries.{is_passed, empty_has, less_before, find_middle, find_front, got_all, all_got, entries-insert_last, apart, tied_itself}
-use Rattle.nntp_spool.proofs.{MapEntries.{got_more}, NumbersRead.{num_between, entries-with_all}}
+use Rattle.nntp_spool.{specs.{Numbers.{has_id}, Ascending.{is_last}, Inner.Content.{AreNumbers}, Text.{number_line}}, proofs.MapEntries.{is_passed, empty_has}}
+use Rattle.nntp_spool.proofs.MapEntries.{less_before, find_middle, find_front, got_all, all_got, entries-insert_last, apart, tied_itself, got_more}
+
+-- a number that may stand behind others
+pub record Follows (limit : ℕ) (N : Numbers) (n : ℕ) (id : List ℕ) : Type 0 where
+  pub num : is_article_number limit n ≡ true
+  pub is_id : is_message_id id ≡ true
+  pub last : is_last N n ≡ true
+  pub fresh : has_id N id ≡ false
+
+abbrev pub number_lines : List (ℕ × List ℕ) → List (List ℕ)
+number_lines es = map (λ e. number_line e.0 e.1) es
+
+-- each may stand behind those before it
+abbrev pub AllFollow : ℕ → Numbers → List (ℕ × List ℕ) → Type 0
+AllFollow limit N [] = Unit {0}
+AllFollow limit N (e ∷ es) = Follows limit N e.0 e.1 × AllFollow limit (insert N e.0 e.1) es
+
+abbrev pub with_all : Numbers → List (ℕ × List ℕ) → Numbers
+with_all N [] = N
+with_all N (e ∷ es) = with_all (insert N e.0 e.1) es
+
+pub entries-with_all : (limit : ℕ) (N : Numbers) (es : List (ℕ × List ℕ)) → AllFollow limit N es → entries (with_all N es) ≡ entries N ++ es
+entries-with_all limit N [] h = sym (append-nil (entries N))
+entries-with_all limit N (e ∷ es) h =
+    entries-with_all limit (insert N e.0 e.1) es h.1 ∙ ap (λ (fs : List (ℕ × List ℕ)). fs ++ es) (entries-insert_last nat_cmp_total N e.0 e.1 h.0.last) ∙ append_assoc (entries N) (e ∷ []) es
+
+pub num_between : (limit n : ℕ) → is_article_number limit n ≡ true → (1 ≤ n) × (n ≤ limit)
+num_between limit n h = (grind (arith, nat_tests, and_parts), grind (arith, nat_tests, and_parts))
 
 pub either_false : (a b : Bool) → (a || b) ≡ false → (a ≡ false) × (b ≡ false)
 either_false a b e = grind arith
@@ -45,14 +71,10 @@ pub one_more : (limit : ℕ) (N : Numbers) (n : ℕ) (id : List ℕ) → AreNumb
 one_more limit N n id a num is_id fresh =
     let before = got_more nat_cmp_total nat_cmp-IsAntisymmetric N n id in
     record {
-      each = λ q x g. each_is q x (before q x g);
+      each = λ q x g. ⊎_elim (λ e. rw (e.0, e.1) (num, is_id)) (a.each q x) (before q x g);
       one_to_one = λ q m x g h. one_is q m x (before q x g) (before m x h);
     }
   where
-    each_is : (q : ℕ) (x : List ℕ) → ((q ≡ n) × (x ≡ id)) ⊎ (get N q ≡ Some x) → (is_article_number limit q ≡ true) × (is_message_id x ≡ true)
-    each_is q x (inl e) = (ap (is_article_number limit) e.0 ∙ num, ap is_message_id e.1 ∙ is_id)
-    each_is q x (inr g) = a.each q x g
-
     one_is : (q m : ℕ) (x : List ℕ) → ((q ≡ n) × (x ≡ id)) ⊎ (get N q ≡ Some x) → ((m ≡ n) × (x ≡ id)) ⊎ (get N m ≡ Some x) → q ≡ m
     one_is q m x h h2 = search (arith, fresh_id)
 

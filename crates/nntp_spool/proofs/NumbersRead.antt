@@ -6,8 +6,8 @@ use Rattle.nntp_wire.specs.Decided.{is_message_id}
 use Rattle.nntp_article.specs.Session.{Spool.{Numbers}, Machine.{is_article_number}}
 use Rattle.nntp_spool.specs.{declared.text.read_fault.ReadFault.{ReadFault}, Text.{number_line}, Reading.{◌>>=◌, fault, shaped, Place, line_at, number_in}}
 use Rattle.nntp_spool.specs.{Reading.{number_at, repeat}, Fields.{fields_of, number_and_id}, Ascending.{is_last}, Numbers.{has_id}}
-use Rattle.nntp_spool.proofs.{FollowingNumbers.{Follows, AllFollow, number_lines, with_all}, MapEntries.{entries-insert_last}, NameOctets.{id-lacks, id-some}}
-use Rattle.nntp_spool.proofs.LineFields.{number_and_id-number_line, number_line-number_and_id}
+use Rattle.nntp_spool.proofs.{NumbersInOrder.{num_between, Follows, AllFollow, number_lines, with_all}, MapEntries.{entries-insert_last}, NameOctets.{id-lacks}}
+use Rattle.nntp_spool.proofs.{NameOctets.{id-some}, LineFields.{number_and_id-number_line, number_line-number_and_id}}
 use Rattle.nntp_spool.specs.declared.text.read_fault.Kind.TheVariants as kinds
 
 -- the value of a step that did not fail
@@ -37,9 +37,6 @@ pub line_takes : (p : Place) (x : List ℕ × Place) → line_at p ≡ Ok x → 
 line_takes p x e = grind arith
 
 -- ---- one number
-
-pub num_between : (limit n : ℕ) → is_article_number limit n ≡ true → (1 ≤ n) × (n ≤ limit)
-num_between limit n h = (grind (arith, nat_tests, and_parts), grind (arith, nat_tests, and_parts))
 
 pub num_below : (limit n : ℕ) → limit < 2 ^ 64 → is_article_number limit n ≡ true → n < 2 ^ 64
 num_below limit n le h = omega (arith, (num_between limit n h).1)
@@ -77,11 +74,6 @@ number_at_takes limit N p x le e =
     rw (← ok_is (insert N b.0.0 b.0.1, a.0.1) x d.1) (b.0.0, b.0.1, follows, refl, line_takes p a.0 a.1 ∙ ap (λ (t : List ℕ). t ∷ a.0.1.segments) one.0)
 
 -- ---- the numbers of a group
-
-pub entries-with_all : (limit : ℕ) (N : Numbers) (es : List (ℕ × List ℕ)) → AllFollow limit N es → entries (with_all N es) ≡ entries N ++ es
-entries-with_all limit N [] h = sym (append-nil (entries N))
-entries-with_all limit N (e ∷ es) h =
-    entries-with_all limit (insert N e.0 e.1) es h.1 ∙ ap (λ (fs : List (ℕ × List ℕ)). fs ++ es) (entries-insert_last nat_cmp_total N e.0 e.1 h.0.last) ∙ append_assoc (entries N) (e ∷ []) es
 
 pub numbers_take : (limit count : ℕ) (N : Numbers) (p : Place) (x : Numbers × Place) → limit < 2 ^ 64 → repeat (number_at limit) count (N, p) ≡ Ok x
     → (es : List (ℕ × List ℕ)) × AllFollow limit N es × (length es ≡ count) × (x.0 ≡ with_all N es) × (p.segments ≡ number_lines es ++ x.1.segments)

@@ -33,14 +33,10 @@ run-pairs : (profile : Profile) (S : Spool) (s : State) (pairs : List Paired) (a
 run-pairs profile S s [] a b n run = tt
 run-pairs profile S s (x ∷ pairs) a b (d, n, more) run = grind (arith, run-pairs profile S (after S s (asked_at x.place) x.response) pairs d b more)
 
-last-may : (profile : Profile) (S : Spool) (s : State) (pairs more : List Paired) (x : Paired)
-    → MayAnswerAll profile S s (pairs ++ x ∷ more) → MayAnswer profile S (state_after S s pairs) (asked_at x.place) x.response
-last-may profile S s [] more x may = may.0
-last-may profile S s (y ∷ pairs) more x may = last-may profile S (after S s (asked_at y.place) y.response) pairs more x may.1
-
-first-may : (profile : Profile) (S : Spool) (s : State) (pairs more : List Paired) → MayAnswerAll profile S s (pairs ++ more) → MayAnswerAll profile S s pairs
-first-may profile S s [] more may = tt
-first-may profile S s (y ∷ pairs) more may = (may.0, first-may profile S (after S s (asked_at y.place) y.response) pairs more may.1)
+both-may : (profile : Profile) (S : Spool) (s : State) (pairs more : List Paired) → MayAnswerAll profile S s (pairs ++ more)
+    → MayAnswerAll profile S s pairs × MayAnswerAll profile S (state_after S s pairs) more
+both-may profile S s [] more may = (tt, may)
+both-may profile S s (y ∷ pairs) more may = let both = both-may profile S (after S s (asked_at y.place) y.response) pairs more may.1 in ((may.0, both.0), both.1)
 
 -- one more pair
 pub state-more : (S : Spool) (s : State) (pairs : List Paired) (x : Paired) → state_after S s (pairs ++ x ∷ []) ≡ after S (state_after S s pairs) (asked_at x.place) x.response
@@ -79,7 +75,7 @@ module _ (profile : Profile) (S : Spool) (is : IsSpool profile.limit S) (client 
         let other = explained-pairs (length pairs + 1) rest e in
         let one_more = AreNext-push pairs (streams client server) left behind x n is_next in
         let all = further (pairs ++ x ∷ []) other.0 (streams client server) behind other.1 one_more other.2 (omega (arith, length-append pairs (x ∷ []), other.4)) in
-        never (last-may profile S start pairs all.0 x (subst (MayAnswerAll profile S start) (all.1 ∙ append_assoc pairs (x ∷ []) all.0) other.3)),
+        never (both-may profile S start pairs (x ∷ all.0) (subst (MayAnswerAll profile S start) (all.1 ∙ append_assoc pairs (x ∷ []) all.0) other.3)).1.0,
   )
 
   -- and so are octets that answer nothing
@@ -114,7 +110,7 @@ module _ (profile : Profile) (S : Spool) (is : IsSpool profile.limit S) (client 
           → MayAnswerAll profile S start (pairs ++ more) → length pairs ≡ k → n ≡ length pairs + length more → k < n → ⊥
       one_more pairs [] b c first on may is count lt = omega arith
       one_more pairs (y ∷ more) b c first (d, is_next, on) may is count lt =
-          let whole = first-may profile S start (pairs ++ y ∷ []) more (subst (MayAnswerAll profile S start) (sym (append_assoc pairs (y ∷ []) more)) may) in
+          let whole = (both-may profile S start (pairs ++ y ∷ []) more (subst (MayAnswerAll profile S start) (sym (append_assoc pairs (y ∷ []) more)) may)).0 in
           let explained = permitted-explained (pairs ++ y ∷ []) d (AreNext-push pairs (streams client server) b d y first is_next) whole in
           grind (arith, length-append)
 

@@ -33,9 +33,8 @@ text_takes octets L e =
         let K : LimitedSpool = record { limit = l.0; spool = S } in
         let lines : segments_of octets ≡ spool_lines K ++ [] ∷ [] =
         first ∙ ap (λ (ps : List Line). limit_lines l.0 ++ ps) t.segments ∙ sym (append_assoc (limit_lines l.0) (content_lines S) ([] ∷ [])) in
-        let read : ReadAs octets K = record {
+        rw (← same) (record {
           content = t.content;
           known = t.known;
           text = sym (join_with_byte-slice_split 10 octets) ∙ ap (join_with_byte 10) lines ∙ joined (spool_lines K);
-        } in
-        subst (ReadAs octets) same read
+        })

@@ -50,12 +50,10 @@ module _ (profile : Profile) (S : Spool) (is : IsSpool profile.limit S) (client 
     (p : Permitted profile S client server left s count) where
   pub not_permitted : (behind : Unpaired) (x : Paired) → IsNext left x behind → (MayAnswer profile S s (asked_at x.place) x.response → ⊥) → RefusesAt profile S client server count
   not_permitted behind x is_next never =
-      subst (RefusesAt profile S client server) (sym p.counted)
-      (unpermitted-refused profile S is client server p.pairs left behind x p.next p.may is_next
-      (λ may. never (subst (λ (t : State). MayAnswer profile S t (asked_at x.place) x.response) (sym p.state) may)))
+      rw p.counted (unpermitted-refused profile S is client server p.pairs left behind x p.next p.may is_next (λ may. never (rw p.state may)))
 
   pub answers_nothing : (class : PairClass) → Ends left (bad class) → RefusesAt profile S client server count
-  answers_nothing class ends = subst (RefusesAt profile S client server) (sym p.counted) (bad-refused profile S is client server p.pairs left class p.next p.may ends)
+  answers_nothing class ends = rw p.counted (bad-refused profile S is client server p.pairs left class p.next p.may ends)
 
   pub all_permitted : left.server ≡ [] → Explains profile S client server count
   all_permitted none = grind (arith, permitted-explained)

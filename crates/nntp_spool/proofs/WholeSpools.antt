@@ -5,10 +5,11 @@ use Rattle.std.{proofs.lemmas.List.Folds.{list_all-append}, specs.{Prelude.{unwr
 use Rattle.std.specs.{Ordering.{nat_cmp}, Cmp.{nat_cmp_total, Lexicographic.{nat_list_cmp_total, bytes_decides}}, FinMap.{get, empty, entries, get-empty}}
 use Rattle.std.specs.FinMap.{nat_cmp-IsAntisymmetric}
 use Rattle.nntp_wire.{proofs.DecidedLemmas.{group_name-iff, message_id-iff}, specs.Limit.{greatest}}
-use Rattle.nntp_spool.proofs.{LineFields.{list_all_weaken}, MapEntries.{empty_has, all_got, got_all}, NumbersInOrder.{no_numbers, all_passed, passed_all}}
-use Rattle.nntp_spool.proofs.{NumbersRead.{num_between, ok_is}, ShownMaps.{octet_keys}, TextTaken.{text_takes}, TextReadAgain.{text_again, counted}}
-use Rattle.nntp_spool.specs.{Content.{all_known, ids_have_articles}, Inner.{Content.{IdsHaveArticles, AreNumbers, IsNamed, IsContent}, Text.{IsWritten}}}
-use Rattle.nntp_spool.specs.{Reading.{spool_at}, declared.text.read_fault.ReadFault.{ReadFault}, Limited.{LimitedSpool, IsWithinLimit}, Text.{spool_text}}
+use Rattle.nntp_spool.proofs.{LineFields.{list_all_weaken}, MapEntries.{empty_has, all_got, got_all}, NumbersInOrder.{num_between, no_numbers, all_passed}}
+use Rattle.nntp_spool.proofs.{NumbersInOrder.{passed_all}, NumbersRead.{ok_is}, ShownMaps.{octet_keys}, TextTaken.{text_takes}, TextReadAgain.{text_again}}
+use Rattle.nntp_spool.{proofs.TextReadAgain.{counted}, specs.{Content.{all_known, ids_have_articles}, Inner.Content.{IdsHaveArticles, AreNumbers, IsNamed}}}
+use Rattle.nntp_spool.specs.{Inner.{Content.{IsContent}, Text.{IsWritten}}, Reading.{spool_at}, declared.text.read_fault.ReadFault.{ReadFault}}
+use Rattle.nntp_spool.specs.{Limited.{LimitedSpool, IsWithinLimit}, Text.{spool_text}}
 use Rattle.nntp_article.specs.{Article.Parts.{Line, Id, is_clean_head, said_id}, Session.{Machine.{is_article_number, says_own_id, is_same}, Spool.{Name}}}
 use Rattle.nntp_article.specs.Session.Spool.{Spool, Numbers, numbers, IsSpool, is_line}
 

@@ -3,11 +3,8 @@ use Rattle.nntp_spool.{specs.Inner.ReadingView.{turn_shown}, proofs.RepeatedStep
 use Rattle.nntp_spool.proofs.text.read.items_at.Goals as goal
 
 pub loop-preserved : goal.loop-preserved
-loop-preserved g c =
-    let turn = c.in_ok-behind.ensures in
-    let is = c.in-On.is in
-    item_goes_on c.args.limit c.args.most c.loop.counter c.loop.articles c.loop.gathered _ _ c.in-On.behind c.item_at.new.gathered
-    _ c.loop-test.true (turn ∙ ap (λ t. Ok (turn_shown c.item_at.new.gathered t)) is) c.loop.invariant
+loop-preserved g c = item_goes_on c.args.limit c.args.most c.loop.counter c.loop.articles c.loop.gathered _ _ c.in-On.behind c.item_at.new.gathered _ c.loop-test.true
+    (c.in_ok-behind.ensures ∙ ap (λ t. Ok (turn_shown c.item_at.new.gathered t)) c.in-On.is) c.loop.invariant
 
 pub returns-in-Done : goal.returns-in-Done
 returns-in-Done g c = item_ends c.args.limit c.args.most c.loop.counter c.loop.articles c.loop.gathered _ _ c.in-Done.content _ c.loop-test.true

@@ -1,5 +1,5 @@
 use Rattle.std.proofs.{Common.{length, ap, ◌∙◌}, lemmas.Result.{err_from_is_err_and}}
-use Rattle.nntp_spool.{specs.{Text.{barred}, Inner.Buffering.{waiting}}, proofs.{Written.{Writes-last}, WrittenLines.{Article-first, Lines-next}}}
+use Rattle.nntp_spool.{specs.{Text.{barred}, Inner.Buffering.{waiting}}, proofs.Written.{Writes-last, Article-first, Lines-next}}
 use Rattle.nntp_spool.proofs.text.write.put_article.Goals as goal
 
 pub returns-in_err-put_article_line-clause-text : goal.returns-in_err-put_article_line-clause-text

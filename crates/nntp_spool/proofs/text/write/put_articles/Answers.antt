@@ -1,7 +1,7 @@
 use Rattle.std.{proofs.{Common.{T, arith, sym, subst, ap, map as list_map}, lemmas.{Result.{err_from_is_err_and}, List.{drop_more}}}, specs.List.{flat_map}}
 use Rattle.std.specs.{Cmp.Lexicographic.{nat_list_cmp_total}, Rc.{rc_str_bytes}}
 use Rattle.nntp_spool.{specs.{Text.{with_line_ends, article_lines}, Inner.ArticleLines.{text_stored}}, proofs.{ShownMaps.{octet_keys}, Written.{starts}}}
-use Rattle.nntp_spool.proofs.{Written.{goes_on, stops}, WrittenLines.{article_texts}}
+use Rattle.nntp_spool.proofs.Written.{goes_on, stops, article_texts}
 use Rattle.nntp_wire.proofs.ShownMaps.{entries-from_entries}
 use Rattle.nntp_spool.proofs.text.write.put_articles.Goals as goal
 

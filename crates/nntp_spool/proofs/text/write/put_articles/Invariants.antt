@@ -1,6 +1,5 @@
 use Rattle.std.{proofs.Common.{drop}, specs.{List.{flat_map}, FinMap.{entries}}}
-use Rattle.nntp_spool.{specs.{Text.{with_line_ends, article_lines}, Inner.ArticlesView.{articles_shown}}, proofs.Written.{Buffered}}
-use Rattle.nntp_spool.proofs.WrittenLines.{article_texts}
+use Rattle.nntp_spool.{specs.{Text.{with_line_ends, article_lines}, Inner.ArticlesView.{articles_shown}}, proofs.Written.{Buffered, article_texts}}
 use Rattle.nntp_spool.proofs.text.write.put_articles.Given as goal
 
 abbrev pub invariant-loop-article : goal.invariant-loop-article

@@ -1,6 +1,6 @@
 use Rattle.std.{proofs.{Common.{arith, refl, sym, ◌∙◌, ap}, lemmas.Result.{err_from_is_err_and}}, specs.List.{flat_map}}
 use Rattle.nntp_spool.{specs.{Text.{with_line_ends, article_lines}, Inner.ArticlesView.{articles_shown}}, proofs.ShownMaps.{article_entries}}
-use Rattle.nntp_spool.proofs.{Written.{starts, goes_on, stops}, WrittenLines.{article_texts}}
+use Rattle.nntp_spool.proofs.Written.{starts, goes_on, stops, article_texts}
 use Rattle.nntp_spool.proofs.text.write.put_articles_of_map.Goals as goal
 
 pub returns-in_err-put_article-clause-text : goal.returns-in_err-put_article-clause-text

@@ -1,6 +1,5 @@
 use Rattle.std.specs.{List.{flat_map}, FinMap.{entries}}
-use Rattle.nntp_spool.{specs.{Text.{with_line_ends, article_lines}, Inner.ArticlesView.{articles_shown}}, proofs.Written.{Buffered}}
-use Rattle.nntp_spool.proofs.WrittenLines.{article_texts}
+use Rattle.nntp_spool.{specs.{Text.{with_line_ends, article_lines}, Inner.ArticlesView.{articles_shown}}, proofs.Written.{Buffered, article_texts}}
 use Rattle.nntp_spool.proofs.text.write.put_articles_of_map.Given as goal
 
 abbrev pub invariant-loop-id : goal.invariant-loop-id

@@ -1,5 +1,5 @@
 use Rattle.std.proofs.{Common.{arith, refl}, lemmas.Result.{err_from_is_err_and}}
-use Rattle.nntp_spool.proofs.{Written.{starts, goes_on, stops}, WrittenLines.{barred_texts}}
+use Rattle.nntp_spool.proofs.Written.{starts, goes_on, stops, barred_texts}
 use Rattle.nntp_spool.proofs.text.write.put_barred_lines.Goals as goal
 
 pub loop-line-init : goal.loop-line-init

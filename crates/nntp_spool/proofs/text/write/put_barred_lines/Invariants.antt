@@ -1,4 +1,4 @@
-use Rattle.nntp_spool.{specs.Text.{with_line_ends, barred}, proofs.{Written.{Buffered}, WrittenLines.{barred_texts}}}
+use Rattle.nntp_spool.{specs.Text.{with_line_ends, barred}, proofs.Written.{Buffered, barred_texts}}
 use Rattle.nntp_spool.proofs.text.write.put_barred_lines.Given as goal
 
 abbrev pub invariant-loop-line : goal.invariant-loop-line

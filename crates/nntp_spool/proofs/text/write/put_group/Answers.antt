@@ -1,5 +1,5 @@
 use Rattle.std.proofs.lemmas.Result.{err_from_is_err_and}
-use Rattle.nntp_spool.{specs.Inner.Buffering.{waiting}, proofs.{Written.{Writes-last}, WrittenLines.{Group-first}}}
+use Rattle.nntp_spool.{specs.Inner.Buffering.{waiting}, proofs.Written.{Writes-last, Group-first}}
 use Rattle.nntp_spool.proofs.text.write.put_group.Goals as goal
 
 pub returns-in_err-put_group_line-clause-text : goal.returns-in_err-put_group_line-clause-text

@@ -6,13 +6,7 @@ use Rattle.nntp_spool.proofs.NumberFaults.{repeated, unheld}
 use Rattle.nntp_spool.proofs.value.builder.SpoolBuilder.number.Goals as goal
 
 pub returns : goal.returns
-returns g c =
-    let old = c.args.self.now in
-    let S = c.args.self.now.spool in
-    let n = c.args.number in
-    let texts = c.in_ok-name.ensures in
-    subst (λ (x : List ℕ × List ℕ). Builds (number_fault (greatest old.limit) S x.0 n x.1) (with_group S x.0 (insert (numbers S x.0) n x.1)) c.put_number.result old c.put_number.new.self)
-    (λ i. (texts.1 i, (c.in-Ok.ensures.ok ∙ texts.2) i)) c.put_number.ensures
+returns g c = rw (← c.in_ok-name.ensures.1, ← (c.in-Ok.ensures.ok ∙ c.in_ok-name.ensures.2)) c.put_number.ensures
 
 pub returns-in_err-name : goal.returns-in_err-name
 returns-in_err-name g c = grind (arith, err_from_is_err_and, misplaced)

@@ -1,5 +1,5 @@
 use Rattle.std.{proofs.{Common.{[], ◌∷◌, ◌++◌}, lemmas.Result.{err_from_is_err_and}}, specs.{Prelude.{codes}, List.{flat_map}}}
-use Rattle.nntp_spool.{specs.Text.{article_lines}, proofs.{Written.{Writes-last}, WrittenLines.{Lines-first, Lines-next}}}
+use Rattle.nntp_spool.{specs.Text.{article_lines}, proofs.Written.{Writes-last, Lines-first, Lines-next}}
 use Rattle.std.specs.FinMap as map
 use Rattle.nntp_spool.proofs.value.content.Content.write.Goals as goal
 

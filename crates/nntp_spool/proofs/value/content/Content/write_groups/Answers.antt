@@ -1,6 +1,5 @@
 use Rattle.std.{proofs.{Common.{sym, ◌∙◌, ap}, lemmas.Result.{err_from_is_err_and}}, specs.List.{flat_map}}
-use Rattle.nntp_spool.{specs.Text.{with_line_ends, group_lines}, proofs.{ShownMaps.{group_entries}, Written.{starts, goes_on, stops}}}
-use Rattle.nntp_spool.proofs.WrittenLines.{group_texts}
+use Rattle.nntp_spool.{specs.Text.{with_line_ends, group_lines}, proofs.{ShownMaps.{group_entries}, Written.{starts, goes_on, stops, group_texts}}}
 use Rattle.nntp_spool.proofs.value.content.Content.write_groups.Goals as goal
 
 pub returns-in_err-put_group-clause-text : goal.returns-in_err-put_group-clause-text

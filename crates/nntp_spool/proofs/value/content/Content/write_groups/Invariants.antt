@@ -1,5 +1,5 @@
 use Rattle.std.specs.{List.{flat_map}, FinMap.{entries}}
-use Rattle.nntp_spool.{specs.Text.{with_line_ends, group_lines}, proofs.{Written.{Buffered}, WrittenLines.{group_texts}}}
+use Rattle.nntp_spool.{specs.Text.{with_line_ends, group_lines}, proofs.Written.{Buffered, group_texts}}
 use Rattle.nntp_spool.proofs.value.content.Content.write_groups.Given as goal
 
 abbrev pub invariant-loop-name : goal.invariant-loop-name

@@ -5,5 +5,5 @@ use Rattle.nntp_spool.proofs.value.numbers.Numbers.has_number.Goals as goal
 
 pub returns-else-not-is_after : goal.returns-else-not-is_after
 returns-else-not-is_after g c =
-    let after = c.if-not-is_after.false in
-    ap not after ∙ sym (ap is_some (absent_above nat_cmp_total map.nat_cmp-IsAntisymmetric c.args.self.now c.args.number (sym c.is_after.ensures ∙ after)))
+    ap not c.if-not-is_after.false
+    ∙ sym (ap is_some (absent_above nat_cmp_total map.nat_cmp-IsAntisymmetric c.args.self.now c.args.number (sym c.is_after.ensures ∙ c.if-not-is_after.false)))

@@ -1,7 +1,6 @@
 use Rattle.std.proofs.{Common.{arith, sym, ◌∙◌, ap, map as list_map}, lemmas.{Simd.{map-map}, Result.{err_from_is_err_and}, List.{drop_more}}}
 use Rattle.std.specs.Rc.{rc_str_bytes}
-use Rattle.nntp_spool.{specs.Text.{with_line_ends, number_line}, proofs.{ShownNumbers.{each_entry}, Written.{starts, goes_on, stops}}}
-use Rattle.nntp_spool.proofs.WrittenLines.{number_texts}
+use Rattle.nntp_spool.{specs.Text.{with_line_ends, number_line}, proofs.{ShownNumbers.{each_entry}, Written.{starts, goes_on, stops, number_texts}}}
 use Rattle.std.specs.FinMap as map
 use Rattle.nntp_spool.proofs.value.numbers.Numbers.write.Goals as goal
 

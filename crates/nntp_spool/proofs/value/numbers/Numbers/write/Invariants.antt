@@ -1,5 +1,5 @@
 use Rattle.std.{proofs.Common.{drop, map as list_map}, specs.FinMap.{entries}}
-use Rattle.nntp_spool.{specs.Text.{with_line_ends, number_line}, proofs.{Written.{Buffered}, WrittenLines.{number_texts}}}
+use Rattle.nntp_spool.{specs.Text.{with_line_ends, number_line}, proofs.Written.{Buffered, number_texts}}
 use Rattle.nntp_spool.proofs.value.numbers.Numbers.write.Given as goal
 
 abbrev pub invariant-loop-numbered : goal.invariant-loop-numbered

@@ -1,6 +1,6 @@
 use Rattle.std.proofs.{Common.{arith, rules, [], ap, refl}, lemmas.Result.{err_from_is_err_and}}
 use Rattle.nntp_spool.{specs.{Watched.{inner_of}, Text.{spool_text}, Inner.Buffering.{waiting}}, proofs.Written.{Wrote-last, Writes-last, Writes-at}}
-use Rattle.nntp_spool.proofs.WrittenLines.{Limit-first}
+use Rattle.nntp_spool.proofs.Written.{Limit-first}
 use Rattle.nntp_spool.proofs.value.spool.Spool.write.Goals as goal
 
 pub returns-in_err-put_limit-clause-text : goal.returns-in_err-put_limit-clause-text
