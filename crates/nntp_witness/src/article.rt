@@ -60,10 +60,10 @@ pub(crate) fn no_lines<A: Allocator + Copy>(alloc: A) -> Result<Rc<OwnedBlock<A>
 }
 
 /// Makes a head that says the message-id, and of four headers what is told.
-pub(crate) fn head_of<A: Allocator + Copy>(
+pub(crate) fn head_of<'a, A: Allocator + Copy>(
     alloc: A,
-    id: &RcStr<A>,
-    told: Option<&ToldFields<A>>,
+    id: &'a RcStr<A>,
+    told: Option<&'a ToldFields<A>>,
 ) -> Result<Rc<OwnedBlock<A>, A>, SpoolFault>
     ensures { IsMessageId (rc_str_bytes id.now) → Makes result (λ head. head.value ≡ made_head (rc_str_bytes id.now) (option_map (λ told. told.now) told.entry)) }
 {

@@ -20,7 +20,7 @@ returns-in_err-add_articles-clause-given g c said G noted given =
     let shown = so_of_said old said (λ said. AreShownGroups said taken.result) noted taken.ensures.groups in
     let given_now = subst (λ limit. IsGivenSpool limit said G) (sym taken.ensures.limit) given in
     memory_passed c.from_residual-in_err-add_articles.result _ c.in_err-add_articles.field-0.0 c.from_residual-in_err-add_articles.ensures
-    (c.in_err-add_articles.ensures said G articles given_now (c.in_ok-maker.ensures said G articles shown given_now))
+    (c.in_err-add_articles.ensures taken.new.self.limit said G (c.take_articles.ensures said articles) given_now (c.in_ok-maker.ensures said G articles shown given_now))
 
 pub returns-clause-given : goal.returns-clause-given
 returns-clause-given g c said G noted given =
@@ -30,4 +30,5 @@ returns-clause-given g c said G noted given =
     let shown = so_of_said old said (λ said. AreShownGroups said taken.result) noted taken.ensures.groups in
     let given_now = subst (λ limit. IsGivenSpool limit said G) (sym taken.ensures.limit) given in
     c.finish.ensures.given old.limit said G given (subst (λ limit. ArticlesLeft limit said G [] c.add_articles.new.self.builder) taken.ensures.limit
-    (c.in_ok-add_articles.ensures said G articles given_now (c.in_ok-maker.ensures said G articles shown given_now)))
+    (c.in_ok-add_articles.ensures taken.new.self.limit said G (c.take_articles.ensures said articles) given_now
+    (c.in_ok-maker.ensures said G articles shown given_now)))
