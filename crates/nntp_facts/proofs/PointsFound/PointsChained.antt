@@ -24,7 +24,7 @@ none_at_all profile bad answers places fits formed none = elim (stand_or_conflic
     (all_from _ (told_with profile bad answers places) (λ fact j. let s = (with_told profile bad answers places fits.0 fits.1).source fact j in all_at _ fact (told profile s.0)
     (told_fitting profile s.0 s.1) s.2))
     (all_from _ (told_with profile bad answers places) (λ fact j. let s = (with_told profile bad answers places fits.0 fits.1).source fact j in
-    all_at _ fact (told profile s.0) (told_placed profile (told_with profile bad answers places) s.0 s.3) s.2))
+    all_at _ fact (told profile s.0) (told_placed profile (told_with profile bad answers places) s.0 (all_from _ (told profile s.0) s.3)) s.2))
     formed) [ inl c ↦ absurd (none c.0 c.1.conflict) | inr together ↦ together ]
 
 -- a point that is given is the first
