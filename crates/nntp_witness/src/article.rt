@@ -65,7 +65,8 @@ pub(crate) fn head_of<'a, A: Allocator + Copy>(
     id: &'a RcStr<A>,
     told: Option<&'a ToldFields<A>>,
 ) -> Result<Rc<OwnedBlock<A>, A>, SpoolFault>
-    ensures { IsMessageId (rc_str_bytes id.now) → Makes result (λ head. head.value ≡ made_head (rc_str_bytes id.now) (option_map (λ told. told.now) told.entry)) }
+    ensures { IsMessageId (rc_str_bytes id.now)
+        → Makes result (λ head. head.value ≡ made_head (rc_str_bytes id.now) (option_map (λ told. told.now) told.entry)) }
 {
     let Some(id) = MessageId::parse(id.as_str().as_bytes()) else {
         return Err(SpoolFault::BadId);

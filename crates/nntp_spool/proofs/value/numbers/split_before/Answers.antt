@@ -9,6 +9,7 @@ returns g c =
     let ids = c.args.ids.now in
     let n = c.args.number in
     let at = c.partition_point.result in
-    let point = IsPartitionPoint-from_clause (λ e. nat_lt e.0 n) ids at c.partition_point.ensures.partitioned (IsPartitionedBy-ltb (λ e. e.0) ids n (rise ids c.requires)) (λ a r q k. search (rules, tests)) in
+    let parted = IsPartitionedBy-ltb (λ e. e.0) ids n (rise ids c.requires) in
+    let point = IsPartitionPoint-from_clause (λ e. nat_lt e.0 n) ids at c.partition_point.ensures.partitioned parted (λ a r q k. search (rules, tests)) in
     rw (c.split_at.ensures.front, c.split_at.ensures.back)
     (parts_are (λ m. nat_lt m n) (λ m. m < n) (λ m. n ≤ m) (λ m t. grind (arith, nat_tests)) (λ m f. grind (arith, nat_tests)) ids at c.partition_point.ensures.bound point)
