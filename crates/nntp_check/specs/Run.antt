@@ -87,14 +87,14 @@ IsInputFault input (faults.Spool fault) = ⊥
 IsInputFault input faults.Memory = ReadsFrontBut input
 IsInputFault input faults.Write = ⊥
 
--- the report of `check` on the sessions of a capture, by the limit and the marks and by how OVER and XOVER are taken, and its answer
+-- the report of `check` on the sessions of a capture, by the limit and the marks and by how overviews are taken, and its answer
 pub record CheckReports (limit : Limit) (marks : Marks) (overviews : Overviews) (c : Captured) (text : List ℕ) (answer : Bool) : Type 0 where
   pub judgement : JudgementOfAll
   pub verdict : IsVerdictOfAll limit marks (unnamed (sessions_of overviews c.held)) judgement
   pub text_is : text ≡ report_of c.is_several (names_of (sessions_of overviews c.held)) judgement
   pub answer_is : answer ≡ is_consistent_of_all judgement
 
--- the report of `verify` on them and on the spool's text, by the spool's limit, by the marks and by how OVER and XOVER are taken, and its answer
+-- the report of `verify` on them and on the spool's text, by the spool's limit, by the marks and by how overviews are taken, and its answer
 pub record VerifyReports (marks : Marks) (overviews : Overviews) (c : Captured) (text : List ℕ) (answer : Bool) : Type 0 where
   pub value : LimitedSpool
   pub is_spool : IsWithinLimit value
@@ -104,7 +104,7 @@ pub record VerifyReports (marks : Marks) (overviews : Overviews) (c : Captured) 
   pub text_is : text ≡ verified_report c.is_several (names_of (sessions_of overviews c.held)) verified
   pub answer_is : answer ≡ is_permitted verified
 
--- the report of `show` on them, where OVER and XOVER are opaque, and its answer: the spool's text makes no difference
+-- the report of `show` on them, where overviews are opaque, and its answer: the spool's text makes no difference
 pub record ShowReports (c : Captured) (text : List ℕ) (answer : Bool) : Type 0 where
   pub shown : List ShownSession
   pub are_shown : AreShown (sessions_of Opaque c.held) shown
@@ -116,7 +116,7 @@ abbrev pub ExplainsHeld : Limit → Marks → Overviews → Bool → Held → Li
 ExplainsHeld limit marks overviews true held text answer = IsExplanationOfAll limit marks (sessions_of overviews held) text answer
 ExplainsHeld limit marks overviews false held text answer = IsExplanation limit marks (taken overviews held.last.session.client.octets) held.last.session.server text answer
 
--- the report of `explain` on them, by the limit and the marks and by how OVER and XOVER are taken, and its answer: the spool's text makes no difference
+-- the report of `explain` on them, by the limit and the marks and by how overviews are taken, and its answer: the spool's text makes no difference
 abbrev pub ExplainReports : Limit → Marks → Overviews → Captured → List ℕ → Bool → Type 0
 ExplainReports limit marks overviews c text answer = ExplainsHeld limit marks overviews c.is_several c.held text answer
 

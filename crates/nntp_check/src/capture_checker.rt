@@ -40,7 +40,7 @@ pub(crate) struct JudgedCapture<A: Allocator> {
 }
 
 impl<A: Allocator + Copy> CaptureChecker<A> {
-    /// A checker of a capture of which nothing has come, where OVER and XOVER are taken so in each session.
+    /// A checker of a capture of which nothing has come, where overviews are taken so in each session.
     pub(crate) fn new(
         alloc: A,
         limit: Limit,

@@ -12,20 +12,20 @@ use thiserror::Error;
 /// What the words ask for.
 #[derive(Clone, Copy, Debug, PartialEq, Eq)]
 pub enum Task {
-    /// Judge the sessions of a capture by the limit and the marks, as `run_check` does, where OVER and XOVER are taken so.
+    /// Judge the sessions of a capture by the limit and the marks, as `run_check` does, where overviews are taken so.
     Check {
         limit: Limit,
         marks: Marks,
         overviews: Overviews,
     },
-    /// Tell whether a given spool explains them, as `run_verify` does, by the marks, where OVER and XOVER are taken so.
+    /// Tell whether a given spool explains them, as `run_verify` does, by the marks, where overviews are taken so.
     Verify {
         marks: Marks,
         overviews: Overviews,
     },
     /// Show them as a reader sees them, as `run_show` does.
     Show,
-    /// Tell all that is bad of them by the limit and the marks, as `run_explain` does, where OVER and XOVER are taken so.
+    /// Tell all that is bad of them by the limit and the marks, as `run_explain` does, where overviews are taken so.
     Explain {
         limit: Limit,
         marks: Marks,
@@ -103,7 +103,7 @@ const WIDE: &str = "wide";
 /// The option by which marks are read strictly.
 const STRICT_MARKS: &str = "strict-marks";
 
-/// The option by which OVER and XOVER are judged.
+/// The option by which overviews are judged.
 const OVERVIEW: &str = "overview";
 
 /// An option without a value.
@@ -132,12 +132,12 @@ fn strict_marks<'a>(alloc: Global) -> Arg<'a> {
     )
 }
 
-/// The option by which OVER and XOVER are judged.
+/// The option by which overviews are judged.
 fn overview<'a>(alloc: Global) -> Arg<'a> {
     flag(
         alloc,
         OVERVIEW,
-        "Judge OVER and XOVER too: which articles a range has, and the id and four headers of each",
+        "Judge OVER and XOVER too, and HDR and XHDR of Message-ID: which articles a range has, their ids and headers",
     )
 }
 
@@ -217,7 +217,7 @@ fn limit_for(matches: &ArgMatches<'_>, task: &str) -> Limit {
     }
 }
 
-/// How the task is to take OVER and XOVER.
+/// How the task is to take overviews.
 fn overviews_for(matches: &ArgMatches<'_>, task: &str) -> Overviews {
     if is_given(matches, task, OVERVIEW) {
         Overviews::Judged

@@ -99,7 +99,7 @@ fn report_verdict<A: Allocator + Copy, W: Write>(
 }
 
 /// Judges the sessions of the capture that the input has, as they come, by the limit and the marks, and writes the report
-/// on them: the answer is whether they are consistent. OVER and XOVER are opaque. It reads at most `most` octets, up to
+/// on them: the answer is whether they are consistent. Overviews are opaque. It reads at most `most` octets, up to
 /// the input's end, behind a bad answer too, and passes over spool pieces; at the first fault it ends. What memory the
 /// report needs is taken before its first octet is written; one flush follows the last.
 ///
@@ -131,7 +131,7 @@ pub fn run_check<A: Allocator + Copy, R: Read, W: Write>(
     run_check_taking(alloc, limit, marks, Overviews::Opaque, input, output, most)
 }
 
-/// Does what [`run_check`] does, where OVER and XOVER are taken so.
+/// Does what [`run_check`] does, where overviews are taken so.
 fn run_check_taking<A: Allocator + Copy, R: Read, W: Write>(
     alloc: A,
     limit: Limit,
@@ -191,7 +191,7 @@ fn verify_collected<A: Allocator + Copy, S: Allocator + Copy>(
 
 /// Tells whether the spool of a capture explains its sessions, and writes the report on them: the answer is whether the
 /// spool permits all answers. The spool is the one whose text the joined spool pieces are; article numbers are judged by
-/// its limit, and the water marks of a 211 (RFC 3977, section 6.1.1) are read as `marks` tells. OVER and XOVER are
+/// its limit, and the water marks of a 211 (RFC 3977, section 6.1.1) are read as `marks` tells. Overviews are
 /// opaque. It reads and writes as [`run_check`] does.
 ///
 /// # Errors
@@ -219,7 +219,7 @@ pub fn run_verify<A: Allocator + Copy, R: Read, W: Write>(
     run_verify_taking(alloc, marks, Overviews::Opaque, input, output, most)
 }
 
-/// Does what [`run_verify`] does, where OVER and XOVER are taken so.
+/// Does what [`run_verify`] does, where overviews are taken so.
 fn run_verify_taking<A: Allocator + Copy, R: Read, W: Write>(
     alloc: A,
     marks: Marks,
@@ -301,7 +301,7 @@ fn explain_collected<A: Allocator + Copy>(
 
 /// Reads the sessions of the capture that the input has to their ends, by the limit and the marks, and writes each bad
 /// answer of them, with where its session stands there: the answer is whether none is bad. A bad answer is passed over,
-/// and the next one is judged behind those that were accepted. OVER and XOVER are opaque. It reads and writes as
+/// and the next one is judged behind those that were accepted. Overviews are opaque. It reads and writes as
 /// [`run_check`] does, and holds all streams whole.
 ///
 /// # Errors
@@ -330,7 +330,7 @@ pub fn run_explain<A: Allocator + Copy, R: Read, W: Write>(
     run_explain_taking(alloc, limit, marks, Overviews::Opaque, input, output, most)
 }
 
-/// Does what [`run_explain`] does, where OVER and XOVER are taken so.
+/// Does what [`run_explain`] does, where overviews are taken so.
 fn run_explain_taking<A: Allocator + Copy, R: Read, W: Write>(
     alloc: A,
     limit: Limit,
@@ -355,8 +355,8 @@ fn run_explain_taking<A: Allocator + Copy, R: Read, W: Write>(
     Ok(told.is_without_fault)
 }
 
-/// Does the task: what `run_check`, `run_verify`, `run_show` or `run_explain` does, by what the task holds, where OVER and
-/// XOVER are taken as it says.
+/// Does the task: what `run_check`, `run_verify`, `run_show` or `run_explain` does, by what the task holds, where overviews
+/// are taken as it says.
 ///
 /// # Errors
 ///

@@ -45,7 +45,7 @@ impl<A: Allocator + Copy> Collected<A> {
         }
     }
 
-    /// What was recorded of it, where OVER and XOVER are taken so.
+    /// What was recorded of it, where overviews are taken so.
     fn recorded(&self, overviews: Overviews) -> Recorded<'_>
         ensures { result ≡ (session_as overviews self.now).session }
     {
@@ -101,14 +101,14 @@ impl<A: Allocator + Copy> Streams<A> {
         Ok(())
     }
 
-    /// What was recorded of the last session, where OVER and XOVER are taken so.
+    /// What was recorded of the last session, where overviews are taken so.
     pub(crate) fn last(&self, overviews: Overviews) -> Recorded<'_>
         ensures { result ≡ (session_as overviews (held_in self.now).last).session }
     {
         self.last.recorded(overviews)
     }
 
-    /// What was recorded of each session, where OVER and XOVER are taken so.
+    /// What was recorded of each session, where overviews are taken so.
     pub(crate) fn recorded(&self, overviews: Overviews) -> Result<Vec<Recorded<'_>, A>, AllocError>
         ensures { IfOk result (λ sessions. sessions.items ≡ unnamed (sessions_of overviews (held_in self.now))) }
     {

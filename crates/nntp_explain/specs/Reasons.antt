@@ -4,7 +4,7 @@ use Rattle.std.specs.{List.{flat_map}, Option.{option_map, option_map_or}}
 use Rattle.nntp_wire.specs.{Answer.{Response, group_is, numbers_are}, declared.misspelling.Misspelling.{Misspelling, TheVariants.{WrongOctet, TooLong, NoCode}}}
 use Rattle.nntp_wire.specs.declared.misspelling.{Misspelling.TheVariants.{WrongArgument, WrongLine, WrongBlock}, Due.{Due, TheVariants.{Number, GroupName}}}
 use Rattle.nntp_wire.specs.declared.misspelling.{Due.TheVariants.{MessageId}, LineFault.{LineFault, TheVariants.{BadOctet, SingleDot, NoNumber, NoGroup}}}
-use Rattle.nntp_wire.specs.{declared.misspelling.LineFault.TheVariants.{NoArticleNumber, NoMessageId, NoVersions}, Session.{closes}}
+use Rattle.nntp_wire.specs.{declared.misspelling.LineFault.TheVariants.{NoArticleNumber, NoMessageId, NoListedNumber, NoListedId, NoVersions}, Session.{closes}}
 use Rattle.nntp_article.specs.{Article.{Parts.{Id}, Fields.{name_of_field}}, declared.article.field.Field.{Field}, Session.Misfit.{Misfit, wrong_code}}
 use Rattle.nntp_article.specs.Session.Misfit.{wrong_name, wrong_number, wrong_id, below_low, wrong_marks, beyond_limit, not_above, beyond_range, unmatched}
 use Rattle.nntp_article.specs.Session.{Misfit.{listed_twice, wrong_lines, no_head, other_id}, Machine.{is_same}, Spool.{Name}}
@@ -78,6 +78,8 @@ fault_word NoNumber = codes "number"
 fault_word NoGroup = codes "group"
 fault_word NoArticleNumber = codes "number"
 fault_word NoMessageId = codes "id"
+fault_word NoListedNumber = codes "number"
+fault_word NoListedId = codes "id"
 fault_word NoVersions = codes "versions"
 
 -- the line of a reason

@@ -1,7 +1,7 @@
 //! Explains recorded sessions: each bad answer, where its session stands there, and why it is bad.
 //!
 //! `explain` reads a session to its end, behind bad answers too, and writes the report on it; `explain_taking` is told how
-//! OVER and XOVER are taken in it. `explain_sessions` does so of several sessions of one spool.
+//! overviews are taken in it. `explain_sessions` does so of several sessions of one spool.
 #![tactic(auto)]
 
 mod ask;

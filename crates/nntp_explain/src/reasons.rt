@@ -193,9 +193,9 @@ fn fault_word(fault: LineFault) -> &'static [u8]
     match fault {
         LineFault::BadOctet => b"octet",
         LineFault::SingleDot => b"dot",
-        LineFault::NoNumber | LineFault::NoArticleNumber => b"number",
+        LineFault::NoNumber | LineFault::NoArticleNumber | LineFault::NoListedNumber => b"number",
         LineFault::NoGroup => b"group",
-        LineFault::NoMessageId => b"id",
+        LineFault::NoMessageId | LineFault::NoListedId => b"id",
         LineFault::NoVersions => b"versions",
     }
 }

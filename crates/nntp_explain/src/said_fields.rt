@@ -2,6 +2,7 @@
 ghost use Rattle.std.specs.Prelude.{◌≡◌, ◌++◌, ◌∷◌, ◌-◌, [], IfOk, OnOk, length, option_map, take};
 ghost use Rattle.std.specs.Option.{option_map_or};
 ghost use Rattle.nntp_wire.specs.Listing.{overviews_of};
+ghost use Rattle.nntp_wire.specs.Inner.View.{overview_value};
 ghost use Rattle.nntp_article.specs.Article.Fields.{fields_of_head, words_in};
 ghost use Rattle.nntp_said.specs.Facts.{FieldsAre};
 ghost use Rattle.nntp_theory.specs.Given.{fields_of_overview, first_given};
@@ -14,7 +15,7 @@ use crate::reasons::put_field_name;
 use crate::said_numbers::is_same;
 use nntp_article::{Field, FieldWords, Fields};
 use nntp_printing::put_escaped;
-use nntp_wire::Block;
+use nntp_wire::{Block, OverviewLine};
 use std::alloc::{AllocError, Allocator};
 
 /// The most octets of the words of a header that a report shows: those that it shows of a line.
@@ -36,16 +37,27 @@ pub(crate) fn put_overview_field<A: Allocator + Copy>(
     }
 }
 
-/// Returns what the first overview with the id tells.
+/// Returns what the first overview with the id that tells of headers tells.
 fn fields_of<'a>(block: &Block<'a>, id: &[u8]) -> Option<Fields<'a>>
     ensures { result ≡ first_given (fields_of_overview id.now) (overviews_of block.now) }
 {
     for overview in block.overviews() {
-        if is_same(overview.id.as_str().as_bytes(), id) {
-            return Some(Fields::of_overview(overview));
+        if let Some(fields) = own_fields(&overview, id) {
+            return Some(fields);
         }
     }
     None
+}
+
+/// Returns what the overview tells of headers, if it has the id.
+fn own_fields<'a>(overview: &OverviewLine<'a>, id: &[u8]) -> Option<Fields<'a>>
+    ensures { result ≡ fields_of_overview id.now (overview_value overview.now) }
+{
+    if is_same(overview.id.as_str().as_bytes(), id) {
+        Fields::of_overview(overview)
+    } else {
+        None
+    }
 }
 
 /// Adds what the head tells of the header, if it is sent.

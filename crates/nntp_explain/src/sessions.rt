@@ -25,7 +25,7 @@ pub struct Explanation<A: Allocator> {
     pub is_without_fault: bool,
 }
 
-/// Explains what is bad of a session, of which these are both streams. OVER and XOVER are opaque: [`explain_taking`] is
+/// Explains what is bad of a session, of which these are both streams. Overviews are opaque: [`explain_taking`] is
 /// told how they are taken, and a session of [`explain_sessions`] says how they are in it.
 ///
 /// # Errors
@@ -43,7 +43,7 @@ pub fn explain<A: Allocator + Copy>(
     explain_taking(alloc, limit, marks, Overviews::Opaque, client, server)
 }
 
-/// Explains what is bad of a session, as [`explain`] does, where OVER and XOVER are taken so.
+/// Explains what is bad of a session, as [`explain`] does, where overviews are taken so.
 ///
 /// # Errors
 ///

@@ -1,5 +1,5 @@
 //! What answers say of articles.
-ghost use Rattle.std.specs.Prelude.{◌≡◌, ◌≢◌, ◌↔◌, false, Some, IsTrue, List, MatchOption, Option, IfOk, OnOk, is_some};
+ghost use Rattle.std.specs.Prelude.{◌≡◌, ◌≢◌, ◌↔◌, false, Some, IsTrue, List, MatchOption, Option, IfOk, IfSome, OnOk, is_some};
 ghost use Rattle.std.specs.List.{list_any};
 ghost use Rattle.std.specs.Option.{option_map_or};
 ghost use Rattle.std.specs.FinMap as map;
@@ -203,23 +203,23 @@ impl<A: Allocator + Copy> Articles<A> {
         match block.overviews().next() {
             Some(overview) => {
                 let id = overview.id.as_str();
-                self.tell(id, Fields::of_overview(overview), true)
+                self.tell(id, Fields::of_overview(&overview), true)
             }
             None => Ok(Added::Never),
         }
     }
 
-    /// Adds that an overview tells this of the id's article, if it may be so, and hands back the id's text; `is_sent` where
-    /// no range was asked for. After an error the articles say nothing of use.
+    /// Adds that an overview tells this of the id's article, if it tells of headers and it may be so, and hands back the id's
+    /// text; `is_sent` where no range was asked for. After an error the articles say nothing of use.
     pub(crate) fn tell(
         &mut self,
         id: &str,
-        told: Fields<'_>,
+        told: Option<Fields<'_>>,
         is_sent: bool,
     ) -> Result<Added<A>, AllocError>
-        requires { AreWords told }
+        requires { IfSome told AreWords }
         ensures added { IfOk result (λ added. (facts : List Fact) → AreKeptArticles facts self.old
-            → IsSaidAdded facts (said_alone id.now (telling is_sent (Some told.entry))) self.old self.new (is_added added)) }
+            → IsSaidAdded facts (said_alone id.now (telling is_sent told.entry)) self.old self.new (is_added added)) }
         ensures text { IfOk result (λ added. IsTrue (is_added added) → text_of added ≡ Some id.now) }
     {
         if self.is_denied(id) {

@@ -4,7 +4,7 @@ use Rattle.nntp_wire.specs.{Lines.{lines_of_stream}, Command.{request_as}, Answe
 use Rattle.nntp_wire.specs.{Session.{ClientStream, closes}, declared.overviews.Overviews.{Overviews}}
 use Rattle.nntp_pair.specs.declared.class.PairClass.{PairClass, TheVariants.{Surplus, Cut, Malformed}}
 
--- a place of a session: a line of the client, or none at the greeting's, and how OVER and XOVER are taken there
+-- a place of a session: a line of the client, or none at the greeting's, and how overviews are taken there
 pub record Place : Type 0 where
   pub line : Option (List ℕ)
   pub overviews : Overviews

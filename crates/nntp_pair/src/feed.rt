@@ -27,7 +27,7 @@ use std::marker::Model;
 /// [`advance`](Feed::advance) hasn't passed.
 #[derive(Drop)]
 pub struct Feed<A: Allocator = Global> {
-    /// How OVER and XOVER are taken.
+    /// How overviews are taken.
     overviews: Overviews,
     client: Buffer<A>,
     server: Buffer<A>,
@@ -59,7 +59,7 @@ impl<A: Allocator> Model for Feed<A> {
 }
 
 impl<A: Allocator + Copy> Feed<A> {
-    /// A feed to which nothing has come, where OVER and XOVER are opaque.
+    /// A feed to which nothing has come, where overviews are opaque.
     pub fn new(alloc: A) -> Feed<A>
         ensures value { result ≡ unfed Opaque }
         ensures fed { IsFed result (taken Opaque []) [] [] }
@@ -67,7 +67,7 @@ impl<A: Allocator + Copy> Feed<A> {
         Feed::taking(alloc, Overviews::Opaque)
     }
 
-    /// A feed to which nothing has come, where OVER and XOVER are taken so.
+    /// A feed to which nothing has come, where overviews are taken so.
     pub fn taking(alloc: A, overviews: Overviews) -> Feed<A>
         ensures value { result ≡ unfed overviews }
         ensures fed { IsFed result (taken overviews []) [] [] }

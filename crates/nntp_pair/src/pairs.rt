@@ -58,14 +58,14 @@ pub struct MalformedFrame<'a> {
 }
 
 impl<'a> Pairs<'a> {
-    /// The pairing from the greeting on, where OVER and XOVER are opaque.
+    /// The pairing from the greeting on, where overviews are opaque.
     pub fn new(client: &'a [u8], server: &'a [u8]) -> Pairs<'a>
         ensures { result ≡ streams (taken Opaque client.now) server.now }
     {
         Pairs::taking(Overviews::Opaque, client, server)
     }
 
-    /// The pairing from the greeting on, where OVER and XOVER are taken so.
+    /// The pairing from the greeting on, where overviews are taken so.
     pub fn taking(overviews: Overviews, client: &'a [u8], server: &'a [u8]) -> Pairs<'a>
         ensures { result ≡ streams (taken overviews client.now) server.now }
     {

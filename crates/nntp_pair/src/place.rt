@@ -25,7 +25,7 @@ impl<'a> Model for Place<'a> {
 }
 
 impl<'a> Place<'a> {
-    /// The place of this line, or the greeting's, where OVER and XOVER are taken so.
+    /// The place of this line, or the greeting's, where overviews are taken so.
     pub(crate) fn new(overviews: Overviews, line: Option<&'a [u8]>) -> Place<'a>
         ensures { result ≡ place_of overviews (option_copied line.entry) }
     {
@@ -59,7 +59,7 @@ impl<'a> Place<'a> {
         }
     }
 
-    /// Tells whether both have the same line, or none, and take OVER and XOVER alike.
+    /// Tells whether both have the same line, or none, and take overviews alike.
     pub fn is_same(&self, other: &Place<'_>) -> bool
         ensures { IsTrue result ↔ (self.now ≡ other.now) }
     {

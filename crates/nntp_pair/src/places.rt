@@ -30,7 +30,7 @@ impl<'a> Model for Places<'a> {
 }
 
 impl<'a> Places<'a> {
-    /// All places of a session, where OVER and XOVER are taken so.
+    /// All places of a session, where overviews are taken so.
     pub(crate) fn new(overviews: Overviews, client: &'a [u8]) -> Places<'a>
         ensures { result ≡ places_of (taken overviews client.now) }
     {

@@ -1,14 +1,14 @@
 -- A spool permits a session exactly if each answer fits and all that the answers say holds of it.
-use Rattle.nntp_wire.specs.{declared.{marks.Marks.{Marks}, command.{OverviewKeyword.TheVariants.{Over, Xover}, What.{What}}}, Answer.{Asked, Response, Success}}
-use Rattle.nntp_wire.specs.{Answer.{greeting, to, sends, overviews_are, plain}, Command.{Request, Target, by_id, by_number, current, group, list_group, next}}
-use Rattle.nntp_wire.specs.{Command.{last, retrieve, over, the_id, in_range, the_current}, Listing.{OverviewValue, overviews_of}}
+use Rattle.nntp_wire.specs.{declared.{marks.Marks.{Marks}, command.What.{What}}, Answer.{Asked, Response, Success, greeting, to, sends, overviews_are, plain}}
+use Rattle.nntp_wire.specs.Command.{Request, Target, by_id, by_number, current, group, list_group, next, last, retrieve, over, the_id, in_range, the_current}
+use Rattle.nntp_wire.specs.Listing.{OverviewValue, overviews_of}
 use Rattle.std.proofs.Common.{◌≡◌, ℕ, Bool, true, false, cond, ◌==◌, ◌&&◌, ◌||◌, ◌↔◌, inl, inr, IsTrue, List, [], ◌∷◌, ◌++◌, None, Some, is_some, refl, sym}
 use Rattle.std.{proofs.{Common.{subst, ◌∙◌}, lemmas.Bool.{and_parts, eqb-true, true≢false, false≢true}}, specs.Prelude.{IsFalse, is_none, ⊤, Option}}
 use Rattle.std.specs.{Prelude.{MatchOption}, Option.{option_map_or}, List.{AllByRecursion}}
 use Rattle.nntp_article.specs.Session.{Spool.{Spool}, Machine.{Visible, State, Agrees, MayAnswer, visible_after, CodeAgrees, is_generic, is_one_of, code_fits}}
 use Rattle.nntp_article.specs.{Session.Machine.{none_in_range, ArticleAgrees, NumberAgrees, OverviewAgrees, only, number_fits, fits}, Article.Parts.{Id}}
 use Rattle.nntp_article.specs.declared.session.profile.Profile.{Profile}
-use Rattle.nntp_said.{proofs.Rows.{one_of_one, one_of_two}, specs.{Inner.{Asks.{state_at, RunsAt}, Facts.{FitsAll}}, Asks.{position_after}}}
+use Rattle.nntp_said.{proofs.Rows.{none_cases, one_of_two}, specs.{Inner.{Asks.{state_at, RunsAt}, Facts.{FitsAll}}, Asks.{position_after}}}
 use Rattle.nntp_said.specs.{declared.position.Position.{Position}, Facts.{Fact, Holds, facts_of, facts_of_article, facts_of_overview, facts_of_place}}
 use Rattle.nntp_said.specs.Facts.{facts_of_code, facts_from, on}
 
@@ -61,11 +61,9 @@ code_holds how S v at (retrieve what (by_id word)) code h = on_from S (code == 4
 code_holds how S v at (retrieve what (by_number (Some n))) code h = on_from S (code == 423) _ (at_code how S (state_at S v at) (retrieve what (by_number (Some n))) code 423 h)
 code_holds how S v at (retrieve what current) code h = on_from S (code == 420) _ (at_code how S (state_at S v at) (retrieve what current) code 420 h)
 code_holds how S v at (over keyword (the_id word)) code h = on_from S (code == 430) _ (at_code how S (state_at S v at) (over keyword (the_id word)) code 430 h)
-code_holds how S v at (over Over (in_range range)) code h =
-    on_from S (is_one_of (423 ∷ []) code) _ (λ t. at_code how S (state_at S v at) (over Over (in_range range)) code 423 h (one_of_one 423 code t))
-code_holds how S v at (over Xover (in_range range)) code h = on_from S (is_one_of (420 ∷ 423 ∷ []) code) _ (λ t. elim (one_of_two 420 423 code t) [
-  | inl e ↦ at_code how S (state_at S v at) (over Xover (in_range range)) code 420 h e
-  | inr e ↦ at_code how S (state_at S v at) (over Xover (in_range range)) code 423 h e
+code_holds how S v at (over keyword (in_range range)) code h = on_from S (is_one_of (none_in_range keyword) code) _ (λ t. elim (none_cases keyword code t) [
+  | inl e ↦ at_code how S (state_at S v at) (over keyword (in_range range)) code 420 h e
+  | inr e ↦ at_code how S (state_at S v at) (over keyword (in_range range)) code 423 h e
 ])
 code_holds how S v at (over keyword the_current) code h = on_from S (code == 420) _ (at_code how S (state_at S v at) (over keyword the_current) code 420 h)
 code_holds how S v at command code h = tt

@@ -8,15 +8,15 @@ use Rattle.std.specs.{Cmp.{eq_by_cmp_equiv, Lexicographic.{nat_list_cmp_total}},
 use Rattle.std.specs.{FinMap.{slice_cmp-IsAntisymmetric}, declared.cmp.Ordering.{Ordering}}
 use Rattle.nntp_article.specs.Session.Spool.{Spool, Numbers, IsNumber, numbers, IsNextAbove, IsNextBelow, NoneAbove, NoneBelow, Lists, IsInRange, text_of, Text}
 use Rattle.nntp_article.specs.Session.Machine.{HasOverview, overview_numbers, Visible, State, AreEnds, Bound, ActivesAgree, Run, fits, visible_after}
-use Rattle.nntp_article.specs.{Article.Fields.{Fields, fields_of_head, fields_told}, declared.session.profile.Profile.{Profile}}
+use Rattle.nntp_article.specs.{Article.{Parts.{Line}, Fields.{fields_of_head}}, declared.session.profile.Profile.{Profile}}
+use Rattle.nntp_wire.specs.{Listing.{Fields, ActiveValue, OverviewValue}, Answer.{Asked, Response}, declared.water_marks.WaterMarks.{WaterMarks}}
+use Rattle.nntp_wire.specs.{declared.{marks.Marks.{Marks, TheVariants.{Lenient, Strict}}, range.Range.{Range}}, Wildmat.{MatchesName}, Decided.{matches_name}}
+use Rattle.nntp_wire.proofs.{DecidedLemmas.{matches_name-iff}, OptionLemmas.{none_of}}
 use Rattle.nntp_said.specs.Asks.{Ask, Estimates, Bounds, ListsIn, Has, Lacks, StandsAt, StandsNowhere, StepsUp, StepsDown, IsTop, IsBottom, Meets, current_in}
 use Rattle.nntp_said.specs.{declared.position.Position.{Position, TheVariants.{Nowhere, Known}}, Inner.{Asks.{state_at}, Facts.{FitsAll}}, Facts.{Fact}}
 use Rattle.nntp_said.specs.Facts.{ThereIs, ThereIsNo, Asks, IdAt, TextIs, NoArticle, FieldsAre, OverviewsAre, GroupsAre, Holds, facts_from}
 use Rattle.nntp_said.proofs.{CurrentArticle.{read_off, run_from}, FactsHold.{permits_by_facts}, FiniteMapsDecided.{Dec, dec_true, dec_le, dec_both, dec_three}}
 use Rattle.nntp_said.proofs.FiniteMapsDecided.{dec_by, dec_none, dec_some_text, each_key, dec_some, dec_option, dec_lists, dec_to, passes, fails, dec_all}
-use Rattle.nntp_wire.specs.{Answer.{Asked, Response}, declared.{water_marks.WaterMarks.{WaterMarks}, marks.Marks.{Marks, TheVariants.{Lenient, Strict}}}}
-use Rattle.nntp_wire.specs.{declared.range.Range.{Range}, Listing.{ActiveValue, OverviewValue}, Wildmat.{MatchesName}, Decided.{matches_name}}
-use Rattle.nntp_wire.proofs.{DecidedLemmas.{matches_name-iff}, OptionLemmas.{none_of}}
 
 each_number : (N : Numbers) (p : ℕ → Bool) → Dec ((n : ℕ) → IsNumber N n → IsTrue (p n))
 each_number N p = each_key nat_cmp_total nat_cmp-IsAntisymmetric p N
@@ -150,9 +150,13 @@ dec_fields x y =
 dec_overview : (S : Spool) (o : OverviewValue) → Dec (HasOverview S o)
 dec_overview S o = by (get S.articles o.id)
   where
-    by : (t : Option Text) → Dec (MatchOption t ⊥ (λ t. fields_of_head t.head ≡ fields_told o))
+    tells : (head : List Line) (told : Option Fields) → Dec (IfSome told (λ fields. fields_of_head head ≡ fields))
+    tells head None = inl tt
+    tells head (Some fields) = dec_fields (fields_of_head head) fields
+
+    by : (t : Option Text) → Dec (MatchOption t ⊥ (λ t. IfSome o.told (λ fields. fields_of_head t.head ≡ fields)))
     by None = inr (λ h. h)
-    by (Some t) = dec_fields (fields_of_head t.head) (fields_told o)
+    by (Some t) = tells t.head o.told
 
 -- whether a fact holds of a spool
 dec_holds : (S : Spool) (fact : Fact) → Dec (Holds S fact)

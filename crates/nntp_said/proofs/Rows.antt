@@ -11,7 +11,7 @@ use Rattle.nntp_said.specs.Facts.{GroupsAre, here, facts_of_code, facts_of_artic
 use Rattle.nntp_wire.specs.{Listing.{OverviewValue, listed_numbers, active_groups, overviews_of}, Answer.{Asked, Response, Success, success_code, to, group_is}}
 use Rattle.nntp_wire.specs.{Answer.{numbers_are, sends, active_are, overviews_are, plain}, Command.{Request, Target, by_id, by_number, current, group}}
 use Rattle.nntp_wire.specs.Command.{list_group, next, last, retrieve, over, the_id, in_range, the_current, list_active}
-use Rattle.nntp_wire.specs.declared.{command.{OverviewKeyword.{OverviewKeyword, TheVariants.{Over, Xover}}, What.{What}}, range.Range.{Range}}
+use Rattle.nntp_wire.specs.declared.{command.{OverviewKeyword.{OverviewKeyword, TheVariants.{Over, Xover, Hdr, Xhdr}}, What.{What}}, range.Range.{Range}}
 use Rattle.nntp_wire.specs.declared.water_marks.WaterMarks.{WaterMarks}
 
 -- ---- codes of a list
@@ -26,6 +26,13 @@ one_of_one a code t = elim (or_cases (a == code) false t) [ inl e ↦ same_code 
 -- one of two
 pub one_of_two : (a b code : ℕ) → IsTrue (is_one_of (a ∷ b ∷ []) code) → IsTrue (code == a) ⊎ IsTrue (code == b)
 one_of_two a b code t = elim (or_cases (a == code) ((b == code) || false) t) [ inl e ↦ inl (same_code a code e) | inr r ↦ inr (one_of_one b code r) ]
+
+-- of those that tell that a range has no article
+pub none_cases : (keyword : OverviewKeyword) (code : ℕ) → IsTrue (is_one_of (none_in_range keyword) code) → IsTrue (code == 420) ⊎ IsTrue (code == 423)
+none_cases Over code t = inr (one_of_one 423 code t)
+none_cases Xover code t = one_of_two 420 423 code t
+none_cases Hdr code t = inr (one_of_one 423 code t)
+none_cases Xhdr code t = one_of_two 420 423 code t
 
 -- ---- rows
 
@@ -101,6 +108,12 @@ module _ (profile : Profile) (v : Visible) (at : Position) where
       elim (one_of_two 420 423 code t) [
         | inl e ↦ selected_by (over Xover (in_range range)) code 420 (λ h. h) e
         | inr e ↦ selected_by (over Xover (in_range range)) code 423 (λ h. h) e
+      ]
+  none_selected Hdr range code t = selected_by (over Hdr (in_range range)) code 423 (λ h. h) (one_of_one 423 code t)
+  none_selected Xhdr range code t =
+      elim (one_of_two 420 423 code t) [
+        | inl e ↦ selected_by (over Xhdr (in_range range)) code 420 (λ h. h) e
+        | inr e ↦ selected_by (over Xhdr (in_range range)) code 423 (λ h. h) e
       ]
 
   code_row : (command : Request) (code : ℕ) → RowOf (to command) (plain code) (facts_of_code v at command code)

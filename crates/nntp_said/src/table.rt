@@ -160,7 +160,7 @@ fn lists<'s>(selected: &'s [u8], range: Range, lines: NumberLines<'s>) -> SaidFa
     asks(selected, Ask::Lists { range, lines })
 }
 
-/// Returns what a failure of OVER or XOVER says.
+/// Returns what a failure of OVER, XOVER, HDR or XHDR says.
 fn facts_of_no_overview<'s>(
     selected: &'s [u8],
     at: Position,
@@ -173,7 +173,7 @@ fn facts_of_no_overview<'s>(
     match (which, keyword, code) {
         (WhichArticles::Id(word), _, 430) => SaidFacts::one(Fact::NoArticle(*word)),
         (WhichArticles::Range(range), _, 423)
-        | (WhichArticles::Range(range), OverviewKeyword::Xover, 420) => {
+        | (WhichArticles::Range(range), OverviewKeyword::Xover | OverviewKeyword::Xhdr, 420) => {
             lists(selected, *range, NumberLines::Nothing)
         }
         (WhichArticles::Current, _, 420) => asks(selected, Ask::StandsNowhere(at)),

@@ -1,9 +1,8 @@
 -- The order of facts, and how often each is said, doesn't matter to the spool that is given for them; so the order of sessions doesn't.
 use Rattle.std.proofs.Common.{◌≡◌, ℕ, ◌+◌, Bool, cond, IsTrue, List, [], ◌∷◌, ◌++◌, Option, None, Some, is_some, inl, inr, refl, sym, ap, ap₂, subst, ◌∙◌}
 use Rattle.std.{proofs.{Common.{arith}, lemmas.Bool.{true≢false}}, specs.{Prelude.{IsFalse, unwrap_or, Contains}, List.{list_any, flat_map}, FinMap.{entries}}}
-use Rattle.nntp_article.specs.{Article.{Parts.{Id, Line}, Fields.{Fields, made_head}}, Session.Spool.{Spool, Numbers, Name}}
-use Rattle.nntp_article.specs.declared.session.profile.Profile.{Profile}
-use Rattle.nntp_wire.specs.Session.{prompts_of}
+use Rattle.nntp_article.specs.{Article.{Parts.{Id, Line}, Fields.{made_head}}, Session.Spool.{Spool, Numbers, Name}, declared.session.profile.Profile.{Profile}}
+use Rattle.nntp_wire.specs.{Listing.{Fields}, Session.{prompts_of}}
 use Rattle.nntp_said.specs.{Asks.{Ask}, Facts.{Fact}}
 use Rattle.nntp_theory.specs.Given.{denies, demand_in, join, demand, wants, is_known, IsFirstFree, IsOneMore, IsGivenNumber, asks_in, asks_of, shows_group}
 use Rattle.nntp_theory.specs.Given.{mentions, first_given, id_in, id_shown, head_in, fields_in, body_in, invented, AreInvented, unshown_in, unshown_ids}

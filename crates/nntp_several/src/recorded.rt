@@ -5,7 +5,7 @@ use std::marker::Model;
 /// What client and server sent in one session (RFC 3977, section 3.1), as it was recorded.
 #[derive(Drop)]
 pub struct Recorded<'a> {
-    /// How OVER and XOVER of the client are taken.
+    /// How overviews of the client are taken.
     pub overviews: Overviews,
     /// All octets that the client sent.
     pub client: &'a [u8],

@@ -38,7 +38,7 @@ pub use verified::Verified;
 ///
 /// `client` and `server` are all octets of the two streams. The session is judged by the spool's
 /// limit of article numbers (RFC 3977, section 6), and with the water marks of a 211 read as
-/// `marks` tells (section 6.1.1.2). OVER and XOVER are opaque: [`verify_taking`] is told how they
+/// `marks` tells (section 6.1.1.2). Overviews are opaque: [`verify_taking`] is told how they
 /// are taken. What is taken of `alloc` is given back.
 ///
 /// # Errors
@@ -56,7 +56,7 @@ pub fn verify<A: Allocator + Copy, S: Allocator>(
     verify_taking(alloc, marks, spool, Overviews::Opaque, client, server)
 }
 
-/// Tells whether the spool explains both streams of a session, as [`verify`] does, where OVER and XOVER are taken so.
+/// Tells whether the spool explains both streams of a session, as [`verify`] does, where overviews are taken so.
 ///
 /// # Errors
 ///

@@ -1,6 +1,6 @@
 -- Membership by recursion, and what holds of each element of a list.
 use Rattle.std.proofs.Common.{ap, ◌≡◌, ◌+◌, ◌≤◌, suc, length, length-append, map, arith, Bool, ◌⊎◌, IsTrue, List, [], ◌∷◌, ◌++◌, Option, None, Some, option_map}
-use Rattle.std.proofs.{Common.{inl, inr, refl, ◌∙◌}, lemmas.{Bool.{or_left, or_right, or_cases, and_from, and_parts}, List.Folds.{list_any-append}}}
+use Rattle.std.proofs.{Common.{inl, inr, refl, subst, ◌∙◌}, lemmas.{Bool.{or_left, or_right, or_cases, and_from, and_parts}, List.Folds.{list_any-append}}}
 use Rattle.std.specs.{Prelude.{IfSome, Contains}, List.{AllByRecursion, list_any, list_all, flat_map}, Option.{option_or}}
 use Rattle.nntp_said.proofs.FiniteMapsDecided.{Dec}
 use Rattle.nntp_theory.specs.Given.{first_given}
@@ -127,6 +127,10 @@ part_first part f (x ∷ xs) = grind (arith, part_first part f xs)
 -- where what is there has it, it has it, if there is anything
 pub if_some : {A : Type 0} (o : Option A) (Q : A → Type 0) → ((x : A) → o ≡ Some x → Q x) → IfSome o Q
 if_some o Q h = grind arith
+
+-- and what is there has it
+pub at_some : {A : Type 0} (Q : A → Type 0) (o : Option A) (x : A) → o ≡ Some x → IfSome o Q → Q x
+at_some Q o x e h = subst (λ o. IfSome o Q) e h
 
 -- what one of them gives is what the first gives, where each says it of one thing
 pub first_is : {A B : Type 0} (Q : A → Type 0) → ((x y : A) → Q x → Q y → x ≡ y) → (f : B → Option A) (xs : List B)

@@ -12,9 +12,9 @@ use Rattle.nntp_theory.specs.Conflict.{Group, Number, Count, First, IdOf, PlaceO
 use Rattle.std.proofs.Common.{◌≡◌, ℕ, ◌+◌, ◌<◌, ◌^◌, ◌⊎◌, true, false, IsTrue, List, [], ◌∷◌, ◌++◌, map, Option, Some, inl, inr, refl, sym, ap, subst, ◌∙◌}
 use Rattle.std.{proofs.{Common.{arith, Bool}, lemmas.Bool.{true≢false, cases_Bool, cases_eq, eqb-true, false_from_ne_true, cases_lt}}, specs.Prelude.{IsFalse}}
 use Rattle.std.specs.{Prelude.{IfSome, not}, List.{AllByRecursion, list_any, flat_map}, Cmp.Lexicographic.{same_text}}
-use Rattle.nntp_wire.specs.{declared.marks.Marks.{Marks, TheVariants.{Lenient}}, Listing.{OverviewValue}}
-use Rattle.nntp_article.specs.{Article.{Parts.{Id, Line}, Fields.{Word, Fields, words_in}}, declared.article.field.Field.{Field, TheVariants.{Subject, From}}}
-use Rattle.nntp_article.specs.{declared.{article.field.Field.TheVariants.{Date, References}, session.profile.Profile.{Profile}}, Session.Spool.{Name, Numbers}}
+use Rattle.nntp_wire.specs.{declared.marks.Marks.{Marks, TheVariants.{Lenient}}, Listing.{OverviewValue, Fields}}
+use Rattle.nntp_article.specs.{Article.{Parts.{Id, Line}, Fields.{Word, words_in}}, declared.article.field.Field.{Field, TheVariants.{Subject, From, Date}}}
+use Rattle.nntp_article.specs.{declared.{article.field.Field.TheVariants.{References}, session.profile.Profile.{Profile}}, Session.Spool.{Name, Numbers}}
 use Rattle.nntp_article.specs.Session.{Spool.{numbers}, Machine.{is_same}}
 use Rattle.nntp_said.{proofs.FiniteMapsDecided.{Dec, dec_some, dec_texts, dec_lists, dec_all}, specs.{Asks.{Ask}, Facts.{Fact, IdAt, TextIs, FieldsAre}}}
 use Rattle.nntp_said.specs.Facts.{OverviewsAre}

@@ -2,14 +2,14 @@
 use Rattle.std.specs.Prelude.{◌≡◌, ℕ, ◌+◌, ◌<◌, ◌≤◌, Bool, true, false, not, ◌&&◌, ◌||◌, ◌==◌, nat_lt, if◌then◌else◌, IsTrue, IsFalse, IsSome, ◌↔◌, ◌⊎◌, List}
 use Rattle.std.specs.{Prelude.{[], ◌∷◌, ◌++◌, Option, None, Some, is_some, ⊤, option_map, unwrap_or, codes, decimal}, List.{list_any, flat_map}}
 use Rattle.std.specs.{Option.{option_or}, FinMap.{get, entries, len}}
-use Rattle.nntp_article.specs.{Article.{Parts.{head_part, body_part, Id, Line}, Fields.{Fields, fields_told, fields_of_head, made_head}}, Session.Spool.{Spool}}
-use Rattle.nntp_article.specs.Session.{Spool.{Text, Numbers, IsNumber, IsGroup, numbers, Name}, Machine.{is_in_range, is_same, overview_numbers, start}}
+use Rattle.nntp_article.specs.{Article.{Parts.{head_part, body_part, Id, Line}, Fields.{fields_of_head, made_head}}, Session.Spool.{Spool, Text, Numbers}}
+use Rattle.nntp_article.specs.Session.{Spool.{IsNumber, IsGroup, numbers, Name}, Machine.{is_in_range, is_same, overview_numbers, start}}
+use Rattle.nntp_wire.specs.{Listing.{Fields, OverviewValue}, Answer.{Asked, Response}, declared.marks.Marks.{Marks, TheVariants.{Strict}}}
+use Rattle.nntp_wire.specs.declared.command.What.TheVariants.{Article, Head, Body}
 use Rattle.nntp_said.specs.Asks.{Ask, Estimates, Bounds, ListsIn, Has, Lacks, StandsAt, StandsNowhere, StepsUp, StepsDown, IsTop, IsBottom}
 use Rattle.nntp_said.specs.{declared.position.Position.TheVariants.{Nowhere, First, Known}, Facts.{Fact, ThereIs, Asks, IdAt, TextIs, NoArticle, FieldsAre}}
 use Rattle.nntp_said.specs.Facts.{OverviewsAre, GroupsAre, facts_from}
 use Rattle.nntp_theory.specs.declared.demand.Demand.{Demand, TheVariants.{NoDemand, NotEmpty, OnlyOne, SecondIs, Impossible}}
-use Rattle.nntp_wire.specs.{Answer.{Asked, Response}, Listing.{OverviewValue}, declared.marks.Marks.{Marks, TheVariants.{Strict}}}
-use Rattle.nntp_wire.specs.declared.command.What.TheVariants.{Article, Head, Body}
 
 -- the ask shows the number
 abbrev pub shows : Ask → ℕ → Bool
@@ -200,11 +200,11 @@ body_in id (TextIs Article other (Some lines)) = if is_same other id then Some (
 body_in id (TextIs Body other (Some lines)) = if is_same other id then Some lines else None
 body_in id fact = None
 
--- what an overview tells, if it has the id
+-- what an overview tells of headers, if it has the id
 abbrev pub fields_of_overview : Id → OverviewValue → Option Fields
-fields_of_overview id o = if is_same o.id id then Some (fields_told o) else None
+fields_of_overview id o = if is_same o.id id then o.told else None
 
--- what is told of four headers of the id: by the first overview that has it, or by a head that is sent
+-- what is told of four headers of the id: by the first overview that has it and tells of them, or by a head that is sent
 abbrev pub fields_in : Id → Fact → Option Fields
 fields_in id (FieldsAre overviews) = first_given (fields_of_overview id) overviews
 fields_in id (OverviewsAre name range overviews) = first_given (fields_of_overview id) overviews

@@ -75,7 +75,7 @@ enum State<A: Allocator> {
 /// A judgement that goes on: all exchanges that are whole have passed.
 #[derive(Drop)]
 struct Ongoing<A: Allocator> {
-    /// How OVER and XOVER are taken, in each session.
+    /// How overviews are taken, in each session.
     overviews: Overviews,
     judge: Judge<A>,
     feed: Feed<A>,
@@ -83,14 +83,14 @@ struct Ongoing<A: Allocator> {
 
 impl<A: Allocator + Copy> Checker<A> {
     /// A checker to which no octet has come. It judges by the limit and the marks as [`check`](crate::check) does, with
-    /// OVER and XOVER opaque, and takes no memory yet.
+    /// overviews opaque, and takes no memory yet.
     pub fn new(alloc: A, limit: Limit, marks: Marks) -> Checker<A>
         ensures { StandsFor limit marks result (taken Opaque []) [] }
     {
         Checker::taking(alloc, limit, marks, Overviews::Opaque)
     }
 
-    /// A checker to which no octet has come, where OVER and XOVER are taken so, in each session. It takes no memory yet.
+    /// A checker to which no octet has come, where overviews are taken so, in each session. It takes no memory yet.
     pub fn taking(alloc: A, limit: Limit, marks: Marks, overviews: Overviews) -> Checker<A>
         ensures { StandsFor limit marks result (taken overviews []) [] }
     {
@@ -154,7 +154,7 @@ impl<A: Allocator + Copy> Checker<A> {
     }
 
     /// Ends the session, and begins a further one of the same spool, of which no octet has come: the octets that
-    /// follow are its, and OVER and XOVER are taken as in the one that ends. What the exchanges that passed say of the
+    /// follow are its, and overviews are taken as in the one that ends. What the exchanges that passed say of the
     /// spool goes on to it, and nothing else. Where octets of the ended session are left that answer nothing, that is
     /// decided then, and so is all that follows.
     ///
@@ -298,7 +298,7 @@ fn without_session(bad: Option<(u64, u64, Class)>) -> Option<(u64, Class)>
 }
 
 impl<A: Allocator + Copy> Ongoing<A> {
-    /// Nothing has come, and OVER and XOVER are taken so.
+    /// Nothing has come, and overviews are taken so.
     fn taking(alloc: A, limit: Limit, marks: Marks, overviews: Overviews) -> Ongoing<A>
         ensures stands { StandsForAll limit marks (going_on result) [] (unrecorded overviews) }
         ensures sound { IsSound (going_on result) }

@@ -26,7 +26,7 @@ use std::alloc::{AllocError, Allocator};
 /// Judges the octets that a client and a server sent (RFC 3977, sections 3 to 7): whether some spool explains all
 /// answers, and if none does, which answer is the first that no spool explains together with those before it. The
 /// spools are those whose article numbers are within the limit, and the water marks of a 211 (RFC 3977, section 6.1.1)
-/// are read as `marks` tells. OVER and XOVER are opaque: a session of [`check_sessions`] says how they are taken in it.
+/// are read as `marks` tells. Overviews are opaque: a session of [`check_sessions`] says how they are taken in it.
 ///
 /// # Errors
 ///

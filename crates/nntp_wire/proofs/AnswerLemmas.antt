@@ -3,9 +3,9 @@ use Rattle.std.proofs.Common.{◌≡◌, ◌⊎◌, ℕ, List, refl, sym, ◌∙
 use Rattle.std.proofs.lemmas.{List.{append_cancel_right}, Bool.Decides.{nat_tests}}
 use Rattle.nntp_wire.specs.{Number.{number_value}, declared.{answer.Answer.{Answer}, kind.Kind.{Kind}, water_marks.WaterMarks.{WaterMarks}}, Lines.{HasNoCrlf}}
 use Rattle.nntp_wire.specs.{Block.{sent, dot_line}, Argument.{HasArticle, HasGroup}, Answer.{Asked, Response, numbers_are, sends, SaysGroup, SaysNumbers}}
-use Rattle.nntp_wire.specs.Answer.{SaysArticle, SaysByLines, SaysActive, SaysOverviews, SaysCapabilities, SaysCode, Says, Spells, has_code, status_of, kind_of}
-use Rattle.nntp_wire.specs.{Answer.{is_block_due, block_octets, IsCleanBlock}, Inner.AnswerView.{Answers, Reads, IsBlock, SendsBlock}, Frame.{frame_octets}}
-use Rattle.nntp_wire.{specs.Frame.{framed, IsBeforeDotLine}, proofs.{SpellLemmas.{clean-line, status-clean, status-code}, FrameLemmas.{one_line}}}
+use Rattle.nntp_wire.specs.Answer.{SaysArticle, SaysByLines, SaysActive, SaysOverviews, SaysIds, SaysCapabilities, SaysCode, Says, Spells, has_code, status_of}
+use Rattle.nntp_wire.specs.{Answer.{kind_of, is_block_due, block_octets, IsCleanBlock}, Inner.AnswerView.{Answers, Reads, IsBlock, SendsBlock}}
+use Rattle.nntp_wire.{specs.Frame.{frame_octets, framed, IsBeforeDotLine}, proofs.{SpellLemmas.{clean-line, status-clean, status-code}, FrameLemmas.{one_line}}}
 use Rattle.nntp_wire.proofs.ResponseLemmas.{one-sent}
 
 -- no group, no response
@@ -59,10 +59,10 @@ spells-reads asked line sent r is_line up s =
     let both = one_line line s.line (framed sent) (block_octets s.block) is_line (clean-line s.line (status-clean asked s.line s.code s.status)) s.whole in
     grind (arith, block-sends)
 
--- octets and a block say a response in one of seven ways
+-- octets and a block say a response in one of eight ways
 pub says-ways : (kind : Kind) (code : ℕ) (bytes : List ℕ) (block : Option (List (List ℕ))) (r : Response) → Says kind code bytes block r
     → SaysGroup bytes r ⊎ (SaysByLines (SaysNumbers bytes) block r
     ⊎ (SaysArticle code bytes block r ⊎ (SaysByLines SaysActive block r
-    ⊎ (SaysByLines SaysOverviews block r
-    ⊎ (SaysByLines (SaysCapabilities code) block r ⊎ SaysCode code r)))))
+    ⊎ (SaysByLines SaysOverviews block r ⊎ (SaysByLines SaysIds block r
+    ⊎ (SaysByLines (SaysCapabilities code) block r ⊎ SaysCode code r))))))
 says-ways kind code bytes block r s = grind arith

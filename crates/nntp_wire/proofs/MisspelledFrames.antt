@@ -1,18 +1,20 @@
 -- A frame spells nothing exactly if there is a reason why.
 use Rattle.std.proofs.Common.{arith, ◌≡◌, ℕ, ◌+◌, ◌↔◌, ◌&&◌, Bool, true, false, List, [], ◌∷◌, length, map, drop, Option, None, Some, refl, sym, ap, ◌∙◌, cond}
-use Rattle.std.{proofs.lemmas.{List.{append-nil}, Bool.{and_from, and_parts, eqb-true, false≢true, true≢false}}, specs.Prelude.{is_none, is_some, option_map}}
-use Rattle.std.specs.{Prelude.{⊤}, List.{AllByRecursion}}
-use Rattle.nntp_wire.specs.{Octets.{is_clean}, Lines.{HasNoCrlf, ended, lines_of_stream}, Block.{stuffed, unstuffed, AreClean}, Listing.{are_listed_numbers}}
-use Rattle.nntp_wire.specs.{Listing.{are_active_lines, begins_with_versions, overview_of, are_overview_lines}, Answer.{overviews_are, Asked, Response}}
-use Rattle.nntp_wire.specs.Answer.{group_is, numbers_are, sends, active_are, plain, Says, Spells, code_of, is_fitting, status_of, kind_of, is_block_due}
-use Rattle.nntp_wire.specs.{Inner.{AnswerView.{SendsBlock, IsBlock, Reads}, Frame.{FrameParts, IsFrame}}, Frame.{IsBlockLine, IsBeforeDotLine, frame_octets}}
+use Rattle.std.proofs.{Common.{subst}, lemmas.{List.{append-nil, Splits.{join_with_byte-slice_split}}, Bool.{and_from, and_parts, eqb-true, false≢true}}}
+use Rattle.std.{proofs.lemmas.Bool.{true≢false}, specs.{Prelude.{is_none, is_some, option_map, ⊤}, List.{AllByRecursion, join_with_byte}}}
+use Rattle.nntp_wire.specs.{Octets.{is_clean, tab}, Lines.{HasNoCrlf, ended, lines_of_stream}, Block.{stuffed, unstuffed, AreClean}}
+use Rattle.nntp_wire.specs.Listing.{are_listed_numbers, are_active_lines, begins_with_versions, overview_of, are_overview_lines, listed_id_of, are_listed_ids}
+use Rattle.nntp_wire.specs.{Listing.{fields_of, number_of_words, listed_id_of_words, listed_id_of_fields}, Answer.{overviews_are, Asked, Response, group_is}}
+use Rattle.nntp_wire.specs.Answer.{numbers_are, sends, active_are, plain, Says, Spells, code_of, is_fitting, status_of, kind_of, is_block_due}
+use Rattle.nntp_wire.specs.{Words.{words_of}, declared.{misspelling.LineFault.TheVariants.{NoListedNumber, NoListedId}, kind.Kind.{Kind, TheVariants.{Group}}}}
+use Rattle.nntp_wire.specs.{declared.kind.Kind.TheVariants.{Numbers, Sent, Active, Overview, Ids, Capabilities, Plain}, Inner.AnswerView.{SendsBlock, IsBlock}}
+use Rattle.nntp_wire.specs.{Inner.{AnswerView.{Reads}, Frame.{FrameParts, IsFrame}}, Frame.{IsBlockLine, IsBeforeDotLine, frame_octets}}
 use Rattle.nntp_wire.specs.Misspelling.{arguments_of, dues, has_no_single_dot, listing_fault, kind_behind, line_misspelling, lines_misspelling}
-use Rattle.nntp_wire.specs.{Misspelling.{block_misspelling, misspelling_behind, code_misspelling, misspelling}, declared.kind.Kind.{Kind, TheVariants.{Group}}}
-use Rattle.nntp_wire.{specs.declared.kind.Kind.TheVariants.{Numbers, Sent, Active, Overview, Capabilities, Plain}, proofs.Reasons.{none_unless, none_two}}
+use Rattle.nntp_wire.{specs.Misspelling.{block_misspelling, misspelling_behind, code_misspelling, misspelling}, proofs.Reasons.{none_unless, none_two}}
 use Rattle.nntp_wire.proofs.{Reasons.{none_three, none_by_test, and_true}, DueArguments.{are_arguments, none_arguments, group_taken, group_put, article_taken}}
 use Rattle.nntp_wire.proofs.{DueArguments.{article_put}, BlockLemmas.{stuffed-clean, unstuffed-clean, unstuffed-stuffed}, SpellLemmas.{sent-lines, status-code}}
 use Rattle.nntp_wire.proofs.{FrameLemmas.{line-nil}, StreamLemmas.{split-lines}, AnswerLemmas.{reads-spells, spells-reads}, SaysDecided.{group_said}}
-use Rattle.nntp_wire.proofs.SaysDecided.{overviews_said}
+use Rattle.nntp_wire.proofs.SaysDecided.{overviews_said, ids_said}
 
 -- ---- lines
 
@@ -58,11 +60,30 @@ right_sent kind (line ∷ lines) clean h = grind (arith, and_parts, and_from, st
 overview_parts : (line : List ℕ) → is_none (listing_fault Overview line) ≡ is_some (overview_of line)
 overview_parts line = search (arith, none_two, none_unless)
 
+-- and one of HDR exactly if it begins with a number and is a number and an id
+listed_id_parts : (line : List ℕ) → is_none (listing_fault Ids line) ≡ is_some (listed_id_of line)
+listed_id_parts line = none_two _ _ _ _ (none_unless (is_some (number_of_words (words_of line))) NoListedNumber) (none_unless (is_some (listed_id_of line)) NoListedId)
+    ∙ both_true _ _ (by (fields_of line) refl)
+  where
+    both_true : (p q : Bool) → (q ≡ true → p ≡ true) → (p && q) ≡ q
+    both_true p q f = grind arith
+
+    numbered : (words : List (List ℕ)) → is_some (listed_id_of_words words) ≡ true → is_some (number_of_words words) ≡ true
+    numbered words h = grind arith
+
+    by : (fields : List (List ℕ)) → fields_of line ≡ fields → is_some (listed_id_of_fields fields) ≡ true → is_some (number_of_words (words_of line)) ≡ true
+    by [] e h = absurd (false≢true h)
+    by (field ∷ []) e h =
+        let same : field ≡ line = sym (ap (join_with_byte tab) e) ∙ join_with_byte-slice_split tab line in
+        subst (λ line. is_some (number_of_words (words_of line)) ≡ true) same (numbered (words_of field) h)
+    by (field ∷ next ∷ fields) e h = absurd (false≢true h)
+
 -- what the lines of a response of this kind have to list
 abbrev listing : Kind → List (List ℕ) → Bool
 listing Numbers lines = are_listed_numbers lines
 listing Active lines = are_active_lines lines
 listing Overview lines = are_overview_lines lines
+listing Ids lines = are_listed_ids lines
 listing Capabilities lines = begins_with_versions lines
 listing kind lines = true
 
@@ -84,6 +105,8 @@ listing-listed Active [] = refl
 listing-listed Active (line ∷ lines) = grind (arith, none_unless, listing-listed Active lines)
 listing-listed Overview [] = refl
 listing-listed Overview (line ∷ lines) = grind (arith, overview_parts, listing-listed Overview lines)
+listing-listed Ids [] = refl
+listing-listed Ids (line ∷ lines) = grind (arith, listed_id_parts, listing-listed Ids lines)
 listing-listed kind lines = grind (arith, none_unless, any_lines, and_true)
 
 -- ---- blocks
@@ -139,6 +162,7 @@ abbrev is_listing : Kind → Bool
 is_listing Numbers = true
 is_listing Active = true
 is_listing Overview = true
+is_listing Ids = true
 is_listing Capabilities = true
 is_listing kind = false
 
@@ -152,6 +176,8 @@ says_of Active code bytes None some args right = absurd (false≢true (some refl
 says_of Active code bytes (Some lines) some args right = (active_are lines, (right, refl))
 says_of Overview code bytes None some args right = absurd (false≢true (some refl))
 says_of Overview code bytes (Some lines) some args right = (overviews_are lines, (right, refl))
+says_of Ids code bytes None some args right = absurd (false≢true (some refl))
+says_of Ids code bytes (Some lines) some args right = (overviews_are lines, (right, refl))
 says_of Capabilities code bytes None some args right = absurd (false≢true (some refl))
 says_of Capabilities code bytes (Some lines) some args right = (plain code, (right, refl))
 says_of Plain code bytes block some args right = (plain code, refl)

@@ -2,14 +2,14 @@
 use Rattle.std.proofs.Common.{◌≡◌, ℕ, suc, ◌+◌, Bool, true, false, not, List, [], ◌∷◌, length, drop, Option, None, Some, MatchOption, refl, sym, ap, subst}
 use Rattle.std.{proofs.{Common.{arith}, lemmas.Option.{IfSome_then}}, specs.Prelude.{slice_get, is_some, option_map, IfSome}}
 use Rattle.nntp_wire.specs.{Octets.{is_clean}, Lines.{lines_of_stream}, Words.{words_of}, Block.{unstuffed}, Listing.{listed_number_of, active_of}}
-use Rattle.nntp_wire.specs.{Listing.{number_in_front, id_in_place, gives_versions}, Answer.{Asked, code_of, is_fitting, kind_of, is_block_due}, Reason.{unless}}
-use Rattle.nntp_wire.specs.Misspelling.{arguments_of, dues, is_argument, argument_misspelling, listing_fault, line_fault, kind_behind, line_misspelling}
-use Rattle.nntp_wire.specs.Misspelling.{lines_misspelling, block_misspelling, misspelling_behind, code_misspelling, misspelling}
-use Rattle.nntp_wire.specs.{Inner.Misspelling.{IsWrongArgument, has_fault, IsWrongLine}, declared.kind.Kind.{Kind, TheVariants.{Group, Numbers, Sent, Active}}}
-use Rattle.nntp_wire.specs.declared.{kind.Kind.TheVariants.{Overview, Capabilities, Plain}, misspelling.Misspelling.{Misspelling, TheVariants.{WrongOctet}}}
-use Rattle.nntp_wire.specs.declared.misspelling.{Misspelling.TheVariants.{TooLong, NoCode, WrongArgument, WrongLine, WrongBlock}, Due.{Due}}
-use Rattle.nntp_wire.specs.declared.misspelling.LineFault.{LineFault, TheVariants.{NoNumber, NoGroup, NoArticleNumber, NoMessageId, NoVersions}}
-use Rattle.nntp_wire.proofs.Reasons.{so_unless, so_first}
+use Rattle.nntp_wire.specs.{Listing.{number_in_front, id_in_place, number_of_words, listed_id_of, gives_versions}, Answer.{Asked, code_of, is_fitting, kind_of}}
+use Rattle.nntp_wire.specs.{Answer.{is_block_due}, Reason.{unless}, Misspelling.{arguments_of, dues, is_argument, argument_misspelling, listing_fault}}
+use Rattle.nntp_wire.specs.Misspelling.{line_fault, kind_behind, line_misspelling, lines_misspelling, block_misspelling, misspelling_behind, code_misspelling}
+use Rattle.nntp_wire.specs.{Misspelling.{misspelling}, Inner.Misspelling.{IsWrongArgument, has_fault, IsWrongLine}, declared.kind.Kind.{Kind}}
+use Rattle.nntp_wire.specs.declared.kind.Kind.TheVariants.{Group, Numbers, Sent, Active, Overview, Ids, Capabilities, Plain}
+use Rattle.nntp_wire.specs.declared.misspelling.Misspelling.{Misspelling, TheVariants.{WrongOctet, TooLong, NoCode, WrongArgument, WrongLine, WrongBlock}}
+use Rattle.nntp_wire.specs.declared.misspelling.{Due.{Due}, LineFault.{LineFault, TheVariants.{NoNumber, NoGroup, NoArticleNumber, NoMessageId}}}
+use Rattle.nntp_wire.{specs.declared.misspelling.LineFault.TheVariants.{NoListedNumber, NoListedId, NoVersions}, proofs.Reasons.{so_unless, so_first}}
 
 -- ---- arguments
 
@@ -56,6 +56,13 @@ so_listing Overview line =
     so_first Q (unless (is_some (number_in_front (unstuffed line))) NoArticleNumber) (unless (is_some (id_in_place (unstuffed line))) NoMessageId ∷ [])
     (so_unless Q (is_some (number_in_front (unstuffed line))) NoArticleNumber (ap not))
     (so_first Q (unless (is_some (id_in_place (unstuffed line))) NoMessageId) [] (so_unless Q (is_some (id_in_place (unstuffed line))) NoMessageId (ap not)) tt)
+  where
+    Q : LineFault → Type 0
+    Q fault = has_fault fault line ≡ true
+so_listing Ids line =
+    so_first Q (unless (is_some (number_of_words (words_of (unstuffed line)))) NoListedNumber) (unless (is_some (listed_id_of (unstuffed line))) NoListedId ∷ [])
+    (so_unless Q (is_some (number_of_words (words_of (unstuffed line)))) NoListedNumber (ap not))
+    (so_first Q (unless (is_some (listed_id_of (unstuffed line))) NoListedId) [] (so_unless Q (is_some (listed_id_of (unstuffed line))) NoListedId (ap not)) tt)
   where
     Q : LineFault → Type 0
     Q fault = has_fault fault line ≡ true
@@ -121,6 +128,7 @@ so_all Numbers lines = IfSome_then (line_misspelling Numbers 1 lines) (so_lines 
 so_all Sent lines = IfSome_then (line_misspelling Sent 1 lines) (so_lines Sent 1 lines) (line_told lines)
 so_all Active lines = IfSome_then (line_misspelling Active 1 lines) (so_lines Active 1 lines) (line_told lines)
 so_all Overview lines = IfSome_then (line_misspelling Overview 1 lines) (so_lines Overview 1 lines) (line_told lines)
+so_all Ids lines = IfSome_then (line_misspelling Ids 1 lines) (so_lines Ids 1 lines) (line_told lines)
 so_all Plain lines = IfSome_then (line_misspelling Plain 1 lines) (so_lines Plain 1 lines) (line_told lines)
 
 so_block : (asked : Asked) (line : List ℕ) (code : ℕ) (is : code_of line ≡ Some code) (is_due : Bool) → is_due ≡ is_block_due asked code → (bytes : Option (List ℕ))

@@ -3,11 +3,12 @@ use Rattle.std.proofs.Common.{arith, ◌≡◌, ℕ, true, ◌==◌, not, IsTrue
 use Rattle.std.{proofs.lemmas.Bool.{and_from, cases_Bool, cases_eq, true≢false}, specs.List.{list_all}}
 use Rattle.nntp_wire.specs.{Octets.{space}, Number.{is_number, number_value}, Name.{IsMessageId, IsGroupName}, Argument.{no_space, is_comment}}
 use Rattle.nntp_wire.specs.{Argument.{BeginsWithArgument, BeginsWithNumber, HasArticle, HasGroup}, Listing.{are_listed_numbers, are_active_lines}}
-use Rattle.nntp_wire.specs.{Listing.{are_overview_lines, begins_with_versions}, declared.{water_marks.WaterMarks.{WaterMarks}, kind.Kind.{Kind}}}
-use Rattle.nntp_wire.specs.{declared.kind.Kind.TheVariants.{Group, Numbers, Sent, Active, Overview, Capabilities, Plain}, Answer.{Response, group_is}}
-use Rattle.nntp_wire.specs.Answer.{numbers_are, sends, active_are, plain, Says, SaysGroup, SaysNumbers, SaysArticle, SaysActive, SaysOverviews, overviews_are}
-use Rattle.nntp_wire.{specs.Decided.{is_message_id, is_group_name}, proofs.ArgumentLemmas.{one-argument, no-second, no-id, no-low, no-high, no-fourth, no-name}}
-use Rattle.nntp_wire.proofs.{Decide.{Dec, dec_true, dec_both, dec_by}, DecidedLemmas.{message_id-iff, group_name-iff}}
+use Rattle.nntp_wire.specs.{Listing.{are_overview_lines, are_listed_ids, begins_with_versions}, declared.water_marks.WaterMarks.{WaterMarks}}
+use Rattle.nntp_wire.specs.{declared.kind.Kind.{Kind, TheVariants.{Group, Numbers, Sent, Active, Overview, Ids, Capabilities, Plain}}, Answer.{Response}}
+use Rattle.nntp_wire.specs.Answer.{group_is, numbers_are, sends, active_are, plain, Says, SaysGroup, SaysNumbers, SaysArticle, SaysActive, SaysOverviews}
+use Rattle.nntp_wire.{specs.{Answer.{SaysIds, overviews_are}, Decided.{is_message_id, is_group_name}}, proofs.ArgumentLemmas.{one-argument, no-second, no-id}}
+use Rattle.nntp_wire.proofs.{ArgumentLemmas.{no-low, no-high, no-fourth, no-name}, Decide.{Dec, dec_true, dec_both, dec_by}, DecidedLemmas.{message_id-iff}}
+use Rattle.nntp_wire.proofs.DecidedLemmas.{group_name-iff}
 
 dec_id : (id : List ℕ) → Dec (IsMessageId id)
 dec_id id = dec_by (message_id-iff id).0 (message_id-iff id).1 (dec_true (is_message_id id))
@@ -111,6 +112,9 @@ active_said lines r says = grind arith
 pub overviews_said : (lines : List (List ℕ)) (r : Response) → SaysOverviews lines r → IsTrue (are_overview_lines lines)
 overviews_said lines r says = grind arith
 
+pub ids_said : (lines : List (List ℕ)) (r : Response) → SaysIds lines r → IsTrue (are_listed_ids lines)
+ids_said lines r says = grind arith
+
 -- whether a response is said
 pub dec_says : (kind : Kind) (code : ℕ) (bytes : List ℕ) (block : Option (List (List ℕ))) → Dec ((r : Response) × Says kind code bytes block r)
 dec_says Group code bytes block =
@@ -125,6 +129,8 @@ dec_says Active code bytes None = inr (λ h. h.1)
 dec_says Active code bytes (Some lines) = dec_by (λ are. (active_are lines, (are, refl))) (λ h. active_said lines h.0 h.1) (dec_true (are_active_lines lines))
 dec_says Overview code bytes None = inr (λ h. h.1)
 dec_says Overview code bytes (Some lines) = dec_by (λ are. (overviews_are lines, (are, refl))) (λ h. overviews_said lines h.0 h.1) (dec_true (are_overview_lines lines))
+dec_says Ids code bytes None = inr (λ h. h.1)
+dec_says Ids code bytes (Some lines) = dec_by (λ are. (overviews_are lines, (are, refl))) (λ h. ids_said lines h.0 h.1) (dec_true (are_listed_ids lines))
 dec_says Capabilities code bytes None = inr (λ h. h.1)
 dec_says Capabilities code bytes (Some lines) = dec_by (λ t. (plain code, (t, refl))) (λ h. h.1.0) (dec_true (begins_with_versions lines))
 dec_says Plain code bytes block = inl (plain code, refl)

@@ -2,10 +2,11 @@
 use Rattle.std.specs.Prelude.{ℕ, ◌≡◌, Bool, true, ◌&&◌, ◌||◌, ◌==◌, nat_le, if◌then◌else◌, List, [], ◌∷◌, ◌++◌, length, take, drop, slice_index, Option, None}
 use Rattle.std.specs.{Prelude.{Some, is_some, IsTrue, ⊤}, List.{list_all, list_any}, Char.{is_ascii_digit}, Int.{is_in_range}}
 use Rattle.nntp_wire.specs.{Octets.{crlf, is_clean}, Number.{number_value}, Argument.{is_comment, HasArticle, HasGroup}, Listing.{are_listed_numbers}}
-use Rattle.nntp_wire.specs.{Listing.{are_active_lines, are_overview_lines, begins_with_versions}, Block.{sent, dot_line, AreClean}, Command.{Request}}
-use Rattle.nntp_wire.specs.{Command.{capabilities, next, last, opaque, group, list_group, retrieve, list_active, over}, declared.command.What.{What}}
-use Rattle.nntp_wire.specs.declared.{command.What.TheVariants.{Article, Head, Body, Stat}, water_marks.WaterMarks.{WaterMarks}, kind.Kind.{Kind}}
-use Rattle.nntp_wire.specs.declared.kind.Kind.TheVariants.{Group, Numbers, Sent, Active, Overview, Capabilities, Plain}
+use Rattle.nntp_wire.specs.{Listing.{are_active_lines, are_overview_lines, are_listed_ids, begins_with_versions}, Block.{sent, dot_line, AreClean}}
+use Rattle.nntp_wire.specs.{Command.{Request, capabilities, next, last, opaque, group, list_group, retrieve, list_active, over}, declared.command.What.{What}}
+use Rattle.nntp_wire.specs.declared.command.{What.TheVariants.{Article, Head, Body, Stat}, OverviewKeyword.{OverviewKeyword, TheVariants.{Over, Xover, Hdr}}}
+use Rattle.nntp_wire.specs.declared.{command.OverviewKeyword.TheVariants.{Xhdr}, water_marks.WaterMarks.{WaterMarks}, kind.Kind.{Kind, TheVariants.{Group}}}
+use Rattle.nntp_wire.specs.declared.kind.Kind.TheVariants.{Numbers, Sent, Active, Overview, Ids, Capabilities, Plain}
 
 -- what a response answers
 pub data Asked : Type 0 where
@@ -62,6 +63,20 @@ success_code Head = 221
 success_code Body = 222
 success_code Stat = 223
 
+-- the code by which OVER, XOVER, HDR and XHDR succeed (sections 8.3 and 8.5; RFC 2980, sections 2.6 and 2.8)
+abbrev pub overview_code : OverviewKeyword → ℕ
+overview_code Over = 224
+overview_code Xover = 224
+overview_code Hdr = 225
+overview_code Xhdr = 221
+
+-- what they list
+abbrev pub overview_kind : OverviewKeyword → Kind
+overview_kind Over = Overview
+overview_kind Xover = Overview
+overview_kind Hdr = Ids
+overview_kind Xhdr = Ids
+
 -- which response a code stands for under a prompt
 abbrev pub kind_of : Asked → ℕ → Kind
 kind_of (to (group name)) code = if code == 211 then Group else Plain
@@ -70,7 +85,7 @@ kind_of (to (retrieve what target)) code = if code == success_code what then Sen
 kind_of (to next) code = if code == 223 then Sent else Plain
 kind_of (to last) code = if code == 223 then Sent else Plain
 kind_of (to (list_active wildmat)) code = if code == 215 then Active else Plain
-kind_of (to (over keyword which)) code = if code == 224 then Overview else Plain
+kind_of (to (over keyword which)) code = if code == overview_code keyword then overview_kind keyword else Plain
 kind_of (to capabilities) code = if code == 101 then Capabilities else Plain
 kind_of asked code = Plain
 
@@ -99,6 +114,11 @@ abbrev pub SaysOverviews : List (List ℕ) → Response → Type 0
 SaysOverviews lines (overviews_are listed) = IsTrue (are_overview_lines lines) × (listed ≡ lines)
 SaysOverviews lines response = ⊥
 
+-- the lines are numbers with ids (section 8.5)
+abbrev pub SaysIds : List (List ℕ) → Response → Type 0
+SaysIds lines (overviews_are listed) = IsTrue (are_listed_ids lines) × (listed ≡ lines)
+SaysIds lines response = ⊥
+
 -- the response says no more than the code
 abbrev pub SaysCode : ℕ → Response → Type 0
 SaysCode code (plain c) = c ≡ code
@@ -120,6 +140,7 @@ Says Numbers code bytes block response = SaysByLines (SaysNumbers bytes) block r
 Says Sent code bytes block response = SaysArticle code bytes block response
 Says Active code bytes block response = SaysByLines SaysActive block response
 Says Overview code bytes block response = SaysByLines SaysOverviews block response
+Says Ids code bytes block response = SaysByLines SaysIds block response
 Says Capabilities code bytes block response = SaysByLines (SaysCapabilities code) block response
 Says Plain code bytes block response = SaysCode code response
 

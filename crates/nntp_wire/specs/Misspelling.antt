@@ -3,11 +3,12 @@ use Rattle.std.specs.Prelude.{ℕ, ◌+◌, Bool, true, false, not, ◌||◌, �
 use Rattle.std.specs.List.{slice_split}
 use Rattle.nntp_wire.specs.{Octets.{space, dot, is_clean}, Lines.{lines_of_stream}, Words.{words_of}, Number.{is_number}, Decided.{is_message_id}}
 use Rattle.nntp_wire.specs.{Decided.{is_group_name}, Block.{unstuffed}, Listing.{listed_number_of, active_of, number_in_front, id_in_place, gives_versions}}
-use Rattle.nntp_wire.specs.{Answer.{Asked, code_of, is_fitting, is_block_due, kind_of}, Reason.{unless, first}, declared.kind.Kind.{Kind, TheVariants.{Group}}}
-use Rattle.nntp_wire.specs.declared.{kind.Kind.TheVariants.{Numbers, Sent, Active, Overview, Capabilities, Plain}, misspelling.Misspelling.{Misspelling}}
-use Rattle.nntp_wire.specs.declared.misspelling.{Misspelling.TheVariants.{WrongOctet, TooLong, NoCode, WrongArgument, WrongLine, WrongBlock}, Due.{Due}}
-use Rattle.nntp_wire.specs.declared.misspelling.{Due.TheVariants.{Number, GroupName, MessageId}, LineFault.{LineFault, TheVariants.{BadOctet, SingleDot}}}
-use Rattle.nntp_wire.specs.declared.misspelling.LineFault.TheVariants.{NoNumber, NoGroup, NoArticleNumber, NoMessageId, NoVersions}
+use Rattle.nntp_wire.specs.{Listing.{number_of_words, listed_id_of}, Answer.{Asked, code_of, is_fitting, is_block_due, kind_of}, Reason.{unless, first}}
+use Rattle.nntp_wire.specs.declared.kind.Kind.{Kind, TheVariants.{Group, Numbers, Sent, Active, Overview, Ids, Capabilities, Plain}}
+use Rattle.nntp_wire.specs.declared.misspelling.Misspelling.{Misspelling, TheVariants.{WrongOctet, TooLong, NoCode, WrongArgument, WrongLine, WrongBlock}}
+use Rattle.nntp_wire.specs.declared.misspelling.{Due.{Due, TheVariants.{Number, GroupName, MessageId}}, LineFault.{LineFault, TheVariants.{BadOctet}}}
+use Rattle.nntp_wire.specs.declared.misspelling.LineFault.TheVariants.{SingleDot, NoNumber, NoGroup, NoArticleNumber, NoMessageId, NoListedNumber, NoListedId}
+use Rattle.nntp_wire.specs.declared.misspelling.LineFault.TheVariants.{NoVersions}
 
 -- ---- arguments (section 3.2)
 
@@ -53,6 +54,8 @@ abbrev pub listing_fault : Kind → List ℕ → Option LineFault
 listing_fault Numbers line = unless (is_some (listed_number_of line)) NoNumber
 listing_fault Active line = unless (is_some (active_of line)) NoGroup
 listing_fault Overview line = first (unless (is_some (number_in_front line)) NoArticleNumber ∷ unless (is_some (id_in_place line)) NoMessageId ∷ [])
+listing_fault Ids line =
+    first (unless (is_some (number_of_words (words_of line))) NoListedNumber ∷ unless (is_some (listed_id_of line)) NoListedId ∷ [])
 listing_fault Capabilities line = unless (gives_versions (words_of line)) NoVersions
 listing_fault kind line = None
 

@@ -3,7 +3,7 @@ use Rattle.std.specs.Prelude.{◌≡◌, ℕ, Bool, false, ◌||◌, ◌==◌, L
 use Rattle.nntp_wire.specs.{Lines.{lines_of_stream}, Command.{request_as, mode_reader, quit}, Answer.{Asked, greeting, to, Response, plain, Spells}}
 use Rattle.nntp_wire.specs.declared.overviews.Overviews.{Overviews}
 
--- what a client sends, and how OVER and XOVER in it are taken
+-- what a client sends, and how overviews in it are taken
 pub record ClientStream : Type 0 where
   pub octets : List ℕ
   pub overviews : Overviews

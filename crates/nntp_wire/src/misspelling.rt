@@ -16,7 +16,9 @@ use crate::laws::{group_names_are_decided, message_ids_are_decided};
 use crate::line::{has_clean_octets, number, words};
 use crate::listed_numbers::listed_number;
 use crate::message_id::MessageId;
-use crate::overview_lines::{has_id_in_place, has_number_in_front};
+use crate::overview_lines::{
+    begins_with_number, has_id_in_place, has_number_in_front, is_listed_id,
+};
 use crate::response::Frame;
 use crate::status::{is_block_due, is_fitting};
 use crate::stream::split_first_line;
@@ -82,6 +84,10 @@ pub enum LineFault {
     NoArticleNumber,
     /// The fifth field of an overview isn't one message-id, or there is none (RFC 3977, section 8.3).
     NoMessageId,
+    /// The first word of a line of HDR or XHDR isn't a number (RFC 3977, section 8.5).
+    NoListedNumber,
+    /// A line of HDR or XHDR isn't a number and a message-id (RFC 3977, section 8.5).
+    NoListedId,
     /// The line doesn't give versions, as the first capability has to (RFC 3977, section 5.2).
     NoVersions,
 }
@@ -231,6 +237,8 @@ fn listing_fault(kind: Kind, line: &[u8]) -> Option<LineFault>
         Kind::Active if !is_active_line(line) => Some(LineFault::NoGroup),
         Kind::Overview if !has_number_in_front(line) => Some(LineFault::NoArticleNumber),
         Kind::Overview if !has_id_in_place(line) => Some(LineFault::NoMessageId),
+        Kind::Ids if !begins_with_number(line) => Some(LineFault::NoListedNumber),
+        Kind::Ids if !is_listed_id(line) => Some(LineFault::NoListedId),
         Kind::Capabilities if !gives_versions(words(line)) => Some(LineFault::NoVersions),
         _ => None,
     }

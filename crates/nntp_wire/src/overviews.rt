@@ -1,6 +1,7 @@
-//! The two ways to take OVER and XOVER.
+//! The two ways to take the commands that ask for overviews.
 
-/// The way in which OVER and XOVER, and what answers them, are taken (RFC 3977, section 8.3; RFC 2980, section 2.8).
+/// The way in which the commands that ask for overviews are taken, with what answers them: OVER and XOVER, and HDR and XHDR
+/// of Message-ID with a range (RFC 3977, sections 8.3 and 8.5; RFC 2980, sections 2.6 and 2.8).
 #[derive(Clone, Copy, Debug, PartialEq, Eq)]
 pub enum Overviews {
     /// They are opaque: their responses are framed, and nothing is concluded from them.

@@ -27,6 +27,13 @@ impl<'a> Words<'a> {
     {
         Words { rest: line }
     }
+
+    /// Returns the same words once more.
+    pub fn copy(&self) -> Words<'a>
+        ensures { result ≡ self.now }
+    {
+        Words { rest: self.rest }
+    }
 }
 
 impl<'a> Iterator for Words<'a> {

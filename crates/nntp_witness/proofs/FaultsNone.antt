@@ -2,10 +2,10 @@
 use Rattle.std.proofs.Common.{arith, ◌≡◌, ℕ, true, false, List, [], ◌∷◌, Option, None, Some, is_some, refl, sym, ap, subst, ◌∙◌, ap₂}
 use Rattle.std.{proofs.lemmas.{Bool.{true≢false, false_from_ne_true, or_left, or_right}, Slice.Eq.{bytes_eq-Decides}}, specs.Prelude.{unwrap_or, option_map}}
 use Rattle.std.specs.{Prelude.{IsFalse, bytes_eq}, List.{list_all}, Cmp.{nat_cmp_total}, FinMap.{get, entries, nat_cmp-IsAntisymmetric}}
-use Rattle.nntp_wire.specs.{Decided.{is_group_name, is_message_id}, Limit.{greatest}, Listing.{OverviewValue}, declared.limit.Limit.{Limit}}
+use Rattle.nntp_wire.specs.{Decided.{is_group_name, is_message_id}, Limit.{greatest}, Listing.{OverviewValue, Fields}, declared.limit.Limit.{Limit}}
 use Rattle.nntp_wire.proofs.OptionLemmas.{some_is}
-use Rattle.nntp_article.specs.{Article.{Parts.{Id, Line}, Fields.{Fields, fields_of_head, plain_head, made_head}}, Session.Machine.{is_article_number}}
-use Rattle.nntp_article.specs.Session.Spool.{Spool, Name, Numbers, Text, IsGroup, IsSpool, numbers, is_line}
+use Rattle.nntp_article.specs.{Article.{Parts.{Id, Line}, Fields.{fields_of_head, plain_head, made_head}}, Session.{Machine.{is_article_number}, Spool.{Spool}}}
+use Rattle.nntp_article.specs.Session.Spool.{Name, Numbers, Text, IsGroup, IsSpool, numbers, is_line}
 use Rattle.nntp_said.specs.Facts.{Fact, FieldsAre, OverviewsAre}
 use Rattle.nntp_theory.specs.Given.{mentions, is_mentioned, has_overview_of, first_given, head_in, fields_of_overview, fields_in, body_in, IsGiven}
 use Rattle.nntp_theory.proofs.{Maps.{in_get}, Members.{found_in}, Given.GivenHolds.{group_of_number}}

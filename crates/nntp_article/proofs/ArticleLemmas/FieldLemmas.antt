@@ -2,9 +2,9 @@
 use Rattle.std.proofs.{Common.{◌≡◌, ℕ, ◌<◌, true, false, ◌&&◌, IsTrue, List, [], ◌∷◌, ◌++◌, length, refl, sym, ap, ◌∙◌, append-nil}, lemmas.Bool.{and_parts}}
 use Rattle.std.{proofs.lemmas.{Bool.{and_from, ltb-true}, List.Folds.{list_all-append}}, specs.{Prelude.{codes, not, slice_get}, Option.{option_map_or}}}
 use Rattle.std.specs.List.{list_all, flat_map, filter, AllByRecursion}
-use Rattle.nntp_wire.{specs.{Octets.{is_clean, space}, Words.{words_of, is_some_octets}}, proofs.WordLemmas.{words_of-blank}}
+use Rattle.nntp_wire.{specs.{Octets.{is_clean, space}, Words.{words_of, is_some_octets}, Listing.{Fields}}, proofs.WordLemmas.{words_of-blank}}
 use Rattle.nntp_article.specs.Article.Parts.{Line, is_continuation, continues_first, begins_header, is_header, headers, is_head, is_named, is_empty}
-use Rattle.nntp_article.specs.Article.Fields.{Word, Fields, words_of_header, words_named, fields_of_head, fields_among, field_line, field_lines}
+use Rattle.nntp_article.specs.Article.Fields.{Word, words_of_header, words_named, fields_of_head, fields_among, field_line, field_lines}
 use Rattle.nntp_article.specs.{Inner.Fields.{is_word, AreWords}, Session.Spool.{is_line}, declared.article.field.Field.TheVariants.{Subject, From, Date}}
 use Rattle.nntp_article.{specs.declared.article.field.Field.TheVariants.{References}, proofs.ArticleLemmas.HeadLemmas.{after, more-no, after-no, headers-cons}}
 use Rattle.nntp_article.proofs.ArticleLemmas.IdLemmas.{is_solid, words-solid, words-solid_then}

@@ -2,9 +2,9 @@
 use Rattle.std.proofs.Common.{◌≡◌, ℕ, true, List, [], ◌∷◌, ◌++◌, Option, Some, length, refl, sym, ◌∙◌, ap, arith, append_assoc, append-nil}
 use Rattle.std.{proofs.lemmas.{Bool.{and_parts, and_from}, List.Folds.{list_all-append}}, specs.{Prelude.{not, ◌&&◌, nat_le, codes, IfSome}, List.{list_all}}}
 use Rattle.std.specs.List.{flat_map}
-use Rattle.nntp_wire.specs.{Decided.{is_id_octet, begins_id}, Name.{IsMessageId}, Octets.{is_clean, is_line_breaking, space}}
+use Rattle.nntp_wire.specs.{Decided.{is_id_octet, begins_id}, Name.{IsMessageId}, Octets.{is_clean, is_line_breaking, space}, Listing.{Fields}}
 use Rattle.nntp_wire.proofs.DecidedLemmas.{message_id-iff}
-use Rattle.nntp_article.specs.{Article.Fields.{Word, Fields, name_of_field}, Inner.Fields.{is_word, AreWords}, Session.Spool.{is_line}}
+use Rattle.nntp_article.specs.{Article.Fields.{Word, name_of_field}, Inner.Fields.{is_word, AreWords}, Session.Spool.{is_line}}
 use Rattle.nntp_article.specs.declared.article.field.Field.{Field, TheVariants.{Subject, From, Date, References}}
 
 -- each word behind a space

@@ -3,10 +3,12 @@ use Rattle.std.proofs.Common.{◌≡◌, ℕ, zero, suc, ◌+◌, Bool, true, fa
 use Rattle.std.proofs.lemmas.{Bool.{and_parts, and_from, Decides.{nat_tests}}, List.{Folds.{list_all-append}, Splits.{slice_split-cons_yes}}}
 use Rattle.std.{proofs.lemmas.List.Splits.{slice_split-cons_no}, specs.{Prelude.{◌==◌, codes, IfSome}, List.{list_all, flat_map, filter, slice_split}}}
 use Rattle.std.specs.List.{onto_first, position_or_len, AllByRecursion, cons_option}
-use Rattle.nntp_wire.specs.{Octets.{is_blank, is_clean, tab}, Inner.Octets.{are_octets}, Block.{AreClean}, Words.{words_of, is_some_octets}}
+use Rattle.nntp_wire.specs.{Octets.{is_blank, is_clean, tab}, Inner.Octets.{are_octets}, Block.{AreClean}, Words.{words_of, is_some_octets}, Listing.{Fields}}
 use Rattle.nntp_wire.specs.Listing.{OverviewValue, overview_by, overview_of, overview_of_fields, overviews_of, first_words, fields_of, number_alone, id_alone}
+use Rattle.nntp_wire.specs.{Listing.{listed_id_of, listed_id_of_fields, listed_id_of_words, listed_overview_of, id_of}, Number.{number_of}}
+use Rattle.nntp_wire.proofs.ListingLemmas.{of_either}
 use Rattle.nntp_article.specs.Article.{Parts.{Line, Header, is_colon, with_line, headers, is_named}, Fields.{Word, words_in, words_of_header, words_named}}
-use Rattle.nntp_article.specs.{Article.Fields.{fields_told, fields_of_head}, Inner.Fields.{is_word, AreWords}, Session.Spool.{is_line}}
+use Rattle.nntp_article.specs.{Article.Fields.{fields_of_head}, Inner.Fields.{is_word, AreWords, TellsWords}, Session.Spool.{is_line}}
 use Rattle.nntp_article.{specs.declared.article.field.Field.{Field, TheVariants.{Subject, From, Date, References}}, proofs.ArticleLemmas.IdLemmas.{is_solid}}
 
 -- ---- the words of a line
@@ -106,23 +108,24 @@ head_has_words lines h References = named_words (codes "References") (headers li
 
 -- ---- those of an overview
 
-module _ (subject from date references : List Word) (s : list_all is_word subject ≡ true) (f : list_all is_word from ≡ true) (d : list_all is_word date ≡ true)
-    (r : list_all is_word references ≡ true) where
-  told_by : (number : Option ℕ) (id : Option (List ℕ)) → IfSome (overview_by subject from date references number id) (λ o. AreWords (fields_told o))
-  told_by (Some number) (Some id) = by where
-    by : (field : Field) → IsTrue (list_all is_word (words_in (record { subject = subject; from = from; date = date; references = references }) field))
-    by Subject = s
-    by From = f
-    by Date = d
-    by References = r
-  told_by (Some number) None = tt
-  told_by None id = tt
+-- the words of each of the four are words
+four_words : (fields : Fields) → list_all is_word fields.subject ≡ true → list_all is_word fields.from ≡ true → list_all is_word fields.date ≡ true
+    → list_all is_word fields.references ≡ true → AreWords fields
+four_words fields s f d r Subject = s
+four_words fields s f d r From = f
+four_words fields s f d r Date = d
+four_words fields s f d r References = r
+
+told_by : (told : Option Fields) (number : Option ℕ) (id : Option (List ℕ)) → IfSome told AreWords → IfSome (overview_by told number id) TellsWords
+told_by told (Some number) (Some id) are = are
+told_by told (Some number) None are = tt
+told_by told None id are = tt
 
 more_words : (fields : List Line) → list_all is_line fields ≡ true → list_all is_word (first_words fields) ≡ true
 more_words [] h = refl
 more_words (field ∷ fields) h = line_words field (and_parts (is_line field) _ h).0
 
-fields_words : (fields : List Line) → list_all is_line fields ≡ true → IfSome (overview_of_fields fields) (λ o. AreWords (fields_told o))
+fields_words : (fields : List Line) → list_all is_line fields ≡ true → IfSome (overview_of_fields fields) TellsWords
 fields_words [] h = tt
 fields_words (number ∷ []) h = tt
 fields_words (number ∷ subject ∷ []) h = tt
@@ -134,17 +137,31 @@ fields_words (number ∷ subject ∷ from ∷ date ∷ id ∷ more) h =
     let three = and_parts (is_line from) _ two.1 in
     let four = and_parts (is_line date) _ three.1 in
     let five = and_parts (is_line id) _ four.1 in
-    told_by (words_of subject) (words_of from) (words_of date) (first_words more) (line_words subject two.0) (line_words from three.0) (line_words date four.0)
-    (more_words more five.1) (number_alone (words_of number)) (id_alone (words_of id))
+    told_by _ (number_alone (words_of number)) (id_alone (words_of id))
+    (four_words _ (line_words subject two.0) (line_words from three.0) (line_words date four.0) (more_words more five.1))
+
+-- a number and an id tell nothing
+untold_words : (words : List Word) → IfSome (listed_id_of_words words) TellsWords
+untold_words [] = tt
+untold_words (number ∷ []) = tt
+untold_words (number ∷ id ∷ []) = told_by None (number_of number) (id_of id) tt
+untold_words (number ∷ id ∷ next ∷ words) = tt
+
+untold : (fields : List Line) → IfSome (listed_id_of_fields fields) TellsWords
+untold [] = tt
+untold (field ∷ []) = untold_words (words_of field)
+untold (field ∷ next ∷ fields) = tt
 
 -- overviews of lines tell words
-pub overview_has_words : (lines : List (List ℕ)) → AllByRecursion (λ line. IsTrue (is_line line)) lines → AllByRecursion (λ o. AreWords (fields_told o)) (overviews_of lines)
+pub overview_has_words : (lines : List (List ℕ)) → AllByRecursion (λ line. IsTrue (is_line line)) lines → AllByRecursion TellsWords (overviews_of lines)
 overview_has_words [] h = tt
-overview_has_words (line ∷ lines) h = by (overview_of line) (fields_words (fields_of line) (split_lines (λ b. b == tab) line h.0)) (overview_has_words lines h.1) where
-  by : (o : Option OverviewValue) → IfSome o (λ o. AreWords (fields_told o)) → AllByRecursion (λ o. AreWords (fields_told o)) (overviews_of lines)
-      → AllByRecursion (λ o. AreWords (fields_told o)) (cons_option o (overviews_of lines))
-  by (Some o) is more = (is, more)
-  by None is more = more
+overview_has_words (line ∷ lines) h =
+    let told = of_either TellsWords (overview_of line) (listed_id_of line) (fields_words (fields_of line) (split_lines (λ b. b == tab) line h.0)) (untold (fields_of line)) in
+    by (listed_overview_of line) told (overview_has_words lines h.1)
+  where
+    by : (o : Option OverviewValue) → IfSome o TellsWords → AllByRecursion TellsWords (overviews_of lines) → AllByRecursion TellsWords (cons_option o (overviews_of lines))
+    by (Some o) is more = (is, more)
+    by None is more = more
 
 -- ---- those of a block
 
@@ -156,7 +173,7 @@ are_lines (line ∷ lines) clean octets =
     (and_from (is_clean line) (are_octets line) clean.0 p.0, are_lines lines clean.1 p.1)
 
 -- what the overviews of a block tell
-pub overviews_words : (lines : List Line) → AreClean lines → IsTrue (list_all are_octets lines) → AllByRecursion (λ o. AreWords (fields_told o)) (overviews_of lines)
+pub overviews_words : (lines : List Line) → AreClean lines → IsTrue (list_all are_octets lines) → AllByRecursion TellsWords (overviews_of lines)
 overviews_words lines clean octets = overview_has_words lines (are_lines lines clean octets)
 
 -- what a block tells as a head

@@ -3,12 +3,12 @@ use Rattle.std.proofs.Common.{◌≡◌, ℕ, ◌≤◌, Bool, true, false, not,
 use Rattle.std.proofs.{Common.{map, ◌⊎◌, inl, inr, refl, sym, ap, subst, arith, ◌∙◌}, lemmas.Bool.{or_cases, leb-false, ltb-false, and_right, and_from}}
 use Rattle.std.{proofs.lemmas.{Bool.{or_left, or_right}, Option.{IfSome_then}}, specs.Prelude.{◌+◌, ◌-◌, nat_le, nat_lt, unwrap_or, if◌then◌else◌, IfSome}}
 use Rattle.std.specs.{Prelude.{is_none}, List.{list_any}, Option.{option_map_or, option_or}, FinMap.{get}, Cmp.Lexicographic.{bytes_decides}}
-use Rattle.nntp_wire.specs.Answer.{Success, Asked, Response, greeting, to, group_is, numbers_are, sends, active_are, plain, success_code, overviews_are}
-use Rattle.nntp_wire.specs.declared.{water_marks.WaterMarks.{WaterMarks}, command.What.{What, TheVariants.{Article, Head, Body, Stat}}}
-use Rattle.nntp_wire.specs.{declared.{command.OverviewKeyword.{OverviewKeyword}, range.Range.{Range}}, Listing.{ActiveValue, OverviewValue, listed_numbers}}
-use Rattle.nntp_wire.specs.{Listing.{active_groups, overviews_of}, Decided.{matches_name}, Command.{Target, by_id, current, the_id, in_range, the_current}}
-use Rattle.nntp_wire.{specs.{Command.{group, list_group, next, last, retrieve, list_active, over}, Reason.{unless, first}}, proofs.Reasons.{so_unless}}
-use Rattle.nntp_wire.proofs.Reasons.{so_first, so_each}
+use Rattle.nntp_wire.specs.Answer.{Success, Asked, Response, greeting, to, group_is, numbers_are, sends, active_are, plain, success_code, overview_code}
+use Rattle.nntp_wire.specs.{Answer.{overviews_are}, declared.{water_marks.WaterMarks.{WaterMarks}, command.What.{What, TheVariants.{Article, Head, Body}}}}
+use Rattle.nntp_wire.specs.{declared.{command.{What.TheVariants.{Stat}, OverviewKeyword.{OverviewKeyword}}, range.Range.{Range}}, Listing.{ActiveValue}}
+use Rattle.nntp_wire.specs.{Listing.{OverviewValue, listed_numbers, active_groups, overviews_of}, Decided.{matches_name}, Command.{Target, by_id, current}}
+use Rattle.nntp_wire.specs.{Command.{the_id, in_range, the_current, group, list_group, next, last, retrieve, list_active, over}, Reason.{unless, first}}
+use Rattle.nntp_wire.proofs.Reasons.{so_unless, so_first, so_each}
 use Rattle.nntp_article.specs.{Article.Parts.{Line, is_head, said_id}, Session.{Spool.{Name}, Machine.{Visible, is_same, is_generic, is_greeting, group_names}}}
 use Rattle.nntp_article.specs.Session.{Machine.{overview_numbers, only, may_list, is_article_number, are_zeros, is_in_range, code_fits}, Misfit.{Misfit}}
 use Rattle.nntp_article.specs.Session.Misfit.{wrong_code, wrong_name, wrong_number, wrong_id, below_low, wrong_marks, beyond_limit, not_above, beyond_range}
@@ -56,7 +56,7 @@ so_numbers (n ∷ ns) = so_first (Falls (n ∷ ns)) (order_misfit (Some n) ns) [
 
 -- what the reason names is at fault
 abbrev pub Tells : Profile → Visible → Asked → Response → Misfit → Type 0
-Tells profile v asked response (wrong_code code allowed) = (code ≡ answered_code response) × (allowed ≡ allowed_codes v asked)
+Tells profile v asked response (wrong_code code allowed) = (code ≡ answered_code asked response) × (allowed ≡ allowed_codes v asked)
 Tells profile v asked response (below_low low) = MatchOption (marked_by response) ⊥ (IsAbove v low)
 Tells profile v asked response (beyond_limit n) = is_article_number profile.limit n ≡ false
 Tells profile v asked response (not_above before n) = AreNeighbours (numbers_of response) before n × (n ≤ before)
@@ -308,10 +308,10 @@ tells profile v (to (over keyword (in_range range))) (overviews_are lines) =
     Q : Misfit → Type 0
     Q = Tells profile v asked (overviews_are lines)
 tells profile v (to (over keyword (the_id word))) (overviews_are lines) =
-    so_named profile v keyword word lines (code_misfit v (to (over keyword (the_id word))) 224) (only (overviews_of lines)) refl
+    so_named profile v keyword word lines (code_misfit v (to (over keyword (the_id word))) (overview_code keyword)) (only (overviews_of lines)) refl
 tells profile v (to (over keyword the_current)) (overviews_are lines) =
     so_first Q _ _ (so_unless Q (is_some v.selected) _ (λ e. (refl, refl)))
-    (so_first Q _ _ (so_unnamed profile v keyword lines (code_misfit v (to (over keyword the_current)) 224) (only (overviews_of lines)) refl (refl, refl)) tt)
+    (so_first Q _ _ (so_unnamed profile v keyword lines (code_misfit v (to (over keyword the_current)) (overview_code keyword)) (only (overviews_of lines)) refl (refl, refl)) tt)
   where
     Q : Misfit → Type 0
     Q = Tells profile v (to (over keyword the_current)) (overviews_are lines)

@@ -1,6 +1,6 @@
 -- The four headers that an overview tells of (RFC 3977, section 8.3.2).
 use Rattle.std.specs.{Prelude.{ℕ, List, [], ◌∷◌, ◌++◌, Option, slice_get, codes}, List.{filter, flat_map, after_first}, Option.{option_map_or}}
-use Rattle.nntp_wire.specs.{Words.{words_of}, Octets.{space}, Listing.{OverviewValue}}
+use Rattle.nntp_wire.specs.{Words.{words_of}, Octets.{space}, Listing.{Fields}}
 use Rattle.nntp_article.specs.{Article.Parts.{Line, Id, Header, headers, is_named, is_colon}, declared.article.field.Field.{Field, TheVariants.{Subject, From}}}
 use Rattle.nntp_article.specs.declared.article.field.Field.TheVariants.{Date, References}
 
@@ -8,14 +8,7 @@ use Rattle.nntp_article.specs.declared.article.field.Field.TheVariants.{Date, Re
 abbrev pub Word : Type 0
 Word = List ℕ
 
--- the words of the four headers
-pub record Fields : Type 0 where
-  pub subject : List Word
-  pub from : List Word
-  pub date : List Word
-  pub references : List Word
-
--- those of one
+-- the words of one of the four
 abbrev pub words_in : Fields → Field → List Word
 words_in fields Subject = fields.subject
 words_in fields From = fields.from
@@ -28,10 +21,6 @@ name_of_field Subject = codes "Subject"
 name_of_field From = codes "From"
 name_of_field Date = codes "Date"
 name_of_field References = codes "References"
-
--- what an overview tells
-abbrev pub fields_told : OverviewValue → Fields
-fields_told o = record { subject = o.subject; from = o.from; date = o.date; references = o.references }
 
 -- ---- what a head tells
 

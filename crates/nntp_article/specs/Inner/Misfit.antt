@@ -2,7 +2,7 @@
 use Rattle.std.specs.Prelude.{ℕ, ◌≡◌, ◌<◌, ◌+◌, ◌-◌, ◌++◌, Bool, true, false, not, ◌&&◌, ◌||◌, ◌==◌, nat_le, List, [], ◌∷◌, Option, None, Some, option_map}
 use Rattle.std.specs.{Prelude.{is_none}, List.{list_any}, Option.{option_or}, FinMap.{get}}
 use Rattle.nntp_wire.specs.Command.{by_id, by_number, next, last, group, list_group, retrieve, list_active, over, Overviewed, the_id, in_range}
-use Rattle.nntp_wire.specs.Answer.{Asked, to, Success, Response, group_is, numbers_are, sends, active_are, overviews_are, success_code}
+use Rattle.nntp_wire.specs.Answer.{Asked, to, Success, Response, group_is, numbers_are, sends, active_are, overviews_are, success_code, overview_code}
 use Rattle.nntp_wire.specs.declared.{water_marks.WaterMarks.{WaterMarks}, command.What.{What, TheVariants.{Article, Head, Body, Stat}}}
 use Rattle.nntp_wire.specs.{declared.command.OverviewKeyword.{OverviewKeyword}, Listing.{ActiveValue, OverviewValue, listed_numbers, active_groups}}
 use Rattle.nntp_wire.specs.{Listing.{overviews_of}, Decided.{matches_name}}
@@ -19,7 +19,7 @@ is_success (to next) code = code == 223
 is_success (to last) code = code == 223
 is_success (to (retrieve what which)) code = code == success_code what
 is_success (to (list_active p)) code = code == 215
-is_success (to (over keyword which)) code = code == 224
+is_success (to (over keyword which)) code = code == overview_code keyword
 is_success asked code = false
 
 -- ---- what the answer and the prompt hold that a reason speaks of
@@ -135,7 +135,7 @@ abbrev pub lacks_parts : Asked → Response → Bool
 lacks_parts (to (retrieve what which)) (sends sent) = not (has_parts what sent.block)
 lacks_parts asked response = false
 
--- these are none of a range that OVER lists, or not just one where one is due (section 8.3)
+-- these are none of a range that OVER or HDR lists, or not just one where one is due (section 8.3)
 abbrev pub are_wrong_lines : OverviewKeyword → Overviewed → List OverviewValue → Bool
 are_wrong_lines keyword (in_range range) overviews = not (may_list keyword overviews)
 are_wrong_lines keyword which overviews = is_none (only overviews)

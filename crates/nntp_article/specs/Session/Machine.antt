@@ -8,10 +8,10 @@ use Rattle.nntp_wire.specs.{Command.{Overviewed, the_id, in_range, the_current, 
 use Rattle.nntp_wire.specs.Answer.{Response, group_is, numbers_are, sends, active_are, overviews_are, plain, success_code}
 use Rattle.nntp_wire.specs.declared.{water_marks.WaterMarks.{WaterMarks}, marks.Marks.{Marks, TheVariants.{Lenient, Strict}}, range.Range.{Range}}
 use Rattle.nntp_wire.specs.declared.command.{What.{What, TheVariants.{Article, Head, Body, Stat}}, OverviewKeyword.{OverviewKeyword, TheVariants.{Over, Xover}}}
-use Rattle.nntp_wire.specs.{Session.{closes}, Listing.{ActiveValue, OverviewValue, listed_numbers, active_groups, overviews_of}, Wildmat.{MatchesName}}
-use Rattle.nntp_wire.specs.Decided.{matches_name}
-use Rattle.nntp_article.specs.{Article.{Parts.{Line, Id, is_empty, is_head, said_id, head_part}, Fields.{fields_of_head, fields_told}}, Session.Spool.{Name}}
-use Rattle.nntp_article.specs.Session.Spool.{Spool, Numbers, IsGroup, IsNumber, numbers, least, IsNextAbove, IsNextBelow, NoneAbove, NoneBelow, Lists, HasText}
+use Rattle.nntp_wire.specs.{declared.command.OverviewKeyword.TheVariants.{Hdr, Xhdr}, Session.{closes}, Listing.{ActiveValue, OverviewValue, listed_numbers}}
+use Rattle.nntp_wire.specs.{Listing.{active_groups, overviews_of}, Wildmat.{MatchesName}, Decided.{matches_name}}
+use Rattle.nntp_article.specs.{Article.{Parts.{Line, Id, is_empty, is_head, said_id, head_part}, Fields.{fields_of_head}}, Session.Spool.{Name, Spool, Numbers}}
+use Rattle.nntp_article.specs.Session.Spool.{IsGroup, IsNumber, numbers, least, IsNextAbove, IsNextBelow, NoneAbove, NoneBelow, Lists, HasText}
 use Rattle.nntp_article.specs.declared.session.profile.Profile.{Profile}
 
 -- what a session shows of its state, whatever the spool
@@ -126,9 +126,10 @@ abbrev pub only : {A : Type 0} → List A → Option A
 only (x ∷ []) = Some x
 only xs = None
 
--- of a range OVER lists one overview at least, XOVER perhaps none (section 8.3; RFC 2980, section 2.8)
+-- of a range OVER and HDR list one overview at least, XOVER and XHDR perhaps none (sections 8.3 and 8.5; RFC 2980, sections 2.6 and 2.8)
 abbrev pub may_list : OverviewKeyword → List OverviewValue → Bool
 may_list Over [] = false
+may_list Hdr [] = false
 may_list keyword overviews = true
 
 -- the lines of OVER or XOVER, by what was asked
@@ -143,6 +144,8 @@ overviews_fit profile v keyword the_current overviews = option_map_or (λ o. num
 abbrev pub none_in_range : OverviewKeyword → List ℕ
 none_in_range Over = 423 ∷ []
 none_in_range Xover = 420 ∷ 423 ∷ []
+none_in_range Hdr = 423 ∷ []
+none_in_range Xhdr = 420 ∷ 423 ∷ []
 
 -- an answer of a code alone, other than a generic failure
 abbrev pub code_fits : Visible → Request → ℕ → Bool
@@ -231,9 +234,9 @@ ActivesAgree S p lines =
     ((name : Name) → Contains (map (λ line. line.name) lines) name ↔ (IsGroup S name × IfSome p (λ w. MatchesName w name)))
     × All (λ line. (n : ℕ) → IsNumber (numbers S line.name) n → (line.low ≤ n) × (n ≤ line.high)) lines
 
--- the id of the overview has an article, whose head tells the same
+-- the id of the overview has an article, whose head tells the same, if headers are told
 abbrev pub HasOverview : Spool → OverviewValue → Type 0
-HasOverview S o = MatchOption (get S.articles o.id) ⊥ (λ t. fields_of_head t.head ≡ fields_told o)
+HasOverview S o = MatchOption (get S.articles o.id) ⊥ (λ t. IfSome o.told (λ fields. fields_of_head t.head ≡ fields))
 
 -- the overviews are of all numbers in the range, each has the id at its number, and its article tells the same
 abbrev pub ListsOverviews : Spool → Numbers → Range → List OverviewValue → Type 0

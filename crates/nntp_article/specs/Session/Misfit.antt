@@ -3,7 +3,7 @@ use Rattle.std.specs.Prelude.{ℕ, ◌+◌, ◌-◌, Bool, true, false, ◌&&◌
 use Rattle.std.specs.{Prelude.{unwrap_or}, List.{list_any}, Option.{option_map_or, option_or}, FinMap.{get}}
 use Rattle.nntp_wire.specs.Command.{Target, by_id, by_number, current, Request, capabilities, mode_reader, next, last, quit, opaque, ill_formed, group}
 use Rattle.nntp_wire.specs.{Command.{Overviewed, the_id, in_range, the_current, list_group, retrieve, list_active, over}, Answer.{Asked, greeting, to, Success}}
-use Rattle.nntp_wire.specs.Answer.{Response, group_is, numbers_are, sends, active_are, overviews_are, plain, success_code}
+use Rattle.nntp_wire.specs.Answer.{Response, group_is, numbers_are, sends, active_are, overviews_are, plain, success_code, overview_code}
 use Rattle.nntp_wire.specs.declared.{water_marks.WaterMarks.{WaterMarks}, range.Range.{Range}, command.What.{What, TheVariants.{Article, Head, Body, Stat}}}
 use Rattle.nntp_wire.specs.{declared.command.OverviewKeyword.{OverviewKeyword}, Listing.{ActiveValue, OverviewValue, listed_numbers, active_groups}}
 use Rattle.nntp_wire.specs.{Listing.{overviews_of}, Decided.{matches_name}, Reason.{unless, first}}
@@ -42,11 +42,11 @@ retrieve_codes is_selected what (by_number None) = codes_if_selected is_selected
 retrieve_codes is_selected what (by_number (Some n)) = codes_if_selected is_selected (success_code what ∷ 423 ∷ [])
 retrieve_codes is_selected what current = codes_if_selected is_selected (success_code what ∷ 420 ∷ [])
 
--- the codes that fit OVER and XOVER (section 8.3; RFC 2980, section 2.8)
+-- the codes that fit OVER, XOVER, HDR and XHDR (sections 8.3 and 8.5; RFC 2980, sections 2.6 and 2.8)
 abbrev pub over_codes : Bool → OverviewKeyword → Overviewed → List ℕ
-over_codes is_selected keyword (the_id word) = 224 ∷ 430 ∷ []
-over_codes is_selected keyword (in_range range) = codes_if_selected is_selected (224 ∷ none_in_range keyword)
-over_codes is_selected keyword the_current = codes_if_selected is_selected (224 ∷ 420 ∷ [])
+over_codes is_selected keyword (the_id word) = overview_code keyword ∷ 430 ∷ []
+over_codes is_selected keyword (in_range range) = codes_if_selected is_selected (overview_code keyword ∷ none_in_range keyword)
+over_codes is_selected keyword the_current = codes_if_selected is_selected (overview_code keyword ∷ 420 ∷ [])
 
 -- the codes that fit a command, successes and others: of a command that isn't understood only that of 300 to 399, where all others fit
 abbrev pub command_codes : Bool → Request → List ℕ
@@ -69,14 +69,19 @@ abbrev pub allowed_codes : Visible → Asked → List ℕ
 allowed_codes v greeting = 200 ∷ 201 ∷ 400 ∷ 502 ∷ []
 allowed_codes v (to command) = command_codes (is_some v.selected) command
 
+-- the code by which overviews are listed
+abbrev pub listing_code : Asked → ℕ
+listing_code (to (over keyword which)) = overview_code keyword
+listing_code asked = 224
+
 -- the code of an answer
-abbrev pub answered_code : Response → ℕ
-answered_code (group_is m name) = 211
-answered_code (numbers_are m name lines) = 211
-answered_code (sends sent) = sent.code
-answered_code (active_are lines) = 215
-answered_code (overviews_are lines) = 224
-answered_code (plain code) = code
+abbrev pub answered_code : Asked → Response → ℕ
+answered_code asked (group_is m name) = 211
+answered_code asked (numbers_are m name lines) = 211
+answered_code asked (sends sent) = sent.code
+answered_code asked (active_are lines) = 215
+answered_code asked (overviews_are lines) = listing_code asked
+answered_code asked (plain code) = code
 
 -- the code of the answer is at fault
 abbrev pub code_misfit : Visible → Asked → ℕ → Misfit
@@ -220,5 +225,5 @@ misfit profile v (to (retrieve what which)) (sends sent) = sent_misfit profile v
 misfit profile v (to (list_active p)) (active_are lines) =
     first (first (map (active_misfit profile p) (active_groups lines)) ∷ twice_misfit [] (group_names (active_groups lines)) ∷ [])
 misfit profile v (to (over keyword which)) (overviews_are lines) =
-    overviews_misfit profile v (code_misfit v (to (over keyword which)) 224) keyword which (overviews_of lines)
-misfit profile v asked response = Some (code_misfit v asked (answered_code response))
+    overviews_misfit profile v (code_misfit v (to (over keyword which)) (overview_code keyword)) keyword which (overviews_of lines)
+misfit profile v asked response = Some (code_misfit v asked (answered_code asked response))

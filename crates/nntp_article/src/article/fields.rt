@@ -3,7 +3,7 @@ ghost use Rattle.std.specs.Prelude.{◌≡◌, ◌≢◌, ◌↔◌, IsTrue, Mat
 ghost use Rattle.std.specs.Iterator.{YieldsFirstRef, item_count};
 ghost use Rattle.nntp_wire.specs.Inner.View.{overview_value};
 ghost use Rattle.nntp_article.specs.Article.Parts.{headers};
-ghost use Rattle.nntp_article.specs.Article.Fields.{name_of_field, words_in, words_named, fields_told, fields_of_head};
+ghost use Rattle.nntp_article.specs.Article.Fields.{name_of_field, words_in, words_named, fields_of_head};
 
 use crate::article::field::Field;
 use crate::article::head_line::{is_continuation, split_at_colon};
@@ -110,7 +110,7 @@ pub struct Fields<'a> {
 }
 
 impl<'a> Model for Fields<'a> {
-    ghost use Rattle.nntp_article.specs.Article.Fields.{Fields as FieldsValue};
+    ghost use Rattle.nntp_wire.specs.Listing.{Fields as FieldsValue};
 
     ghost Value = { FieldsValue };
 
@@ -130,16 +130,17 @@ impl<'a> Fields<'a> {
         }
     }
 
-    /// What the overview tells.
-    pub fn of_overview(overview: OverviewLine<'a>) -> Fields<'a>
-        ensures { result ≡ fields_told (overview_value overview.entry) }
+    /// What a line tells that lists an article. It is `None` for a line of HDR or XHDR, which tells of no header.
+    pub fn of_overview(overview: &OverviewLine<'a>) -> Option<Fields<'a>>
+        ensures { result ≡ (overview_value overview.now).told }
     {
-        Fields {
-            subject: FieldWords::of_line(overview.subject),
-            from: FieldWords::of_line(overview.from),
-            date: FieldWords::of_line(overview.date),
-            references: FieldWords::of_line(overview.references),
-        }
+        let told = overview.told.as_ref()?;
+        Some(Fields {
+            subject: FieldWords::of_line(told.subject.copy()),
+            from: FieldWords::of_line(told.from.copy()),
+            date: FieldWords::of_line(told.date.copy()),
+            references: FieldWords::of_line(told.references.copy()),
+        })
     }
 
     /// The words of one header.

@@ -2,7 +2,8 @@
 ghost use Rattle.std.specs.Prelude.{◌≡◌, ◌↔◌, IsTrue, List};
 ghost use Rattle.std.specs.List.{list_any};
 ghost use Rattle.nntp_article.specs.Article.Parts.{Line, Header, is_empty, headers, is_head, head_part, body_part};
-ghost use Rattle.nntp_article.specs.Article.Fields.{Fields, field_lines, fields_of_head};
+ghost use Rattle.nntp_article.specs.Article.Fields.{field_lines, fields_of_head};
+ghost use Rattle.nntp_wire.specs.Listing.{Fields};
 ghost use Rattle.nntp_article.specs.Inner.Fields.{AreWords};
 ghost use Rattle.nntp_article.specs.Inner.Parts.{AreHeaders, AreParts};
 

@@ -20,7 +20,8 @@ pub struct ToldFields<A: Allocator = Global> {
 
 impl<A: Allocator> Model for ToldFields<A> {
     ghost use Rattle.std.specs.Prelude.{◌≡◌};
-    ghost use Rattle.nntp_article.specs.Article.Fields.{Fields as FieldsValue, fields_of_head, field_lines};
+    ghost use Rattle.nntp_article.specs.Article.Fields.{fields_of_head, field_lines};
+    ghost use Rattle.nntp_wire.specs.Listing.{Fields as FieldsValue};
 
     ghost Value = { FieldsValue };
 

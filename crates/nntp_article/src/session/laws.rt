@@ -50,7 +50,7 @@ pub fn allowed_codes_fit()
 /// What a reason names is at fault.
 pub fn reasons_are_so()
     ensures code { (profile : Profile) (v : Visible) (asked : Asked) (response : Response) (code : ℕ) (allowed : List ℕ)
-        → misfit profile v asked response ≡ Some (wrong_code code allowed) → (code ≡ answered_code response) × (allowed ≡ allowed_codes v asked) }
+        → misfit profile v asked response ≡ Some (wrong_code code allowed) → (code ≡ answered_code asked response) × (allowed ≡ allowed_codes v asked) }
     ensures name { (profile : Profile) (v : Visible) (asked : Asked) (response : Response) (name : Name)
         → misfit profile v asked response ≡ Some (wrong_name name)
         → MatchOption (marked_by response) ⊥ (λ marked. marked.0 ≡ name) × MatchOption (asked_group v asked) ⊥ (λ word. IsFalse (is_same name word)) }

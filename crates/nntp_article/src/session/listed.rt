@@ -19,7 +19,7 @@ pub enum Listed<'a, A: Allocator = Global> {
     Numbers(Vec<u64, A>),
     /// The groups of a 215 to LIST ACTIVE (RFC 3977, section 7.6.3).
     Groups(Vec<ActiveLine<'a>, A>),
-    /// The overviews of a 224 to OVER or XOVER (RFC 3977, section 8.3).
+    /// The overviews of a 224 to OVER or XOVER, a 225 to HDR or a 221 to XHDR (RFC 3977, sections 8.3 and 8.5).
     Overviews {
         /// The number of each.
         numbers: Vec<u64, A>,

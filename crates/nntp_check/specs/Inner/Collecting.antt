@@ -10,7 +10,7 @@ use Rattle.nntp_check.specs.declared.{capture_checker.CaptureChecker.{CaptureChe
 abbrev pub held_in : {A : Type 0} → Streams A → Held
 held_in s = record { ended = s.ended.items; last = s.last; spool = s.spool.items }
 
--- the checker holds what it has to of these sessions, to judge them by the limit and the marks and by how OVER and XOVER
+-- the checker holds what it has to of these sessions, to judge them by the limit and the marks and by how overviews
 -- are taken in each, and their names
 pub record Judges {A : Type 0} (limit : Limit) (marks : Marks) (overviews : Overviews) (c : CaptureChecker A) (held : Held) : Type 0 where
   pub checks : StandsForAll limit marks c.checker (unnamed (sessions_as overviews held.ended)) (session_as overviews held.last).session

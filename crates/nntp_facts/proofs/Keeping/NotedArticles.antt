@@ -2,8 +2,8 @@
 use Rattle.std.proofs.Common.{◌≡◌, ◌↔◌, ◌||◌, Bool, true, false, cond, IsTrue, List, Option, None, Some, is_some, refl, sym, ap, subst, ◌∙◌, arith}
 use Rattle.std.{proofs.lemmas.Bool.{true≢false, not-true, not-false}, specs.{Prelude.{unwrap_or}, List.{list_any}, Option.{option_map_or, option_or}}}
 use Rattle.std.specs.{Cmp.Lexicographic.{nat_list_cmp_total}, FinMap.{get, insert, slice_cmp-IsAntisymmetric, nat_cmp-IsAntisymmetric}}
-use Rattle.nntp_wire.{specs.declared.command.What.{What}, proofs.ShownMaps.{insert-same}}
-use Rattle.nntp_article.specs.Article.{Parts.{Id, Line}, Fields.{Fields}}
+use Rattle.nntp_wire.{specs.{declared.command.What.{What}, Listing.{Fields}}, proofs.ShownMaps.{insert-same}}
+use Rattle.nntp_article.specs.Article.Parts.{Id, Line}
 use Rattle.nntp_said.specs.Facts.{Fact}
 use Rattle.nntp_theory.{specs.Together.{shows_article}, proofs.Together.TwoListsOfFacts.{or_none}}
 use Rattle.nntp_facts.specs.Inner.{Kept.{KeptArticle, AreKeptArticles, IsAddedIf}, Articles.{head_sent, body_sent, MayBeSent, MayBeTold, denied, unsent}}
@@ -118,27 +118,27 @@ sent_noted facts old new what id lines head body a b does kept was is heads bodi
 
 -- ---- an overview tells something of an article
 
-module _ (is_sent : Bool) (fields : Fields) where
+module _ (is_sent : Bool) (told : Option Fields) where
   -- it may be kept exactly if it may be told of what is kept, or of an article of which nothing was
-  may_be_told : (o : Option KeptArticle) → MayBeTold (unwrap_or o unsent) fields ↔ MayKeep o (telling is_sent (Some fields))
+  may_be_told : (o : Option KeptArticle) → MayBeTold (unwrap_or o unsent) told ↔ MayKeep o (telling is_sent told)
   may_be_told o = grind arith
 
   -- and then is kept with it
-  told_with : (o : Option KeptArticle) → with_told (unwrap_or o unsent) is_sent fields ≡ kept_with o (telling is_sent (Some fields))
+  told_with : (o : Option KeptArticle) → with_told (unwrap_or o unsent) is_sent told ≡ kept_with o (telling is_sent told)
   told_with None = refl
   told_with (Some a) = λ i. record {
     is_denied = a.is_denied;
     is_sent = a.is_sent || is_sent;
     head = sym (or_none a.head) i;
-    fields = option_or a.fields (Some fields);
+    fields = option_or a.fields told;
     body = sym (or_none a.body) i;
   }
 
 -- what an overview tells is added to what is known of the article, if anything is
-pub told_noted : (facts : List Fact) (old new : Articles) (id : Id) (is_sent : Bool) (fields : Fields) (a b : KeptArticle) (does : Bool)
+pub told_noted : (facts : List Fact) (old new : Articles) (id : Id) (is_sent : Bool) (told : Option Fields) (a b : KeptArticle) (does : Bool)
     → AreKeptArticles facts old → a ≡ unwrap_or (get old id) unsent → new ≡ insert old id b
-    → IsAddedIf (MayBeTold a fields) (λ k. k ≡ with_told a is_sent fields) a b does → IsSaidAdded facts (said_alone id (telling is_sent (Some fields))) old new does
-told_noted facts old new id is_sent fields a b does kept was is =
-    added_to facts old id (telling is_sent (Some fields)) kept (MayBeTold a fields) (with_told a is_sent fields) a b new was is
-    (subst (λ a. MayBeTold a fields ↔ MayKeep (get old id) (telling is_sent (Some fields))) (sym was) (may_be_told is_sent fields (get old id)))
-    (ap (λ a. with_told a is_sent fields) was ∙ told_with is_sent fields (get old id)) does
+    → IsAddedIf (MayBeTold a told) (λ k. k ≡ with_told a is_sent told) a b does → IsSaidAdded facts (said_alone id (telling is_sent told)) old new does
+told_noted facts old new id is_sent told a b does kept was is =
+    added_to facts old id (telling is_sent told) kept (MayBeTold a told) (with_told a is_sent told) a b new was is
+    (subst (λ a. MayBeTold a told ↔ MayKeep (get old id) (telling is_sent told)) (sym was) (may_be_told is_sent told (get old id)))
+    (ap (λ a. with_told a is_sent told) was ∙ told_with is_sent told (get old id)) does

@@ -3,8 +3,8 @@ use Rattle.std.proofs.Common.{◌≡◌, ℕ, Bool, true, false, not, ◌||◌, 
 use Rattle.std.proofs.{Common.{◌∙◌, append-nil, arith}, lemmas.{Bool.{true≢false, or_left, eqb-true, eq-eqb}, List.Folds.{list_any-append}}}
 use Rattle.std.{proofs.Math.Bool.{or-false}, specs.{Prelude.{◌↔◌, IfSome, IsFalse}, List.{AllByRecursion, list_any}, Option.{option_or, option_map_or}}}
 use Rattle.std.specs.{Cmp.Lexicographic.{same_text}, FinMap.{get}}
-use Rattle.nntp_wire.specs.{Listing.{OverviewValue}, declared.range.Range.{Range}}
-use Rattle.nntp_article.specs.{Article.{Parts.{Id}, Fields.{Fields, fields_told}}, Session.{Spool.{Name}, Machine.{is_same, overview_numbers}}}
+use Rattle.nntp_wire.specs.{Listing.{OverviewValue, Fields}, declared.range.Range.{Range}}
+use Rattle.nntp_article.specs.{Article.Parts.{Id}, Session.{Spool.{Name}, Machine.{is_same, overview_numbers}}}
 use Rattle.nntp_said.specs.{Asks.{Ask, ListsIn}, Facts.{Fact, OverviewsAre}}
 use Rattle.nntp_theory.specs.Given.{asks_of, shows_group, is_shown_group, first_given, id_of_overview, id_in, has_overview_of, fields_of_overview, fields_in}
 use Rattle.nntp_theory.specs.{Together.{number_of_overview, number_in, denies_article}, Inner.Together.{AsksStand, IsWellFormed, JoinNumbers, JoinIds}}
@@ -77,7 +77,7 @@ module _ (facts : List Fact) (name : Name) (r : Range) (os : List OverviewValue)
       all_from (OverviewJoins facts name) os (λ o i. record {
         id = may_from own j.ids o i;
         free = (j.articles o.id).shown (or_left _ false (any_in (λ (v : OverviewValue). is_same v.id o.id) o os i (same_itself o.id)));
-        fields = subst (λ more. AreSame more (first_given (fields_in o.id) facts)) (or_none _ ∙ own_fields o i) (j.articles o.id).fields;
+        fields = own_fields o o.told (all_at _ o os (own_agree name r os own) i).2 (j.articles o.id).fields;
       }),
     ),
     λ h. record {
@@ -93,8 +93,10 @@ module _ (facts : List Fact) (name : Name) (r : Range) (os : List OverviewValue)
       numbers : JoinNumbers facts more ↔ AsksStand (asks_of name facts ++ asks)
       numbers = numbers_join facts more name asks t (asked_here name asks more (listed_asks name r os)) (asked_elsewhere name asks more (listed_asks name r os))
 
-      own_fields : (o : OverviewValue) → In o os → first_given (fields_of_overview o.id) os ≡ Some (fields_told o)
-      own_fields o i = (all_at _ o os (own_agree name r os own) i).2
+      own_fields : (o : OverviewValue) (told : Option Fields) → IfSome told (λ fields. first_given (fields_of_overview o.id) os ≡ Some fields)
+          → AreSame (option_or (first_given (fields_of_overview o.id) os) None) (first_given (fields_in o.id) facts) → AreSame told (first_given (fields_in o.id) facts)
+      own_fields o None own same = tt
+      own_fields o (Some fields) own same = subst (λ more. AreSame more (first_given (fields_in o.id) facts)) (or_none _ ∙ own) same
 
       -- what they tell of an id is what one of them tells
       told : AllByRecursion (OverviewJoins facts name) os → (id : Id) → AreSame (option_or (first_given (fields_of_overview id) os) None) (first_given (fields_in id) facts)
@@ -105,8 +107,7 @@ module _ (facts : List Fact) (name : Name) (r : Range) (os : List OverviewValue)
           by (Some fields) e =
               let f = told_by os id fields e in
               let j = all_at (OverviewJoins facts name) f.overview os all f.there in
-              subst (λ fields. AreSame (Some fields) (first_given (fields_in id) facts)) f.told
-              (subst (λ id. AreSame (Some (fields_told f.overview)) (first_given (fields_in id) facts)) f.same_id j.fields)
+              subst (λ told. AreSame told (first_given (fields_in id) facts)) f.told (subst (λ id. AreSame f.overview.told (first_given (fields_in id) facts)) f.same_id j.fields)
 
       free : AllByRecursion (OverviewJoins facts name) os → (id : Id) → IsTrue (list_any (λ o. is_same o.id id) os) → IsFalse (list_any (denies_article id) facts)
       free all id e =
@@ -192,18 +193,18 @@ module _ (facts : List Fact) (tells : Name → Told) (name : Name) (front : List
   said_so_far id = said_append facts (OverviewsAre name all_numbers front ∷ []) id ∙ ap (join_said (said_of facts id)) (listed_said name all_numbers front id)
 
   -- the article of one more is said
-  pub said_next : (id : Id) → join_said (said_of facts id) (said_listed (front ++ o ∷ []) id) ≡ join_said (said_of so_far id) (said_alone o.id (telling false (Some (fields_told o))) id)
+  pub said_next : (id : Id) → join_said (said_of facts id) (said_listed (front ++ o ∷ []) id) ≡ join_said (said_of so_far id) (said_alone o.id (telling false o.told) id)
   said_next id =
       by (has_overview_of id front) (is_same o.id id) (first_given (fields_of_overview id) front) (said_of facts id)
       (list_any-append (λ (v : OverviewValue). is_same v.id id) front (o ∷ [])) (given_append (fields_of_overview id) front (o ∷ []))
-      ∙ ap (λ s. join_said s (said_alone o.id (telling false (Some (fields_told o))) id)) (sym (said_so_far id))
+      ∙ ap (λ s. join_said s (said_alone o.id (telling false o.told) id)) (sym (said_so_far id))
     where
       -- overviews of which some have the id and tell these fields of it
       some_listed : Bool → Option Fields → SaidOfArticle
       some_listed has fields = record { is_mentioned = has; is_shown = has; is_denied = false; is_sent = false; head = None; fields = fields; body = None }
 
-      by : (a b : Bool) {c : Bool} (x : Option Fields) {y : Option Fields} (before : SaidOfArticle) → c ≡ (a || (b || false)) → y ≡ option_or x (option_or (cond b (Some (fields_told o)) None) None)
-          → join_said before (some_listed c y) ≡ join_said (join_said before (some_listed a x)) (cond b (said_kept (Some (telling false (Some (fields_told o))))) said_nothing)
+      by : (a b : Bool) {c : Bool} (x : Option Fields) {y : Option Fields} (before : SaidOfArticle) → c ≡ (a || (b || false)) → y ≡ option_or x (option_or (cond b o.told None) None)
+          → join_said before (some_listed c y) ≡ join_said (join_said before (some_listed a x)) (cond b (said_kept (Some (telling false o.told))) said_nothing)
       by a b x before e f = grind (arith, or-false, or_none)
 
   -- what may be given of the next one beside what was told before, may be given beside those in front too
@@ -217,23 +218,23 @@ module _ (facts : List Fact) (tells : Name → Told) (name : Name) (front : List
         agree = grind (arith, or_none, none.0, none.1, g.agree);
         may = grind (arith, or_none, none.0, none.1, g.may);
         free = any_silent (denies_article o.id) facts _ refl ∙ g.free;
-        fields = subst (AreSame (Some (fields_told o))) (sym (given_silent (fields_in o.id) facts _ (or_none _ ∙ none.2))) g.fields;
+        fields = subst (AreSame o.told) (sym (given_silent (fields_in o.id) facts _ (or_none _ ∙ none.2))) g.fields;
       })
 
 -- an id that isn't denied is added, with what an overview tells of it, if nothing else was told
-pub surely_added : (facts : List Fact) (id : Id) (fields : Fields) (old new : Articles) (does : Bool) → AreKeptArticles facts old → IsFalse (list_any (denies_article id) facts)
-    → AreSame (Some fields) (first_given (fields_in id) facts) → IsSaidAdded facts (said_alone id (telling false (Some fields))) old new does
-    → (does ≡ true) × IsSaidKept facts (said_alone id (telling false (Some fields))) new
-surely_added facts id fields old new true kept free same added = (refl, added.1)
-surely_added facts id fields old new false kept free same added = absurd (added.0 ((article_joins facts old id (telling false (Some fields)) kept).1 (may (get old id) denied told)))
+pub surely_added : (facts : List Fact) (id : Id) (told : Option Fields) (old new : Articles) (does : Bool) → AreKeptArticles facts old → IsFalse (list_any (denies_article id) facts)
+    → AreSame told (first_given (fields_in id) facts) → IsSaidAdded facts (said_alone id (telling false told)) old new does
+    → (does ≡ true) × IsSaidKept facts (said_alone id (telling false told)) new
+surely_added facts id told old new true kept free same added = (refl, added.1)
+surely_added facts id told old new false kept free same added = absurd (added.0 ((article_joins facts old id (telling false told) kept).1 (may (get old id) denied told_before)))
   where
     denied : option_map_or (λ a. a.is_denied) (get old id) false ≡ false
     denied = sym (denied_kept facts old id kept) ∙ free
 
-    told : AreSame (Some fields) (said_kept (get old id)).fields
-    told = subst (AreSame (Some fields)) (ap (λ (s : SaidOfArticle). s.fields) (kept id)) same
+    told_before : AreSame told (said_kept (get old id)).fields
+    told_before = subst (AreSame told) (ap (λ (s : SaidOfArticle). s.fields) (kept id)) same
 
-    may : (o : Option KeptArticle) → option_map_or (λ a. a.is_denied) o false ≡ false → AreSame (Some fields) (said_kept o).fields → MayKeep o (telling false (Some fields))
+    may : (o : Option KeptArticle) → option_map_or (λ a. a.is_denied) o false ≡ false → AreSame told (said_kept o).fields → MayKeep o (telling false told)
     may None d t = tt
     may (Some a) d t = (d, tt, t, tt)
 
@@ -242,8 +243,8 @@ pub gives_joins : (facts : List Fact) (name : Name) (k : Kept) (o : OverviewValu
 gives_joins facts name k o kept =
     let is = by _ _ _ _ (id ((told facts name).ids o.number)) (place ((told facts name).places o.id)) (denied_kept facts k.articles o.id kept.articles) in
     let same = ap (λ (s : SaidOfArticle). s.fields) (kept.articles o.id) in (
-      λ t. record { id = (is.0 t.0).0; free = (is.0 t.0).1; fields = subst (AreSame (Some (fields_told o))) (sym same) t.1 },
-      λ j. (is.1 (j.id, j.free), subst (AreSame (Some (fields_told o))) same j.fields),
+      λ t. record { id = (is.0 t.0).0; free = (is.0 t.0).1; fields = subst (AreSame o.told) (sym same) t.1 },
+      λ j. (is.1 (j.id, j.free), subst (AreSame o.told) same j.fields),
     )
   where
     id : (x : Option Id) → IsTrue (option_map_or (λ other. is_same other o.id) x true) ↔ IsOr x o.id

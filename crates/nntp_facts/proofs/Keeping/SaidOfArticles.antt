@@ -3,7 +3,7 @@ use Rattle.std.proofs.Common.{◌≡◌, ℕ, Bool, true, false, ◌||◌, cond,
 use Rattle.std.{proofs.{lemmas.{Bool.{true≢false}, List.Folds.{list_any-append}}, Math.Bool.{or-false}}, specs.Option.{option_or}}
 use Rattle.std.specs.{Cmp.Lexicographic.{slice_cmp}, Ordering.{nat_cmp}, FinMap.{FinMap}}
 use Rattle.nntp_wire.specs.{Listing.{OverviewValue}, declared.command.What.{What}}
-use Rattle.nntp_article.specs.{Article.{Parts.{Id, Line}, Fields.{fields_told}}, Session.{Spool.{Name}, Machine.{is_same, only}}}
+use Rattle.nntp_article.specs.{Article.Parts.{Id, Line}, Session.{Spool.{Name}, Machine.{is_same, only}}}
 use Rattle.nntp_said.specs.Facts.{Fact, IdAt, TextIs, NoArticle, FieldsAre}
 use Rattle.nntp_theory.specs.{Given.{head_in, body_in}, Inner.Together.{SaidOfArticle, said_of, said_nothing, join_said, JoinArticle, JoinArticles}}
 use Rattle.nntp_theory.proofs.Together.TwoListsOfFacts.{given_append, or_none}
@@ -68,10 +68,10 @@ overview_said other (o ∷ []) is id = subst (λ other. said_of (FieldsAre (o �
       is_denied = false;
       is_sent = (b || false) || false;
       head = None;
-      fields = option_or (option_or (cond b (Some (fields_told o)) None) None) None;
+      fields = option_or (option_or (cond b o.told None) None) None;
       body = None;
-    } ≡ cond {A = SaidOfArticle} b (said_kept (Some (telling true (Some (fields_told o))))) said_nothing
-    by true = refl
+    } ≡ cond {A = SaidOfArticle} b (said_kept (Some (telling true o.told))) said_nothing
+    by true = λ i. said_kept (Some (telling true ((or_none (option_or o.told None) ∙ or_none o.told) i)))
     by false = refl
 overview_said other (o ∷ p ∷ os) is id = absurd is
 
@@ -87,7 +87,7 @@ text_at what other lines id = grind arith
 
 -- where only one overview tells, and it is that of the id, all that is said is what it tells
 pub first_said : (os : List OverviewValue) (o : OverviewValue) (rest : List OverviewValue) (id : Id) → os ≡ o ∷ rest → MatchOption (only os) ⊥ (λ o. o.id ≡ id)
-    → said_alone o.id (telling true (Some (fields_told o))) ≡ said_in (Some (id, Describes os))
+    → said_alone o.id (telling true o.told) ≡ said_in (Some (id, Describes os))
 first_said os o [] id is one =
-    (λ i. said_alone (subst (λ os. MatchOption (only os) ⊥ (λ o. o.id ≡ id)) is one i) (telling true (Some (fields_told o)))) ∙ ap (λ os. said_in (Some (id, Describes os))) (sym is)
+    (λ i. said_alone (subst (λ os. MatchOption (only os) ⊥ (λ o. o.id ≡ id)) is one i) (telling true o.told)) ∙ ap (λ os. said_in (Some (id, Describes os))) (sym is)
 first_said os o (v ∷ rest) id is one = absurd (subst (λ os. MatchOption (only os) ⊥ (λ o. o.id ≡ id)) is one)

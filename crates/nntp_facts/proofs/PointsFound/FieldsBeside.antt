@@ -2,8 +2,8 @@
 use Rattle.std.proofs.Common.{◌≡◌, true, false, IsTrue, List, [], ◌∷◌, ◌++◌, Option, None, Some, MatchOption, inl, inr, refl, sym, ap, subst, ◌∙◌, arith}
 use Rattle.std.{proofs.lemmas.Bool.{true≢false}, specs.{Prelude.{◌≢◌, IfSome, option_map, is_some}, List.{AllByRecursion}, Option.{option_map_or}}}
 use Rattle.std.specs.FinMap.{get}
-use Rattle.nntp_wire.specs.{Listing.{OverviewValue}, declared.{command.What.{What}, range.Range.{Range}}}
-use Rattle.nntp_article.specs.{Article.{Parts.{Id, Line}, Fields.{Fields, fields_told, fields_of_head, words_in}}, declared.article.field.Field.{Field}}
+use Rattle.nntp_wire.specs.{Listing.{OverviewValue, Fields}, declared.{command.What.{What}, range.Range.{Range}}}
+use Rattle.nntp_article.specs.{Article.{Parts.{Id, Line}, Fields.{fields_of_head, words_in}}, declared.article.field.Field.{Field}}
 use Rattle.nntp_article.specs.{declared.session.profile.Profile.{Profile}, Session.Machine.{head_fits, only}}
 use Rattle.nntp_said.specs.Facts.{Fact}
 use Rattle.nntp_theory.specs.{Given.{first_given, fields_in, fields_of_overview}, Together.{GiveOne}, Inner.Together.{SaidOfArticle, AreSame}, Conflict.{Point}}
@@ -72,27 +72,32 @@ module _ (profile : Profile) (facts : List Fact) (k : Kept) (t : Statement) (mor
     said id = ap (λ (o : Option (Range × List OverviewValue)). option_map_or (λ o. said_listed o.1 id) o (said_in t.saying.article id)) listed
 
     -- what they tell of an id is what one of them tells
-    told_alike : AllByRecursion (λ v. AreSame (Some (fields_told v)) (said_kept (get k.articles v.id)).fields) o.1 → (id : Id) → AreSame (said_listed o.1 id).fields (before id)
+    told_alike : AllByRecursion (λ v. AreSame v.told (said_kept (get k.articles v.id)).fields) o.1 → (id : Id) → AreSame (said_listed o.1 id).fields (before id)
     told_alike same id = by (first_given (fields_of_overview id) o.1) refl
       where
         by : (fields : Option Fields) → first_given (fields_of_overview id) o.1 ≡ fields → AreSame fields (before id)
         by None e = tt
         by (Some fields) e =
             let f = told_by o.1 id fields e in
-            subst (λ fields. AreSame (Some fields) (before id)) f.told
-            (subst (λ id. AreSame (Some (fields_told f.overview)) (before id)) f.same_id
-            (subst (AreSame (Some (fields_told f.overview))) (kept_is f.overview.id) (all_at _ f.overview o.1 same f.there)))
+            subst (λ told. AreSame told (before id)) f.told
+            (subst (λ id. AreSame f.overview.told (before id)) f.same_id (subst (AreSame f.overview.told) (kept_is f.overview.id) (all_at _ f.overview o.1 same f.there)))
 
-    own_told : (v : OverviewValue) → In v o.1 → first_given (fields_of_overview v.id) o.1 ≡ Some (fields_told v)
-    own_told v i = (all_at _ v o.1 (own_agree [] o.0 o.1 (of_range h.tells.before t.saying h.tells.tells.asks h.tells.tells.may o listed).own) i).2
+    -- and where one tells otherwise, they do
+    own_told : (v : OverviewValue) (point : Point) → In v o.1 → IsOtherField k v.id v.told point → IsOtherField k v.id (first_given (fields_of_overview v.id) o.1) point
+    own_told v point i = by v.told (all_at _ v o.1 (own_agree [] o.0 o.1 (of_range h.tells.before t.saying h.tells.tells.asks h.tells.tells.may o listed).own) i).2
+      where
+        by : (told : Option Fields) → IfSome told (λ fields. first_given (fields_of_overview v.id) o.1 ≡ Some fields) → IsOtherField k v.id told point
+            → IsOtherField k v.id (first_given (fields_of_overview v.id) o.1) point
+        by None is other = absurd other.2
+        by (Some fields) is other = subst (λ told. IsOtherField k v.id told point) (sym is) other
 
     pub listed_field : (p : Option Point) → IsFieldAmong k o.1 p → IsPointOf all 10 p
     listed_field None same = fields_free (λ id. subst (λ (s : SaidOfArticle). AreSame s.fields (before id)) (sym (said id)) (told_alike same id))
     listed_field (Some point) other =
         let f = one_found point o.1 other in
-        other_point f.0.id point (subst (λ told. IsOtherField k f.0.id told point) (sym (ap (λ (s : SaidOfArticle). s.fields) (said f.0.id) ∙ own_told f.0 f.1)) f.2)
+        other_point f.0.id point (subst (λ told. IsOtherField k f.0.id told point) (sym (ap (λ (s : SaidOfArticle). s.fields) (said f.0.id))) (own_told f.0 point f.1 f.2))
       where
-        one_found : (point : Point) (os : List OverviewValue) → OneTellsOther k point os → (v : OverviewValue) × In v os × IsOtherField k v.id (Some (fields_told v)) point
+        one_found : (point : Point) (os : List OverviewValue) → OneTellsOther k point os → (v : OverviewValue) × In v os × IsOtherField k v.id v.told point
         one_found point [] h = absurd h
         one_found point (v ∷ os) (inl h) = (v, inl refl, h)
         one_found point (v ∷ os) (inr h) = let f = one_found point os h in (f.0, inr f.1, f.2)
@@ -125,13 +130,14 @@ module _ (profile : Profile) (facts : List Fact) (k : Kept) (t : Statement) (mor
   -- of an overview that was asked for alone
   pub overview_point : (id : Id) (os : List OverviewValue) → t.saying.article ≡ Some (id, Describes os) → (p : Option Point) → IsFieldAmong k os p → IsPointOf all 10 p
   overview_point id os e p among =
-      field_point id (Describes os) e (option_map fields_told (only os)) refl p
+      field_point id (Describes os) e (option_map_or (λ o. o.told) (only os) None) refl p
       (one_point os id (subst (λ o. IfSome o (MayBeOf t.saying.group)) e h.tells.tells.may.article) p among)
     where
-      one_point : (os : List OverviewValue) (id : Id) → MatchOption (only os) ⊥ (λ o. o.id ≡ id) → (p : Option Point) → IsFieldAmong k os p → IsFieldOf k id (option_map fields_told (only os)) p
+      one_point : (os : List OverviewValue) (id : Id) → MatchOption (only os) ⊥ (λ o. o.id ≡ id) → (p : Option Point) → IsFieldAmong k os p
+          → IsFieldOf k id (option_map_or (λ o. o.told) (only os) None) p
       one_point [] id is p among = absurd is
-      one_point (o ∷ []) id is None among = subst (λ id. IsFieldOf k id (Some (fields_told o)) None) is among.0
-      one_point (o ∷ []) id is (Some point) (inl among) = subst (λ id. IsFieldOf k id (Some (fields_told o)) (Some point)) is among
+      one_point (o ∷ []) id is None among = subst (λ id. IsFieldOf k id o.told None) is among.0
+      one_point (o ∷ []) id is (Some point) (inl among) = subst (λ id. IsFieldOf k id o.told (Some point)) is among
       one_point (o ∷ []) id is (Some point) (inr among) = absurd among
       one_point (o ∷ v ∷ os) id is p among = absurd is
 
@@ -139,13 +145,13 @@ module _ (profile : Profile) (facts : List Fact) (k : Kept) (t : Statement) (mor
 
 module _ (k : Kept) (o : OverviewValue) (os : List OverviewValue) where
   -- where nothing else is kept than the first tells, the point is that of another
-  pub past_found : {X : Type 0} (of : X → Point) (found : Option X) → is_some found ≡ false → IsFieldOf k o.id (Some (fields_told o)) (option_map of found) → (p : Option Point) → IsFieldAmong k os p
+  pub past_found : {X : Type 0} (of : X → Point) (found : Option X) → is_some found ≡ false → IsFieldOf k o.id o.told (option_map of found) → (p : Option Point) → IsFieldAmong k os p
       → IsFieldAmong k (o ∷ os) p
   past_found of None none same None others = (same, others)
   past_found of None none same (Some point) other = inr other
   past_found of (Some x) none same p other = absurd (true≢false none)
 
   -- else it is its own
-  pub at_found : {X : Type 0} (of : X → Point) (found : Option X) → is_some found ≡ true → IsFieldOf k o.id (Some (fields_told o)) (option_map of found) → IsFieldAmong k (o ∷ os) (option_map of found)
+  pub at_found : {X : Type 0} (of : X → Point) (found : Option X) → is_some found ≡ true → IsFieldOf k o.id o.told (option_map of found) → IsFieldAmong k (o ∷ os) (option_map of found)
   at_found of None some other = absurd (true≢false (sym some))
   at_found of (Some x) some other = inl other

@@ -1,7 +1,8 @@
 -- What the code's values keep of articles.
 use Rattle.std.specs.{Prelude.{Bool, true, false, List, Option, None, Some, option_map, map, refl}, Option.{option_or}, Coded.{Coded, code_by, coded×, coded_ℕ}}
 use Rattle.std.specs.{Coded.{coded_list, coded_option, coded_bool}, declared.{boxed.Box.{Box}, rc.{Rc.{Rc}, RcStr.{RcStr}}}, Rc.{rc_str_bytes}}
-use Rattle.nntp_article.specs.Article.{Parts.{Id, Line}, Fields.{Fields, fields_of_head}}
+use Rattle.nntp_article.specs.Article.{Parts.{Id, Line}, Fields.{fields_of_head}}
+use Rattle.nntp_wire.specs.Listing.{Fields}
 use Rattle.nntp_facts.specs.{Inner.{Kept.{KeptArticle}, Articles.{unsent, telling}}, declared.articles.known.KnownArticle.{KnownArticle, TheVariants.{Unsent}}}
 use Rattle.nntp_facts.specs.declared.articles.{known.KnownArticle.TheVariants.{Listed, Named, Told, Head, Body, ToldBody, Whole}, added.Added.{Added}}
 use Rattle.nntp_facts.specs.declared.articles.added.Added.TheVariants.{Never}

@@ -1,8 +1,8 @@
 -- How one more fact fits in with what is kept of articles.
 use Rattle.std.specs.{Prelude.{◌≡◌, ◌||◌, Bool, true, false, not, if◌then◌else◌, List, [], ◌∷◌, Option, None, Some, is_some, option_map}, List.{filter}}
 use Rattle.std.specs.{Option.{option_or, option_map_or}, Ordering.{nat_cmp}, Cmp.Lexicographic.{slice_cmp}, FinMap.{FinMap, get, insert}}
-use Rattle.nntp_wire.specs.declared.command.What.{What, TheVariants.{Article, Head, Body}}
-use Rattle.nntp_article.specs.Article.{Parts.{head_part, body_part, Id, Line}, Fields.{Fields, fields_of_head}}
+use Rattle.nntp_wire.specs.{declared.command.What.{What, TheVariants.{Article, Head, Body}}, Listing.{Fields}}
+use Rattle.nntp_article.specs.Article.{Parts.{head_part, body_part, Id, Line}, Fields.{fields_of_head}}
 use Rattle.nntp_theory.specs.Inner.Together.{AreSame}
 use Rattle.nntp_facts.specs.Inner.Kept.{KeptArticle}
 
@@ -25,8 +25,8 @@ abbrev pub MayBeSent : KeptArticle → Option (List Line) → Option (List Line)
 MayBeSent a head body = (a.is_denied ≡ false) × AreSame head a.head × AreSame (option_map fields_of_head head) a.fields × AreSame body a.body
 
 -- fields may be told of it by an overview
-abbrev pub MayBeTold : KeptArticle → Fields → Type 0
-MayBeTold a fields = (a.is_denied ≡ false) × AreSame (Some fields) a.fields
+abbrev pub MayBeTold : KeptArticle → Option Fields → Type 0
+MayBeTold a told = (a.is_denied ≡ false) × AreSame told a.fields
 
 -- ---- what is kept then
 
@@ -38,9 +38,9 @@ denied = record { is_denied = true; is_sent = false; head = None; fields = None;
 abbrev pub unsent : KeptArticle
 unsent = record { is_denied = false; is_sent = false; head = None; fields = None; body = None }
 
--- what is kept of an id of which an overview alone tells this: one that was asked for by itself, or of a range
+-- what is kept of an id of which an overview alone tells this, if it tells of headers: one that was asked for by itself, or of a range
 abbrev pub telling : Bool → Option Fields → KeptArticle
-telling is_sent fields = record { is_denied = false; is_sent = is_sent; head = None; fields = fields; body = None }
+telling is_sent told = record { is_denied = false; is_sent = is_sent; head = None; fields = told; body = None }
 
 -- what is kept of an article after a success: of each part what was sent first
 abbrev pub with_sent : KeptArticle → Option (List Line) → Option (List Line) → KeptArticle
@@ -53,8 +53,8 @@ with_sent a head body = record {
 }
 
 -- what is kept of an article after an overview tells this
-abbrev pub with_told : KeptArticle → Bool → Fields → KeptArticle
-with_told a is_sent fields = record a { is_sent = a.is_sent || is_sent; fields = option_or a.fields (Some fields) }
+abbrev pub with_told : KeptArticle → Bool → Option Fields → KeptArticle
+with_told a is_sent told = record a { is_sent = a.is_sent || is_sent; fields = option_or a.fields told }
 
 -- an id of which o is kept has an article
 abbrev pub is_there : Option KeptArticle → Bool

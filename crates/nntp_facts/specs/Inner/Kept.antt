@@ -2,8 +2,8 @@
 use Rattle.std.specs.Prelude.{◌≡◌, ℕ, Bool, true, false, not, ◌||◌, ◌==◌, if◌then◌else◌, List, [], ◌++◌, Option, None, Some, MatchOption, IsTrue, IfSome}
 use Rattle.std.specs.{Prelude.{is_some}, Option.{option_or}, List.{list_any, count_by, AllByRecursion}, Ordering.{nat_cmp}, Cmp.Lexicographic.{slice_cmp}}
 use Rattle.std.specs.FinMap.{FinMap, get, insert, entries}
-use Rattle.nntp_wire.specs.{Inner.Decided.{is_asked}, Decided.{matches_name}, Wildmat.{is_wildmat}}
-use Rattle.nntp_article.specs.{Article.{Parts.{Id, Line}, Fields.{Fields}}, Session.{Spool.{Name}, Machine.{is_same}}}
+use Rattle.nntp_wire.specs.{Inner.Decided.{is_asked}, Decided.{matches_name}, Wildmat.{is_wildmat}, Listing.{Fields}}
+use Rattle.nntp_article.specs.{Article.Parts.{Id, Line}, Session.{Spool.{Name}, Machine.{is_same}}}
 use Rattle.nntp_said.specs.{Asks.{Ask}, Facts.{Fact}}
 use Rattle.nntp_theory.specs.{Given.{is_shown, asks_of, is_shown_group, first_given, id_in}, Together.{number_in, denies_group}, Inner.Together.{SaidOfArticle}}
 use Rattle.nntp_theory.specs.Inner.Together.{said_of, said_nothing, Join}

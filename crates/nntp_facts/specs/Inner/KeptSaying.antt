@@ -3,7 +3,7 @@ use Rattle.std.specs.Prelude.{◌≡◌, ◌&&◌, ◌==◌, not, ℕ, Bool, tru
 use Rattle.std.specs.{Prelude.{IsFalse, ⊤, option_map}, List.{list_any}, Option.{option_or, option_map_or}, Ordering.{nat_cmp}, Cmp.Lexicographic.{slice_cmp}}
 use Rattle.std.specs.FinMap.{FinMap, get}
 use Rattle.nntp_wire.specs.{Listing.{OverviewValue}, declared.range.Range.{Range}}
-use Rattle.nntp_article.specs.{Article.{Parts.{Id}, Fields.{fields_told}}, Session.{Spool.{Name}, Machine.{is_same, head_fits, overview_numbers, only}}}
+use Rattle.nntp_article.specs.{Article.Parts.{Id}, Session.{Spool.{Name}, Machine.{is_same, head_fits, overview_numbers, only}}}
 use Rattle.nntp_said.specs.{Asks.{Ask, ListsIn}, Facts.{Fact}}
 use Rattle.nntp_theory.specs.{Given.{asks_of, is_shown_group, first_given, has_overview_of, fields_of_overview, fields_in}, Inner.Together.{AsksStand}}
 use Rattle.nntp_theory.specs.{Inner.Together.{SaidOfArticle, said_of, said_nothing, join_said, AreSame, JoinArticle}, Together.{denies_group, shows_article}}
@@ -52,7 +52,7 @@ may_give t articles o = option_map_or (λ other. is_same other o.id) (t.ids o.nu
 
 -- it passes, and nothing else is kept of what is told of the article
 abbrev pub MayBeGiven : Told → FinMap (slice_cmp nat_cmp) KeptArticle → OverviewValue → Type 0
-MayBeGiven t articles o = IsTrue (may_give t articles o) × AreSame (Some (fields_told o)) (said_kept (get articles o.id)).fields
+MayBeGiven t articles o = IsTrue (may_give t articles o) × AreSame o.told (said_kept (get articles o.id)).fields
 
 -- the number of an overview may have its id beside what is told of the group, which is shown, the id isn't denied, and nothing else was told of its article
 pub record MayGive (facts : List Fact) (t : Told) (o : OverviewValue) : Type 0 where
@@ -60,7 +60,7 @@ pub record MayGive (facts : List Fact) (t : Told) (o : OverviewValue) : Type 0 w
   pub agree : Agree t.ids t.places (Some (o.number, o.id))
   pub may : MayShow t (Some (o.number, o.id))
   pub free : IsFalse (list_any (denies_article o.id) facts)
-  pub fields : AreSame (Some (fields_told o)) (first_given (fields_in o.id) facts)
+  pub fields : AreSame o.told (first_given (fields_in o.id) facts)
 
 -- ---- of an id
 
@@ -84,7 +84,7 @@ abbrev pub kept_by : OfArticle → KeptArticle
 kept_by Lacks = denied
 kept_by Exists = unsent
 kept_by (Sends what lines) = with_sent unsent (head_sent what lines) (body_sent what lines)
-kept_by (Describes overviews) = telling true (option_map fields_told (only overviews))
+kept_by (Describes overviews) = telling true (option_map_or (λ o. o.told) (only overviews) None)
 
 -- what is said of each id, where of one alone this is
 abbrev pub said_alone : Id → KeptArticle → Id → SaidOfArticle

@@ -1,8 +1,7 @@
 -- When the overviews of a range join what was said (RFC 3977, section 8.3).
 use Rattle.std.specs.{Prelude.{ℕ, IsTrue, IsFalse, List, Option, Some}, List.{list_any}}
 use Rattle.nntp_wire.specs.Listing.{OverviewValue}
-use Rattle.nntp_article.specs.{Article.{Parts.{Id}, Fields.{fields_told}}, Session.{Spool.{Name}, Machine.{is_ascending, all_differ, overview_numbers}}}
-use Rattle.nntp_article.specs.Session.Machine.{overview_ids}
+use Rattle.nntp_article.specs.{Article.Parts.{Id}, Session.{Spool.{Name}, Machine.{is_ascending, all_differ, overview_numbers, overview_ids}}}
 use Rattle.nntp_said.specs.Facts.{Fact}
 use Rattle.nntp_theory.specs.{Given.{first_given, id_of_overview, fields_in}, Together.{number_of_overview, denies_article}, Inner.Together.{AreSame}}
 use Rattle.nntp_facts.specs.Inner.Kept.{told, MayShow}
@@ -24,4 +23,4 @@ place_listed overviews id = first_given (number_of_overview id) overviews
 pub record OverviewJoins (facts : List Fact) (name : Name) (o : OverviewValue) : Type 0 where
   pub id : MayShow (told facts name) (Some (o.number, o.id))
   pub free : IsFalse (list_any (denies_article o.id) facts)
-  pub fields : AreSame (Some (fields_told o)) (first_given (fields_in o.id) facts)
+  pub fields : AreSame o.told (first_given (fields_in o.id) facts)

@@ -1,9 +1,9 @@
 -- What a bad answer and accepted ones say, each by itself, as points of conflict are looked for.
 use Rattle.std.specs.Prelude.{◌≡◌, true, false, ◌<◌, ◌||◌, ◌&&◌, ◌==◌, not, ℕ, Bool, List, [], ◌∷◌, ◌++◌, Option, None, Some, option_map, if◌then◌else◌, ◌≢◌}
 use Rattle.std.specs.{Prelude.{◌⊎◌, MatchOption}, List.{AllByRecursion, flat_map}, Option.{option_map_or}, FinMap.{get}}
-use Rattle.nntp_article.specs.{Article.{Parts.{Id}, Fields.{Fields, fields_told, words_in}}, Session.{Spool.{Name}, Machine.{is_same}}}
-use Rattle.nntp_article.specs.{declared.{article.field.Field.{Field}, session.profile.Profile.{Profile}}, Inner.Misfit.{numbers_of}}
-use Rattle.nntp_wire.specs.{Decided.{matches_name}, Listing.{ActiveValue, OverviewValue}}
+use Rattle.nntp_article.specs.{Article.{Parts.{Id}, Fields.{words_in}}, Session.{Spool.{Name}, Machine.{is_same}}, declared.article.field.Field.{Field}}
+use Rattle.nntp_article.specs.{declared.session.profile.Profile.{Profile}, Inner.Misfit.{numbers_of}}
+use Rattle.nntp_wire.specs.{Listing.{Fields, ActiveValue, OverviewValue}, Decided.{matches_name}}
 use Rattle.nntp_said.specs.{Asks.{Ask, Bounds}, Facts.{Fact, group_of}}
 use Rattle.nntp_theory.specs.{Inner.{Together.{IsWellFormed, AgreeWithin, Together, SaidOfArticle, AreSame}, Conflict.{FitsThere}}, Conflict.{Placed, told}}
 use Rattle.nntp_theory.specs.Conflict.{with_group, Point, Number, Count, First, IdOf, PlaceOf, FieldOf, rank, ConflictAt}
@@ -111,12 +111,12 @@ IsFieldOf k id told point = MatchOption point (AreSame told (said_kept (get k.ar
 -- the point is that of one of the overviews
 abbrev pub OneTellsOther : Kept → Point → List OverviewValue → Type 0
 OneTellsOther k point [] = ⊥
-OneTellsOther k point (o ∷ overviews) = IsOtherField k o.id (Some (fields_told o)) point ⊎ OneTellsOther k point overviews
+OneTellsOther k point (o ∷ overviews) = IsOtherField k o.id o.told point ⊎ OneTellsOther k point overviews
 
 -- of none of the overviews anything else is kept; or the point is that of one of them
 abbrev pub IsFieldAmong : Kept → List OverviewValue → Option Point → Type 0
 IsFieldAmong k overviews point =
-    MatchOption point (AllByRecursion (λ o. AreSame (Some (fields_told o)) (said_kept (get k.articles o.id)).fields) overviews)
+    MatchOption point (AllByRecursion (λ o. AreSame o.told (said_kept (get k.articles o.id)).fields) overviews)
     (λ point. OneTellsOther k point overviews)
 
 -- ---- the last answer beside the others

@@ -1,7 +1,8 @@
 -- What the readers of the facts show: the groups with their numbers, and the articles.
 use Rattle.std.specs.{Prelude.{◌≡◌, ℕ, Bool, ◌==◌, List, map, Option}, List.{list_any, AllByRecursion, Sorted.{IsStrictlySortedBy}}, Ordering.{nat_cmp}}
 use Rattle.std.specs.{Cmp.Lexicographic.{slice_cmp}, FinMap.{FinMap, get, entries}}
-use Rattle.nntp_article.specs.{Article.{Parts.{Id, Line}, Fields.{Fields}}, Session.{Spool.{Name}, Machine.{is_same}}}
+use Rattle.nntp_article.specs.{Article.Parts.{Id, Line}, Session.{Spool.{Name}, Machine.{is_same}}}
+use Rattle.nntp_wire.specs.Listing.{Fields}
 use Rattle.nntp_said.specs.Facts.{Fact}
 use Rattle.nntp_theory.specs.{Given.{asks_of, is_shown, is_shown_group, id_shown, is_sent, first_given, head_in, fields_in, body_in}, Together.{shows_article}}
 use Rattle.nntp_theory.specs.Inner.Unseen.{AreUnseen}

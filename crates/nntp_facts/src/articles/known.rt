@@ -1,9 +1,9 @@
 //! What is known of one article.
-ghost use Rattle.std.specs.Prelude.{◌≡◌, ◌↔◌, ◌≢◌, true, None, Some, IsTrue, IfOk, IfSome, MatchOption, option_map};
+ghost use Rattle.std.specs.Prelude.{◌≡◌, ◌↔◌, ◌≢◌, false, true, None, Some, IsTrue, IfOk, IfSome, MatchOption, option_map};
 ghost use Rattle.nntp_article.specs.Article.Fields.{fields_of_head, words_in};
 ghost use Rattle.nntp_article.specs.Inner.Fields.{AreWords};
 ghost use Rattle.nntp_theory.specs.Inner.Together.{AreSame};
-ghost use Rattle.nntp_facts.specs.Inner.Articles.{MayBeSent, MayBeTold, telling, with_sent, with_told};
+ghost use Rattle.nntp_facts.specs.Inner.Articles.{MayBeSent, MayBeTold, with_sent, with_told};
 ghost use Rattle.nntp_facts.specs.Inner.Kept.{IsAddedIf};
 ghost use Rattle.nntp_facts.specs.Inner.ArticleView.{fields_held, fields_kept, known_article, lines_held, of_parts};
 
@@ -270,23 +270,22 @@ impl<A: Allocator + Copy> KnownArticle<A> {
 }
 
 impl<A: Allocator + Copy> KnownArticle<A> {
-    /// Holds what an overview tells, if it may tell it, and tells whether it may. `is_sent` where no range was asked for.
+    /// Holds what an overview tells, if it tells of headers and may tell it, and tells whether it may. `is_sent` where no
+    /// range was asked for.
     pub(crate) fn note_told(
         &mut self,
         alloc: A,
-        told: Fields<'_>,
+        told: Option<Fields<'_>>,
         is_sent: bool,
     ) -> Result<bool, AllocError>
-        requires { AreWords told }
+        requires { IfSome told AreWords }
         ensures { IfOk result (λ may. IsAddedIf (MayBeTold (known_article self.old) told.entry)
             (λ article. article ≡ with_told (known_article self.old) is_sent told.entry) (known_article self.old) (known_article self.new) may) }
     {
-        if self.fields().is_none() {
-            *self = mem::replace(self, KnownArticle::Unsent).with_told(alloc, told, is_sent)?;
-            return Ok(true);
-        }
-        if self.other_field(told).is_some() {
-            return Ok(false);
+        if let Some(told) = told {
+            if !self.hold_told(alloc, told)? {
+                return Ok(false);
+            }
         }
         if is_sent {
             *self = mem::replace(self, KnownArticle::Unsent).named();
@@ -294,36 +293,33 @@ impl<A: Allocator + Copy> KnownArticle<A> {
         Ok(true)
     }
 
+    /// Holds what an overview tells of headers, if it may tell it, and tells whether it may.
+    fn hold_told(&mut self, alloc: A, told: Fields<'_>) -> Result<bool, AllocError>
+        requires { AreWords told }
+        ensures { IfOk result (λ may. IsAddedIf (MayBeTold (known_article self.old) (Some told.entry))
+            (λ article. article ≡ with_told (known_article self.old) false (Some told.entry)) (known_article self.old) (known_article self.new) may) }
+    {
+        if self.fields().is_none() {
+            *self = mem::replace(self, KnownArticle::Unsent).with_told(alloc, told)?;
+            return Ok(true);
+        }
+        Ok(self.other_field(told).is_none())
+    }
+
     /// Returns what is known once a first overview tells this of an article of which no head was sent.
-    fn with_told(
-        self,
-        alloc: A,
-        told: Fields<'_>,
-        is_sent: bool,
-    ) -> Result<KnownArticle<A>, AllocError>
+    fn with_told(self, alloc: A, told: Fields<'_>) -> Result<KnownArticle<A>, AllocError>
         requires { AreWords told }
         ensures { IfOk result (λ article. (known_article self).fields ≡ None
-            → known_article article ≡ with_told (known_article self) is_sent told.entry) }
+            → known_article article ≡ with_told (known_article self) false (Some told.entry)) }
     {
         let told = Box::new(alloc, ToldFields::of(alloc, told)?)?;
         match self {
-            KnownArticle::Unsent => Ok(KnownArticle::first_told(told, is_sent)),
+            KnownArticle::Unsent => Ok(KnownArticle::Listed(told)),
             KnownArticle::Named => Ok(KnownArticle::Told(told)),
             KnownArticle::Body(body) => {
                 KnownArticle::of_parts(alloc, None, Some(told), Some(body))
             }
             other => Ok(other),
-        }
-    }
-
-    /// Returns what is known of an article of which overviews alone told this.
-    fn first_told(told: Box<ToldFields<A>, A>, is_sent: bool) -> KnownArticle<A>
-        ensures { known_article result ≡ telling is_sent (Some told.value) }
-    {
-        if is_sent {
-            KnownArticle::Told(told)
-        } else {
-            KnownArticle::Listed(told)
         }
     }
 

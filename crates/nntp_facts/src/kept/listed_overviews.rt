@@ -5,12 +5,11 @@ ghost use Rattle.std.specs.FinMap.{get};
 ghost use Rattle.nntp_wire.specs.declared.range.Range.{Range};
 ghost use Rattle.nntp_wire.specs.Listing.{overviews_of};
 ghost use Rattle.nntp_wire.specs.Inner.View.{overview_value};
-ghost use Rattle.nntp_article.specs.Article.Fields.{fields_told};
 ghost use Rattle.nntp_article.specs.Article.Parts.{Id};
-ghost use Rattle.nntp_article.specs.Inner.Fields.{AreWords};
+ghost use Rattle.nntp_article.specs.Inner.Fields.{TellsWords};
 ghost use Rattle.nntp_article.specs.Session.Spool.{Name};
 ghost use Rattle.nntp_said.specs.Facts.{Fact};
-ghost use Rattle.nntp_theory.specs.Inner.Together.{IsWellFormed, Join, Together, join_said, said_of};
+ghost use Rattle.nntp_theory.specs.Inner.Together.{AreSame, IsWellFormed, Join, Together, join_said, said_of};
 ghost use Rattle.nntp_facts.specs.Inner.Articles.{telling};
 ghost use Rattle.nntp_facts.specs.Inner.Kept.{AreAdded, AreKept, AreKeptArticles, AreKeptWith, IsKept, Told, said_kept};
 ghost use Rattle.nntp_facts.specs.Inner.KeptSaying.{IsSaidKept, MayBeGiven, MayGive, MayListOf, may_give, said_alone, said_listed, with_overviews};
@@ -86,18 +85,18 @@ impl<A: Allocator + Copy> Kept<A> {
     /// Adds that the number of the overview has its id in the group, and that this has an article, which tells the same. After
     /// an error the value says nothing of use.
     fn give(&mut self, name: &[u8], overview: OverviewLine<'_>) -> Result<(), AllocError>
-        requires { AreWords (fields_told (overview_value overview)) }
+        requires { TellsWords (overview_value overview) }
         ensures names { self.new.names ≡ self.old.names }
         ensures kept { OnOk result ((facts : List Fact) (tells : Name → Told) → AreKept tells self.old.groups → AreKeptArticles facts self.old.articles
             → MayGive facts (tells name.now) (overview_value overview.entry)
             → AreKeptWith tells name.now [] (Some (overview.entry.number, overview.entry.id)) self.new.groups
-            × IsSaidKept facts (said_alone overview.entry.id (telling false (Some (fields_told (overview_value overview.entry))))) self.new.articles) }
+            × IsSaidKept facts (said_alone overview.entry.id (telling false (overview_value overview.entry).told)) self.new.articles) }
     {
         let number = overview.number;
         let id = overview.id.as_str();
         let added = self
             .articles
-            .tell(id, Fields::of_overview(overview), false)?;
+            .tell(id, Fields::of_overview(&overview), false)?;
         self.groups
             .add(&GroupPart::of_id(name, number, id), added.text())
     }
@@ -124,11 +123,20 @@ impl<A: Allocator> Kept<A> {
         ensures { (tells : Name → Told) → AreKept tells self.now.groups
             → IsTrue result ↔ MayBeGiven (tells name.now) self.now.articles (overview_value overview.entry) }
     {
-        self.may_place(name, &overview)
-            && self
+        self.may_place(name, &overview) && self.may_tell(&overview)
+    }
+
+    /// Tells whether nothing else was told of the article of the overview.
+    fn may_tell(&self, overview: &OverviewLine<'_>) -> bool
+        ensures { IsTrue result ↔ AreSame (overview_value overview.now).told (said_kept (get self.now.articles overview.now.id)).fields }
+    {
+        match Fields::of_overview(overview) {
+            Some(told) => self
                 .articles
-                .other_field(overview.id.as_str(), Fields::of_overview(overview))
-                .is_none()
+                .other_field(overview.id.as_str(), told)
+                .is_none(),
+            None => true,
+        }
     }
 
     /// Tells whether the number of the overview may have its id in the group, and this isn't denied.

@@ -18,7 +18,7 @@ pub record Fed : Type 0 where
   pub counts : OctetCounts
   pub has_failed : Bool
 
--- nothing has come yet, and OVER and XOVER are taken so
+-- nothing has come yet, and overviews are taken so
 abbrev pub unfed : Overviews → Fed
 unfed overviews = record { index = 0; client = record { octets = []; overviews = overviews }; server = []; is_closed = false; counts = record { client = 0; server = 0 }; has_failed = false }
 

@@ -1,10 +1,10 @@
-//! The comparison of the overviews that OVER or XOVER lists with the articles of a spool, and with a group of it where
-//! they are those of a range (RFC 3977, section 8.3).
-ghost use Rattle.std.specs.Prelude.{◌≡◌, ◌↔◌, IsTrue};
+//! The comparison of the overviews that OVER, XOVER, HDR or XHDR lists with the articles of a spool, and with a group of it where
+//! they are those of a range (RFC 3977, sections 8.3 and 8.5).
+ghost use Rattle.std.specs.Prelude.{◌≡◌, ◌↔◌, IfSome, IsTrue};
 ghost use Rattle.std.specs.List.{AllByRecursion};
 ghost use Rattle.nntp_wire.specs.Inner.View.{overview_value};
 ghost use Rattle.nntp_wire.specs.Listing.{overviews_of};
-ghost use Rattle.nntp_article.specs.Article.Fields.{fields_of_head, fields_told};
+ghost use Rattle.nntp_article.specs.Article.Fields.{fields_of_head};
 ghost use Rattle.nntp_article.specs.Session.Spool.{numbers as numbers_of};
 ghost use Rattle.nntp_article.specs.Session.Machine.{HasOverview, ListsOverviews};
 ghost use Rattle.nntp_article.specs.Inner.Listed.{lists};
@@ -82,17 +82,18 @@ fn has_overview<A: Allocator>(spool: &Content<A>, overview: OverviewLine<'_>) ->
     ensures { IsTrue result ↔ HasOverview spool.now (overview_value overview.entry) }
 {
     match spool.article(overview.id.as_str()) {
-        Some(article) => tells_fields(article, overview),
+        Some(article) => tells_fields(article, &overview),
         None => false,
     }
 }
 
-/// Tells whether the head of the article tells of four headers what the overview does.
-fn tells_fields<A: Allocator>(article: &StoredArticle<A>, overview: OverviewLine<'_>) -> bool
-    ensures { IsTrue result ↔ (fields_of_head (text_stored article.now).head ≡ fields_told (overview_value overview.entry)) }
+/// Tells whether the head of the article tells of four headers what the overview does, if this does.
+fn tells_fields<A: Allocator>(article: &StoredArticle<A>, overview: &OverviewLine<'_>) -> bool
+    ensures { IsTrue result ↔ IfSome (overview_value overview.now).told (λ fields. fields_of_head (text_stored article.now).head ≡ fields) }
 {
+    let Some(told) = Fields::of_overview(overview) else {
+        return true;
+    };
     let head = article.head.as_ref().as_block();
-    Fields::of_head(&head)
-        .first_difference(Fields::of_overview(overview))
-        .is_none()
+    Fields::of_head(&head).first_difference(told).is_none()
 }

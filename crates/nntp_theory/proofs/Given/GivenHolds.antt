@@ -3,22 +3,22 @@ use Rattle.std.proofs.Common.{◌≡◌, ℕ, ◌+◌, ◌<◌, ◌⊎◌, true,
 use Rattle.std.proofs.{Common.{ap, subst, ◌∙◌, arith}, lemmas.{Bool.{true≢false, false_from_ne_true, eqb-true}, List.Elements.{All-from_recursion}}}
 use Rattle.std.specs.{Prelude.{IsFalse, IfSome, IsSome, unwrap_or}, List.{AllByRecursion, list_any}, FinMap.{get, empty, entries, get-entries, get-empty}}
 use Rattle.std.specs.FinMap.{nat_cmp-IsAntisymmetric, slice_cmp-IsAntisymmetric}
-use Rattle.nntp_article.specs.Article.{Parts.{head_part, body_part, is_empty, Id, Line}, Fields.{Fields, fields_of_head, fields_told, made_head}}
-use Rattle.nntp_article.specs.Session.{Spool.{Spool, Text, Numbers, IsNumber, IsGroup, numbers, text_of, Lists, Name}, Machine.{is_same, overview_numbers}}
-use Rattle.nntp_article.specs.{Session.Machine.{head_fits, active_fits, ActivesAgree, HasOverview}, Inner.Fields.{AreWords}}
-use Rattle.nntp_article.{specs.declared.session.profile.Profile.{Profile}, proofs.ArticleLemmas.FieldLemmas.{made_tells}}
+use Rattle.nntp_article.specs.{Article.{Parts.{head_part, body_part, is_empty, Id, Line}, Fields.{fields_of_head, made_head}}, Session.Spool.{Spool, Text}}
+use Rattle.nntp_article.specs.Session.{Spool.{Numbers, IsNumber, IsGroup, numbers, text_of, Lists, Name}, Machine.{is_same, overview_numbers, head_fits}}
+use Rattle.nntp_article.specs.{Session.Machine.{active_fits, ActivesAgree, HasOverview}, Inner.Fields.{AreWords}, declared.session.profile.Profile.{Profile}}
+use Rattle.nntp_article.proofs.ArticleLemmas.FieldLemmas.{made_tells}
+use Rattle.nntp_wire.specs.{Listing.{Fields, ActiveValue, OverviewValue}, declared.{range.Range.{Range}, command.What.{What}, marks.Marks.{Marks}}}
+use Rattle.nntp_wire.{specs.{Name.{IsMessageId}, Wildmat.{MatchesName}}, proofs.OptionLemmas.{none_of, some_is}}
 use Rattle.nntp_said.specs.{Asks.{Meets, Bounds}, Facts.{Fact, Holds, ThereIs, ThereIsNo, Asks, IdAt, TextIs, NoArticle, FieldsAre, OverviewsAre, GroupsAre}}
 use Rattle.nntp_theory.specs.Given.{asks_in, asks_of, shows_group, id_in, id_shown, first_given, mentions, is_mentioned, gives_article, head_in}
 use Rattle.nntp_theory.specs.{Given.{fields_of_overview, fields_in, body_in, invented, unshown_in, unshown_ids, IsGiven}, Inner.Together.{IsProperOverview}}
 use Rattle.nntp_theory.specs.{Inner.Together.{IsWellFormed, TellsOwn, AgreesWithItself, Together}, Together.{denies_group, number_in, shows_article}}
-use Rattle.nntp_theory.{specs.Together.{denies_article, GiveOne}, proofs.Members.{In, all_at, all_part, all_from, any_in, found_in, in_map, from_map}}
-use Rattle.nntp_theory.proofs.{Members.{contains_in, in_contains, first_found}, GivenNumbers.{LeastNumber.{not_number}, GivenNumbersMeet.{given_meet}}}
-use Rattle.nntp_theory.proofs.Together.{ListedOverviews.{overview_at}, FactsOfASpoolStand.{same_itself, in_listed, matching}}
-use Rattle.nntp_theory.proofs.{Session.{NumbersOfShownGroups.{IsSelectable, Placed}, FittingFacts.{IsFitting}}, Ids.InventedIds.{invented_number}}
-use Rattle.nntp_theory.proofs.Ids.NumbersOfInventedIds.{Numbered, numbered, of_numbered, part_numbered, unshown_there, unshown_apart, mentioned}
-use Rattle.nntp_theory.proofs.Maps.{entry_in}
-use Rattle.nntp_wire.specs.{Listing.{ActiveValue, OverviewValue}, declared.{range.Range.{Range}, command.What.{What}, marks.Marks.{Marks}}, Name.{IsMessageId}}
-use Rattle.nntp_wire.{specs.Wildmat.{MatchesName}, proofs.OptionLemmas.{none_of, some_is}}
+use Rattle.nntp_theory.{specs.Together.{denies_article, GiveOne}, proofs.Members.{if_some, at_some, In, all_at, all_part, all_from, any_in, found_in, in_map}}
+use Rattle.nntp_theory.proofs.{Members.{from_map, contains_in, in_contains, first_found}, GivenNumbers.LeastNumber.{not_number}}
+use Rattle.nntp_theory.proofs.{GivenNumbers.GivenNumbersMeet.{given_meet}, Together.{ListedOverviews.{overview_at}, FactsOfASpoolStand.{same_itself}}}
+use Rattle.nntp_theory.proofs.{Together.FactsOfASpoolStand.{in_listed, matching}, Session.NumbersOfShownGroups.{IsSelectable, Placed}}
+use Rattle.nntp_theory.proofs.{Session.FittingFacts.{IsFitting}, Ids.{InventedIds.{invented_number}, NumbersOfInventedIds.{Numbered, numbered, of_numbered}}}
+use Rattle.nntp_theory.proofs.{Ids.NumbersOfInventedIds.{part_numbered, unshown_there, unshown_apart, mentioned}, Maps.{entry_in}}
 
 -- an id at a number is one of the entries
 pub entry_of_number : (N : Numbers) (n : ℕ) (id : Id) → get N n ≡ Some id → In (n, id) (entries N)
@@ -178,8 +178,11 @@ module _ (profile : Profile) (B : ℕ) (G : Spool) (facts : List Fact) (s : Sett
       → AllByRecursion IsProperOverview os → (o : OverviewValue) → In o os → IsSome (get G.articles o.id) → HasOverview G o
   overview_tells os fact i is own proper o j there =
       let t = some_is (get G.articles o.id) there in
-      let told = one_given (fields_in o.id) facts (s.together.fields o.id) fact i (fields_told o) (is o.id ∙ all_at (TellsOwn os) o os own j) in
-      grind (arith, t.1, fields_are o.id t.0 (fields_told o) t.1 told (all_at IsProperOverview o os proper j).1)
+      let tells = if_some o.told (λ fields. fields_of_head t.0.head ≡ fields) (λ fields e.
+      let own = at_some (λ fields. first_given (fields_of_overview o.id) os ≡ Some fields) o.told fields e (all_at (TellsOwn os) o os own j) in
+      let told = one_given (fields_in o.id) facts (s.together.fields o.id) fact i fields (is o.id ∙ own) in
+      fields_are o.id t.0 fields t.1 told (at_some AreWords o.told fields e (all_at IsProperOverview o os proper j).1)) in
+      grind (arith, t.1, tells)
 
   -- an overview that was sent is G's, where its number is one
   overview_holds : (name : Name) (r : Range) (os : List OverviewValue) → In (OverviewsAre name r os) facts → Lists (numbers G name) r (overview_numbers os)

@@ -1,18 +1,19 @@
 -- The spool that is given is a spool.
 use Rattle.nntp_said.specs.{Asks.{Ask}, Facts.{Fact, TextIs, FieldsAre, OverviewsAre}}
-use Rattle.nntp_theory.proofs.{Members.{if_some, In, all_at, all_both, any_in, found_in, first_found, none_there}, GivenNumbers.MetNumbersStand.{some_counted}}
-use Rattle.nntp_theory.proofs.{Together.{FewEnough.{within_one}, ListedOverviews.{told_by}}, Given.{ShownNames.{shown_named}, GivenHolds.{Setting, one_given}}}
-use Rattle.nntp_theory.proofs.{Given.GivenHolds.{group_of_number, id_cases, shown_at, unshown_once}, Ids.MadeHead.{made_says_id, made_head_is_head}}
-use Rattle.nntp_theory.proofs.{Ids.MadeHead.{made_is_clean}, Session.{FittingFacts.{IsFitting}, NumbersWithinLimit.{free_in_limit, shown_in_limit}}}
-use Rattle.nntp_theory.{proofs.Session.NumbersWithinLimit.{end_in_limit}, specs.Given.{mentions, is_mentioned, gives_article, id_shown, first_given, head_in}}
-use Rattle.nntp_theory.specs.{Given.{fields_in, asks_of}, Inner.Together.{IsProperOverview, IsWellFormed}, Together.{number_in, IsFewFor}}
+use Rattle.nntp_theory.proofs.Members.{if_some, at_some, In, all_at, all_both, any_in, found_in, first_found, none_there}
+use Rattle.nntp_theory.proofs.{GivenNumbers.MetNumbersStand.{some_counted}, Together.{FewEnough.{within_one}, ListedOverviews.{told_by}}}
+use Rattle.nntp_theory.proofs.Given.{ShownNames.{shown_named}, GivenHolds.{Setting, one_given, group_of_number, id_cases, shown_at, unshown_once}}
+use Rattle.nntp_theory.proofs.{Ids.MadeHead.{made_says_id, made_head_is_head, made_is_clean}, Session.FittingFacts.{IsFitting}}
+use Rattle.nntp_theory.{proofs.Session.NumbersWithinLimit.{free_in_limit, shown_in_limit, end_in_limit}, specs.Given.{mentions, is_mentioned, gives_article}}
+use Rattle.nntp_theory.specs.{Given.{id_shown, first_given, head_in, fields_in, asks_of}, Inner.Together.{IsProperOverview, IsWellFormed}, Together.{number_in}}
+use Rattle.nntp_theory.specs.Together.{IsFewFor}
 use Rattle.std.specs.{Prelude.{option_map, unwrap_or}, List.{AllByRecursion}, Option.{option_map_or}, FinMap.{get, len}, Cmp.Lexicographic.{same_text}}
 use Rattle.std.proofs.Common.{◌≡◌, ℕ, ◌≤◌, true, IsTrue, List, ◌∷◌, ◌++◌, ◌∙◌, Option, None, Some, is_some, IsSome, inl, inr, refl, sym, ap, subst, arith}
 use Rattle.std.proofs.lemmas.{Bool.{true≢false, and_parts, or_cases}, List.Elements.{All-from_recursion}}
-use Rattle.nntp_article.specs.Article.{Parts.{is_head, said_id, head_part, body_part, Id, Line}, Fields.{Fields, fields_of_head, made_head}}
-use Rattle.nntp_article.specs.{Inner.Fields.{AreWords}, Session.{Spool.{Spool, Text, IsNumber, numbers, IsSpool, Name, is_line}, Machine.{is_same}}}
-use Rattle.nntp_article.specs.{Session.Machine.{says_own_id}, declared.session.profile.Profile.{Profile}}
-use Rattle.nntp_wire.specs.Name.{IsMessageId}
+use Rattle.nntp_article.specs.{Article.{Parts.{is_head, said_id, head_part, body_part, Id, Line}, Fields.{fields_of_head, made_head}}, Inner.Fields.{AreWords}}
+use Rattle.nntp_article.specs.Session.{Spool.{Spool, Text, IsNumber, numbers, IsSpool, Name, is_line}, Machine.{is_same, says_own_id}}
+use Rattle.nntp_article.specs.declared.session.profile.Profile.{Profile}
+use Rattle.nntp_wire.specs.{Listing.{Fields}, Name.{IsMessageId}}
 
 -- a head for an id, without lines that hold NUL, CR or LF, and it says no other id
 record IsHeadOf (id : Id) (head : List Line) : Type 0 where
@@ -94,8 +95,8 @@ module _ (profile : Profile) (B : ℕ) (G : Spool) (facts : List Fact) (s : Sett
 
   -- what is told of an id, if no head is sent, are words
   told_words : (id : Id) (fact : Fact) (fields : Fields) → IsWellFormed fact → head_in id fact ≡ None → fields_in id fact ≡ Some fields → AreWords fields
-  told_words id (FieldsAre os) fields h none e = let f = told_by os id fields e in subst AreWords f.told (all_at IsProperOverview f.overview os h f.there).1
-  told_words id (OverviewsAre name r os) fields h none e = let f = told_by os id fields e in subst AreWords f.told (all_at IsProperOverview f.overview os h f.there).1
+  told_words id (FieldsAre os) fields h none e = let f = told_by os id fields e in at_some AreWords f.overview.told fields f.told (all_at IsProperOverview f.overview os h f.there).1
+  told_words id (OverviewsAre name r os) fields h none e = let f = told_by os id fields e in at_some AreWords f.overview.told fields f.told (all_at IsProperOverview f.overview os h f.there).1
   told_words id fact fields h none e = let nothing : None ≡ Some fields = sym (ap (option_map fields_of_head) none) ∙ e in cc
 
   -- a head that is made is one

@@ -1,10 +1,10 @@
 -- A head that says an id, and what is told of four headers.
 use Rattle.std.proofs.Common.{◌≡◌, ℕ, true, ◌&&◌, IsTrue, List, [], ◌∷◌, ◌++◌, length, Option, Some, None, refl, ap, ◌∙◌, arith, append-nil}
 use Rattle.std.{proofs.lemmas.Bool.{and_from, and_parts}, specs.{Prelude.{nat_le, codes, nat_lt, IfSome}, List.{list_all, AllByRecursion}}}
-use Rattle.nntp_article.specs.Article.{Parts.{Header, is_head, only_id, said_id, skip_blanks, skip_last_blanks, content_of, Id}, Fields.{Fields, made_head}}
+use Rattle.nntp_article.specs.Article.{Parts.{Header, is_head, only_id, said_id, skip_blanks, skip_last_blanks, content_of, Id}, Fields.{made_head}}
 use Rattle.nntp_article.{specs.{Session.Spool.{is_line}, Inner.Fields.{AreWords}}, proofs.ArticleLemmas.FieldLemmas.{made_says, made_is_head}}
 use Rattle.nntp_article.proofs.ArticleLemmas.FieldLemmas.{field_lines_are_lines}
-use Rattle.nntp_wire.{specs.{Decided.{is_id_octet, begins_id}, Name.{IsMessageId}, Octets.{is_clean}}, proofs.DecidedLemmas.{message_id-iff}}
+use Rattle.nntp_wire.{specs.{Listing.{Fields}, Decided.{is_id_octet, begins_id}, Name.{IsMessageId}, Octets.{is_clean}}, proofs.DecidedLemmas.{message_id-iff}}
 
 -- octets of an id make a line
 all_clean : (cs : List ℕ) → list_all is_id_octet cs ≡ true → (is_clean cs ≡ true) × (list_all (λ c. nat_lt c 256) cs ≡ true)

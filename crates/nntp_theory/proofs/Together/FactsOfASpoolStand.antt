@@ -1,6 +1,6 @@
 -- What holds of a spool stands together.
-use Rattle.nntp_theory.proofs.Members.{if_some, first_is, In, all_at, all_front, all_back, all_both, all_from, any_in, found_in, in_map, from_map, contains_in}
-use Rattle.nntp_theory.proofs.{Members.{in_contains, first_found, first_there}, Together.ListedOverviews.{overview_at, overview_of, told_by}}
+use Rattle.nntp_theory.proofs.Members.{if_some, at_some, first_is, In, all_at, all_front, all_back, all_both, all_from, any_in, found_in, in_map, from_map}
+use Rattle.nntp_theory.proofs.{Members.{contains_in, in_contains, first_found, first_there}, Together.ListedOverviews.{overview_at, overview_of, told_by}}
 use Rattle.nntp_theory.{proofs.GivenNumbers.{MetNumbersStand.{asks_stand}, AskedOfAGroup.{met_by_facts}}, specs.Given.{asks_of, shows_group, is_shown_group}}
 use Rattle.nntp_theory.specs.Given.{first_given, id_of_overview, id_in, id_shown, has_overview_of, head_in, fields_of_overview, fields_in, body_in}
 use Rattle.nntp_theory.specs.{Inner.Together.{IsProperOverview, IsWellFormed, TellsOwn, AgreesWithItself, Together}, Together.{denies_group}}
@@ -9,12 +9,12 @@ use Rattle.std.proofs.Common.{◌≡◌, ℕ, ◌↔◌, Bool, true, cond, IsTru
 use Rattle.std.proofs.{Common.{arith}, lemmas.Bool.{true≢false, and_parts, eqb-true, eq-eqb, false_from_ne_true, not-true}}
 use Rattle.std.{proofs.lemmas.List.Elements.{recursion_from_All}, specs.{Prelude.{IfSome, option_map}, List.{AllByRecursion, list_any}, Option.{option_map_or}}}
 use Rattle.std.specs.{Cmp.Lexicographic.{same_text, nat_list_eq_equiv}, FinMap.{get}}
-use Rattle.nntp_article.specs.{Article.{Parts.{Line, Id, head_part, body_part}, Fields.{Fields, fields_of_head, fields_told}}, Session.Spool.{Spool, Text}}
-use Rattle.nntp_article.specs.Session.{Spool.{IsGroup, numbers, IsSpool, HasText, text_of, is_line, Name}, Machine.{is_same, HasOverview}}
-use Rattle.nntp_article.{specs.Inner.Fields.{AreWords}, proofs.ArticleLemmas.{HeadHasNoEmptyLine.{parts}, WordsOfLines.{head_has_words}}}
-use Rattle.nntp_said.specs.Facts.{Fact, Holds, ThereIs, ThereIsNo, IdAt, TextIs, NoArticle, FieldsAre, OverviewsAre, GroupsAre}
-use Rattle.nntp_wire.specs.{Listing.{ActiveValue, OverviewValue}, Wildmat.{MatchesName}, Decided.{matches_name}, Name.{IsGroupName}}
+use Rattle.nntp_article.specs.{Article.{Parts.{Line, Id, head_part, body_part}, Fields.{fields_of_head}}, Session.Spool.{Spool, Text, IsGroup, numbers}}
+use Rattle.nntp_article.specs.{Session.{Spool.{IsSpool, HasText, text_of, is_line, Name}, Machine.{is_same, HasOverview}}, Inner.Fields.{AreWords}}
+use Rattle.nntp_article.proofs.ArticleLemmas.{HeadHasNoEmptyLine.{parts}, WordsOfLines.{head_has_words}}
+use Rattle.nntp_wire.specs.{Listing.{Fields, ActiveValue, OverviewValue}, Wildmat.{MatchesName}, Decided.{matches_name}, Name.{IsGroupName}}
 use Rattle.nntp_wire.{specs.declared.command.What.{What, TheVariants.{Article}}, proofs.DecidedLemmas.{matches_name-iff}}
+use Rattle.nntp_said.specs.Facts.{Fact, Holds, ThereIs, ThereIsNo, IdAt, TextIs, NoArticle, FieldsAre, OverviewsAre, GroupsAre}
 
 -- a text is the same as itself
 pub same_itself : (xs : List ℕ) → is_same xs xs ≡ true
@@ -79,7 +79,7 @@ module _ (limit : ℕ) (S : Spool) (facts : List Fact) (spool : IsSpool limit S)
   article_of what id lines h = grind arith
 
   -- the article of an overview
-  overview_text : (o : OverviewValue) → HasOverview S o → (t : Text) × (get S.articles o.id ≡ Some t) × (fields_of_head t.head ≡ fields_told o)
+  overview_text : (o : OverviewValue) → HasOverview S o → (t : Text) × (get S.articles o.id ≡ Some t) × IfSome o.told (λ fields. fields_of_head t.head ≡ fields)
   overview_text o h = grind (arith)
 
   -- the id of one of the overviews has an article
@@ -187,7 +187,8 @@ module _ (limit : ℕ) (S : Spool) (facts : List Fact) (spool : IsSpool limit S)
   proper o h =
       let t = overview_text o h in
       let whole = recursion_from_All (λ line. IsTrue (is_line line)) (t.0.head ++ t.0.body) (spool.heads o.id t.0 t.1).1 in
-      (spool.ids o.id (ap is_some t.1), subst AreWords t.2 (head_has_words t.0.head (all_front (λ line. IsTrue (is_line line)) t.0.head t.0.body whole)))
+      let words = head_has_words t.0.head (all_front (λ line. IsTrue (is_line line)) t.0.head t.0.body whole) in
+      (spool.ids o.id (ap is_some t.1), if_some o.told AreWords (λ fields e. subst AreWords (at_some (λ fields. fields_of_head t.0.head ≡ fields) o.told fields e t.2) words))
 
   -- names, ids and lines are S's
   well_formed : (fact : Fact) → Holds S fact → IsWellFormed fact
@@ -202,10 +203,11 @@ module _ (limit : ℕ) (S : Spool) (facts : List Fact) (spool : IsSpool limit S)
   -- overviews tell of an id what its article tells
   fields_given : (os : List OverviewValue) → AllByRecursion (HasOverview S) os → (o : OverviewValue) → In o os → TellsOwn os o
   unfolding HasFields
-  fields_given os h o i =
-      let z = first_there (fields_of_overview o.id) os o (fields_told o) i (grind (arith, same_itself)) in
+  fields_given os h o i = if_some o.told _ (λ fields e.
+      let z = first_there (fields_of_overview o.id) os o fields i (grind (arith, same_itself)) in
       let t = overview_text o (all_at (HasOverview S) o os h i) in
-      z.1 ∙ ap Some (fields_once o.id z.0 (fields_told o) (fields_by_overviews o.id z.0 os h z.1) t)
+      let tells = at_some (λ fields. fields_of_head t.0.head ≡ fields) o.told fields e t.2 in
+      z.1 ∙ ap Some (fields_once o.id z.0 fields (fields_by_overviews o.id z.0 os h z.1) (t.0, t.1, tells)))
 
   -- overviews agree with one another, as S has one id at a number, and one number for an id
   agrees_with_itself : (fact : Fact) → Holds S fact → AgreesWithItself fact

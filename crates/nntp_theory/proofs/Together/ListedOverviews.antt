@@ -1,12 +1,11 @@
 -- What overviews of a range give: an id at a number, a number for an id.
-use Rattle.std.proofs.{Common.{◌≡◌, ℕ, true, cond, IsTrue, List, [], ◌∷◌, Some, None, inl, inr, refl, arith}, lemmas.Bool.{and_parts, eqb-true, not-true}}
-use Rattle.std.specs.Cmp.Lexicographic.{same_text, nat_list_eq_equiv}
-use Rattle.nntp_wire.specs.{Listing.{OverviewValue}, declared.range.Range.{Range}}
-use Rattle.nntp_article.specs.{Article.{Parts.{Id}, Fields.{Fields, fields_told}}, Session.{Spool.{Name}, Machine.{is_same, is_ascending, all_differ}}}
-use Rattle.nntp_article.specs.Session.Machine.{overview_numbers, overview_ids}
+use Rattle.std.proofs.{Common.{◌≡◌, ℕ, true, cond, IsTrue, List, [], ◌∷◌, Option, Some, None, inl, inr, refl, arith}, lemmas.Bool.{and_parts, eqb-true}}
+use Rattle.std.{proofs.lemmas.Bool.{not-true}, specs.Cmp.Lexicographic.{same_text, nat_list_eq_equiv}}
+use Rattle.nntp_wire.specs.{Listing.{OverviewValue, Fields}, declared.range.Range.{Range}}
+use Rattle.nntp_article.specs.{Article.Parts.{Id}, Session.{Spool.{Name}, Machine.{is_same, is_ascending, all_differ, overview_numbers, overview_ids}}}
 use Rattle.nntp_said.specs.Facts.{FieldsAre, OverviewsAre}
-use Rattle.nntp_theory.specs.{Given.{first_given, id_of_overview, id_in, fields_of_overview}, Together.{number_in}, Inner.Together.{AgreesWithItself}}
-use Rattle.nntp_theory.proofs.Members.{In, all_from, in_map, each_of, first_found}
+use Rattle.nntp_theory.specs.{Given.{first_given, id_of_overview, id_in, fields_of_overview}, Together.{number_in}, Inner.Together.{TellsOwn, AgreesWithItself}}
+use Rattle.nntp_theory.proofs.Members.{In, all_from, in_map, each_of, first_found, if_some}
 
 -- ---- what is given, one of them has
 
@@ -31,7 +30,7 @@ pub record TellsOf (os : List OverviewValue) (id : Id) (fields : Fields) : Type 
   pub overview : OverviewValue
   pub there : In overview os
   pub same_id : overview.id ≡ id
-  pub told : fields_told overview ≡ fields
+  pub told : overview.told ≡ Some fields
 
 pub told_by : (os : List OverviewValue) (id : Id) (fields : Fields) → first_given (fields_of_overview id) os ≡ Some fields → TellsOf os id fields
 told_by os id fields e = grind (arith, first_found, same_text)
@@ -45,17 +44,20 @@ id_there (p ∷ os) o up (inl e) = grind arith
 id_there (p ∷ os) o up (inr i) = grind (arith, and_parts, each_of, in_map, id_there os o)
 
 -- where ids differ, the first overview with the id of one is that one
-own_there : {A : Type 0} (says : OverviewValue → A) (os : List OverviewValue) (o : OverviewValue) → IsTrue (all_differ (overview_ids os)) → In o os
-    → first_given (λ p. cond (is_same p.id o.id) (Some (says p)) None) os ≡ Some (says o)
-own_there says [] o differ i = absurd i
-own_there says (p ∷ os) o differ (inl e) = let same : is_same o.id o.id ≡ true = nat_list_eq_equiv.refl o.id in grind (arith, same)
-own_there says (p ∷ os) o differ (inr i) = grind (arith, and_parts, each_of, in_map, not-true, own_there says os o)
+own_there : {A : Type 0} (says : OverviewValue → Option A) (os : List OverviewValue) (o : OverviewValue) (x : A) → says o ≡ Some x → IsTrue (all_differ (overview_ids os))
+    → In o os → first_given (λ p. cond (is_same p.id o.id) (says p) None) os ≡ Some x
+own_there says [] o x is differ i = absurd i
+own_there says (p ∷ os) o x is differ (inl e) = let same : is_same o.id o.id ≡ true = nat_list_eq_equiv.refl o.id in grind (arith, same)
+own_there says (p ∷ os) o x is differ (inr i) = grind (arith, and_parts, each_of, in_map, not-true, own_there says os o x is)
+
+own_fields : (os : List OverviewValue) (o : OverviewValue) → IsTrue (all_differ (overview_ids os)) → In o os → TellsOwn os o
+own_fields os o differ i = if_some o.told _ (λ fields e. own_there (λ o. o.told) os o fields e differ i)
 
 -- so each has its own number, its own id and its own fields
 pub apart_agree : (name : Name) (range : Range) (os : List OverviewValue) → IsTrue (is_ascending (overview_numbers os)) → IsTrue (all_differ (overview_ids os))
     → AgreesWithItself (OverviewsAre name range os)
-apart_agree name range os up differ = all_from _ os (λ o i. (id_there os o up i, own_there (λ o. o.number) os o differ i, own_there fields_told os o differ i))
+apart_agree name range os up differ = all_from _ os (λ o i. (id_there os o up i, own_there (λ o. Some o.number) os o o.number refl differ i, own_fields os o differ i))
 
 -- and one overview alone its own fields
 pub alone_agrees : (o : OverviewValue) → AgreesWithItself (FieldsAre (o ∷ []))
-alone_agrees o = (own_there fields_told (o ∷ []) o refl (inl refl), tt)
+alone_agrees o = (own_fields (o ∷ []) o refl (inl refl), tt)

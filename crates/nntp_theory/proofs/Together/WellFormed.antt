@@ -1,9 +1,9 @@
 -- What octets spell is well formed.
 use Rattle.nntp_wire.specs.{declared.marks.Marks.{Marks}, Octets.{crlf}, Inner.Octets.{are_octets}, Name.{IsGroupName, IsMessageId}, Block.{stuffed, sent}}
 use Rattle.nntp_wire.specs.{Block.{AreClean}, Listing.{OverviewValue, active_groups, overviews_of}, Answer.{Asked, Response, group_is, numbers_are, sends}}
-use Rattle.nntp_wire.specs.Answer.{active_are, plain, Spells, SaysByLines, SaysGroup, SaysNumbers, SaysArticle, SaysActive, SaysOverviews, SaysCapabilities}
-use Rattle.nntp_wire.{specs.Answer.{SaysCode, block_octets, IsCleanBlock, overviews_are}, proofs.{AnswerLemmas.{says-ways}, OctetLemmas.{octets-parts}}}
-use Rattle.nntp_wire.proofs.ListingLemmas.{active_groups-named, overviews_of-named}
+use Rattle.nntp_wire.specs.Answer.{active_are, plain, Spells, SaysByLines, SaysGroup, SaysNumbers, SaysArticle, SaysActive, SaysOverviews, SaysIds}
+use Rattle.nntp_wire.{specs.Answer.{SaysCapabilities, SaysCode, block_octets, IsCleanBlock, overviews_are}, proofs.AnswerLemmas.{says-ways}}
+use Rattle.nntp_wire.proofs.{OctetLemmas.{octets-parts}, ListingLemmas.{active_groups-named, overviews_of-named}}
 use Rattle.std.{proofs.Common.{◌≡◌, ℕ, true, IsTrue, List, [], ◌∷◌, ◌++◌, ◌⊎◌, Option, Some, arith}, specs.{Prelude.{IfSome, ⊤}, List.{AllByRecursion}}}
 use Rattle.nntp_article.specs.{Session.{Spool.{is_line}, Machine.{Visible, only}}, declared.session.profile.Profile.{Profile}}
 use Rattle.nntp_article.proofs.ArticleLemmas.WordsOfLines.{overview_has_words}
@@ -37,8 +37,8 @@ said_proper : (code : ℕ) (bytes : List ℕ) (block : Option (List (List ℕ)))
     → SaysGroup bytes response ⊎ (SaysByLines (SaysNumbers bytes) block response
     ⊎ (SaysArticle code bytes block response
     ⊎ (SaysByLines SaysActive block response
-    ⊎ (SaysByLines SaysOverviews block response
-    ⊎ (SaysByLines (SaysCapabilities code) block response ⊎ SaysCode code response)))))
+    ⊎ (SaysByLines SaysOverviews block response ⊎ (SaysByLines SaysIds block response
+    ⊎ (SaysByLines (SaysCapabilities code) block response ⊎ SaysCode code response))))))
     → IsProper response
 said_proper code bytes block response lines h = grind (arith, active_groups-named, proper_overviews)
 

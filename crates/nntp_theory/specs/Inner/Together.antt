@@ -1,8 +1,8 @@
 -- What is said with the words of `Together.antt`, and needn't be believed.
 use Rattle.std.specs.{Prelude.{◌≡◌, ℕ, Bool, false, ◌||◌, IsTrue, IsFalse, List, ◌++◌, Option, None, Some, IfSome, ⊤}, List.{AllByRecursion, list_any}}
 use Rattle.std.specs.Option.{option_or}
-use Rattle.nntp_wire.specs.{Name.{IsGroupName, IsMessageId}, Listing.{OverviewValue}}
-use Rattle.nntp_article.specs.{Article.{Parts.{Id, Line}, Fields.{Fields, fields_told}}, Session.Spool.{Name, Numbers, is_line}, Inner.Fields.{AreWords}}
+use Rattle.nntp_wire.specs.{Name.{IsGroupName, IsMessageId}, Listing.{OverviewValue, Fields}}
+use Rattle.nntp_article.specs.{Article.Parts.{Id, Line}, Session.Spool.{Name, Numbers, is_line}, Inner.Fields.{TellsWords}}
 use Rattle.nntp_said.specs.{Asks.{Ask}, Facts.{Fact, ThereIs, IdAt, TextIs, FieldsAre, OverviewsAre, GroupsAre}}
 use Rattle.nntp_theory.specs.Given.{demand, is_denied, IsGivenNumber, HasGivenNumbers, asks_of, is_shown_group, first_given, id_of_overview, id_in}
 use Rattle.nntp_theory.specs.{Given.{is_mentioned, is_sent, head_in, fields_of_overview, fields_in, body_in}, Together.{is_possible, MeetsDemand, IsFewFor}}
@@ -21,7 +21,7 @@ pub record AsksStand (asks : List Ask) : Type 0 where
 
 -- the id and the words of the overview are such
 abbrev pub IsProperOverview : OverviewValue → Type 0
-IsProperOverview o = IsMessageId o.id × AreWords (fields_told o)
+IsProperOverview o = IsMessageId o.id × TellsWords o
 
 -- the names, ids and lines of the fact are names, ids and lines
 abbrev pub IsWellFormed : Fact → Type 0
@@ -33,9 +33,9 @@ IsWellFormed (OverviewsAre name range overviews) = AllByRecursion IsProperOvervi
 IsWellFormed (GroupsAre p lines) = AllByRecursion (λ line. IsGroupName line.name) lines
 IsWellFormed fact = ⊤
 
--- for the id of the overview they tell what it tells
+-- for the id of the overview they tell what it tells, if it does
 abbrev pub TellsOwn : List OverviewValue → OverviewValue → Type 0
-TellsOwn overviews o = first_given (fields_of_overview o.id) overviews ≡ Some (fields_told o)
+TellsOwn overviews o = IfSome o.told (λ fields. first_given (fields_of_overview o.id) overviews ≡ Some fields)
 
 -- overviews agree with one another: for the id of each they tell its own fields; and in a range they show at its number its own id, and for its id its own number
 abbrev pub AgreesWithItself : Fact → Type 0

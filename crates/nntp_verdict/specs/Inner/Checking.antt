@@ -13,7 +13,7 @@ use Rattle.nntp_pair.specs.declared.pair_error.PairError.TheVariants as errors
 
 -- ---- what a checker holds
 
--- how OVER and XOVER are taken, the facts of the exchanges that passed, how many answers each session has that ended, and
+-- how overviews are taken, the facts of the exchanges that passed, how many answers each session has that ended, and
 -- what has come of the last session behind them; or the judgement, once nothing that follows can change it, and how many
 -- octets came of each stream of that session; or that memory was refused
 pub data Checked : Type 0 where
@@ -71,7 +71,7 @@ pub record IsDecided (limit : Limit) (marks : Marks) (judgement : JudgementOfAll
   pub verdict : (client server : List ℕ) → IsVerdictFrom limit marks before (with_more session client server) judgement
 
 -- these sessions came, and octets of one more, joined, and the checker holds what it has to of them, to judge them by this
--- limit and these marks; where it goes on, it takes OVER and XOVER as they are taken in the last one
+-- limit and these marks; where it goes on, it takes overviews as they are taken in the last one
 abbrev pub StandsForAll : Limit → Marks → Checked → List Recorded → Recorded → Type 0
 StandsForAll limit marks (judging overviews facts answers fed) before session =
     HasPassed (profile_of limit marks) before session facts answers fed × (session.client.overviews ≡ overviews)
@@ -101,7 +101,7 @@ IsUntaken errors.Memory side octets before after =
     (has_failed before ≡ false) × (count_of side (counts_of before) + length octets < 2 ^ 64) × (has_failed after ≡ true)
 
 -- the next session has begun: the checker holds what it has to of those that came before, and of one of which nothing came
--- and in which OVER and XOVER are taken as in the last
+-- and in which overviews are taken as in the last
 pub record HasBegun (before after : Checked) : Type 0 where
   pub worked : has_failed before ≡ false
   pub stands : (limit : Limit) (marks : Marks) (ended : List Recorded) (session : Recorded) → StandsForAll limit marks before ended session

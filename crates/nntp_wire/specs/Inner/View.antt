@@ -40,7 +40,7 @@ asked (To command) = to (request command)
 
 -- what the line says of an article
 abbrev pub overview_value : OverviewLine → OverviewValue
-overview_value line = record { number = line.number; id = line.id; subject = line.subject; from = line.from; date = line.date; references = line.references }
+overview_value line = record { number = line.number; id = line.id; told = line.told }
 
 -- what the line says
 abbrev pub active_value : ActiveLine → ActiveValue

@@ -1,6 +1,6 @@
 //! The codes that fit a prompt (RFC 3977, sections 3.2, 5, 6 and 7.6).
 ghost use Rattle.std.specs.Prelude.{◌≡◌, ◌∷◌, [], is_some};
-ghost use Rattle.nntp_wire.specs.Answer.{success_code};
+ghost use Rattle.nntp_wire.specs.Answer.{overview_code, success_code};
 ghost use Rattle.nntp_wire.specs.Inner.View.{asked, request, target, overviewed};
 ghost use Rattle.nntp_article.specs.Session.Machine.{none_in_range};
 ghost use Rattle.nntp_article.specs.Session.Misfit.{codes_if_selected, retrieve_codes, over_codes, command_codes, allowed_codes, code_misfit};
@@ -68,15 +68,39 @@ fn retrieve_codes(is_selected: bool, what: What, which: &Which<'_>) -> &'static 
 
 /// The code of success, and those by which a range has no article.
 fn codes_by_range(keyword: OverviewKeyword) -> &'static [u64]
-    ensures { result.now ≡ 224 ∷ none_in_range keyword }
+    ensures { result.now ≡ overview_code keyword ∷ none_in_range keyword }
 {
     match keyword {
         OverviewKeyword::Over => &[224, 423],
         OverviewKeyword::Xover => &[224, 420, 423],
+        OverviewKeyword::Hdr => &[225, 423],
+        OverviewKeyword::Xhdr => &[221, 420, 423],
     }
 }
 
-/// The codes that fit OVER and XOVER.
+/// The code of success, and that by which an id has no article.
+fn overview_codes_by_id(keyword: OverviewKeyword) -> &'static [u64]
+    ensures { result.now ≡ overview_code keyword ∷ 430 ∷ [] }
+{
+    match keyword {
+        OverviewKeyword::Over | OverviewKeyword::Xover => &[224, 430],
+        OverviewKeyword::Hdr => &[225, 430],
+        OverviewKeyword::Xhdr => &[221, 430],
+    }
+}
+
+/// The code of success, and that by which there is no current article.
+fn overview_codes_by_current(keyword: OverviewKeyword) -> &'static [u64]
+    ensures { result.now ≡ overview_code keyword ∷ 420 ∷ [] }
+{
+    match keyword {
+        OverviewKeyword::Over | OverviewKeyword::Xover => &[224, 420],
+        OverviewKeyword::Hdr => &[225, 420],
+        OverviewKeyword::Xhdr => &[221, 420],
+    }
+}
+
+/// The codes that fit OVER, XOVER, HDR and XHDR.
 fn over_codes(
     is_selected: bool,
     keyword: OverviewKeyword,
@@ -85,9 +109,11 @@ fn over_codes(
     ensures { result.now ≡ over_codes is_selected keyword (overviewed which.now) }
 {
     match which {
-        WhichArticles::Id(_) => &[224, 430],
+        WhichArticles::Id(_) => overview_codes_by_id(keyword),
         WhichArticles::Range(_) => codes_if_selected(is_selected, codes_by_range(keyword)),
-        WhichArticles::Current => codes_if_selected(is_selected, &[224, 420]),
+        WhichArticles::Current => {
+            codes_if_selected(is_selected, overview_codes_by_current(keyword))
+        }
     }
 }
 

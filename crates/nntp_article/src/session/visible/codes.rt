@@ -26,8 +26,8 @@ fn is_none_in_range(keyword: OverviewKeyword, code: u64) -> bool
     ensures { result ≡ is_one_of (none_in_range keyword) code }
 {
     match keyword {
-        OverviewKeyword::Over => code == 423,
-        OverviewKeyword::Xover => code == 420 || code == 423,
+        OverviewKeyword::Over | OverviewKeyword::Hdr => code == 423,
+        OverviewKeyword::Xover | OverviewKeyword::Xhdr => code == 420 || code == 423,
     }
 }
 
@@ -75,7 +75,7 @@ impl<A: Allocator> Visible<A> {
         }
     }
 
-    /// Whether the code, where it is no generic failure, fits OVER or XOVER.
+    /// Whether the code, where it is no generic failure, fits OVER, XOVER, HDR or XHDR.
     fn fits_over(&self, keyword: OverviewKeyword, which: &WhichArticles<'_>, code: u64) -> bool
         ensures { result ≡ code_fits self.now (over keyword (overviewed which.now)) code }
     {

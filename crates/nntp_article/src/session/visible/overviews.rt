@@ -1,4 +1,4 @@
-//! The overviews of OVER and XOVER (RFC 3977, section 8.3).
+//! The overviews of OVER, XOVER, HDR and XHDR (RFC 3977, sections 8.3 and 8.5).
 ghost use Rattle.std.specs.Prelude.{◌≡◌, IfOk, List, ℕ, map, []};
 ghost use Rattle.nntp_wire.specs.Answer.{overviews_are};
 ghost use Rattle.nntp_wire.specs.Command.{in_range};
@@ -13,7 +13,9 @@ use crate::session::misfit::Misfit;
 use crate::session::profile::Profile;
 use crate::session::visible::Visible;
 use crate::session::visible::numbers::numbers_misfit;
-use nntp_wire::{Command, OverviewKeyword, OverviewLine, Prompt, Range, Which, WhichArticles};
+use nntp_wire::{
+    Command, OverviewKeyword, OverviewLine, Prompt, Range, Which, WhichArticles, overview_code,
+};
 use std::alloc::{AllocError, Allocator};
 use std::collections::BTreeSet;
 
@@ -34,13 +36,13 @@ fn ids_misfit<'a, A: Allocator + Copy>(
     Ok(None)
 }
 
-/// Whether so many overviews may be listed of a range: of one without an article none are, by OVER.
+/// Whether so many overviews may be listed of a range: of one without an article none are, by OVER and HDR.
 fn may_list(keyword: OverviewKeyword, overviews: &[OverviewLine<'_>]) -> bool
     ensures { result ≡ may_list keyword (map overview_value overviews.now) }
 {
     match keyword {
-        OverviewKeyword::Over => !overviews.is_empty(),
-        OverviewKeyword::Xover => true,
+        OverviewKeyword::Over | OverviewKeyword::Hdr => !overviews.is_empty(),
+        OverviewKeyword::Xover | OverviewKeyword::Xhdr => true,
     }
 }
 
@@ -125,7 +127,7 @@ impl<A: Allocator + Copy> Visible<A> {
         }
     }
 
-    /// 224 to OVER or XOVER.
+    /// 224 to OVER or XOVER, 225 to HDR, or 221 to XHDR.
     pub(crate) fn overviews_misfit<'a>(
         &self,
         profile: Profile,
@@ -135,12 +137,12 @@ impl<A: Allocator + Copy> Visible<A> {
         ensures { IfOk result (λ reason. (lines : List (List ℕ)) → lists listed.now ≡ lists_of (overviews_are lines)
             → why_if reason ≡ misfit profile self.now (asked prompt.now) (overviews_are lines)) }
     {
-        let wrong_code = self.code_misfit(prompt, 224);
         match prompt {
             Prompt::To(Command::Over { keyword, which }) => {
+                let wrong_code = self.code_misfit(prompt, overview_code(*keyword));
                 self.asked_overviews_misfit(profile, wrong_code, *keyword, which, listed)
             }
-            _ => Ok(Some(wrong_code)),
+            _ => Ok(Some(self.code_misfit(prompt, 224))),
         }
     }
 }

@@ -2,7 +2,8 @@
 ghost use Rattle.std.specs.Prelude.{◌≡◌, ◌≢◌, ◌++◌, List, Some, MatchOption, Option, option_map};
 ghost use Rattle.nntp_wire.specs.Inner.View.{overview_value};
 ghost use Rattle.nntp_wire.specs.Listing.{overviews_of};
-ghost use Rattle.nntp_article.specs.Article.Fields.{Fields as FieldsValue, fields_told, fields_of_head, words_in};
+ghost use Rattle.nntp_article.specs.Article.Fields.{fields_of_head, words_in};
+ghost use Rattle.nntp_wire.specs.Listing.{Fields as FieldsValue};
 ghost use Rattle.nntp_article.specs.Article.Parts.{Id};
 ghost use Rattle.nntp_article.specs.declared.session.profile.Profile.{Profile};
 ghost use Rattle.nntp_said.specs.Facts.{Fact};
@@ -45,7 +46,7 @@ impl<A: Allocator> Kept<A> {
     {
         for overview in block.overviews() {
             let id = overview.id.as_str();
-            let point = self.other_field_told(id, Fields::of_overview(overview));
+            let point = self.other_field_told(id, Fields::of_overview(&overview));
             if point.is_some() {
                 return point;
             }
@@ -58,21 +59,19 @@ impl<A: Allocator> Kept<A> {
         ensures { IsFieldOf self.now id.now (option_map fields_of_head sent.now.head) (option_map point_of result) }
     {
         match &sent.head {
-            Some(head) => self.other_field_told(id, Fields::of_head(head)),
+            Some(head) => self.other_field_told(id, Some(Fields::of_head(head))),
             None => None,
         }
     }
 
-    /// Returns the id, if other words of a header are kept than these, and the first such header.
-    fn other_field_told<'s>(&self, id: &'s str, told: Fields<'_>) -> Option<Point<'s>>
-        ensures { IsFieldOf self.now id.now (Some told.entry) (option_map point_of result) }
+    /// Returns the id, if other words of a header are kept than are told, and the first such header.
+    fn other_field_told<'s>(&self, id: &'s str, told: Option<Fields<'_>>) -> Option<Point<'s>>
+        ensures { IsFieldOf self.now id.now told.entry (option_map point_of result) }
     {
-        match self.articles.other_field(id, told) {
-            Some(field) => Some(Point::FieldOf {
-                id: id.as_bytes(),
-                field,
-            }),
-            None => None,
-        }
+        let field = self.articles.other_field(id, told?)?;
+        Some(Point::FieldOf {
+            id: id.as_bytes(),
+            field,
+        })
     }
 }

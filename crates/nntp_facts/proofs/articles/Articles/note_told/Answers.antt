@@ -1,6 +1,6 @@
-use Rattle.std.{proofs.Common.{true, Some, sym, subst, ◌∙◌}, specs.List.{AllByRecursion}}
+use Rattle.std.{proofs.Common.{true, Some, sym, subst, ◌∙◌}, specs.{Prelude.{IfSome}, List.{AllByRecursion}}}
 use Rattle.nntp_wire.specs.{Listing.{OverviewValue, overviews_of}, Inner.View.{overview_value}}
-use Rattle.nntp_article.{specs.{Article.Fields.{fields_told}, Inner.Fields.{AreWords}}, proofs.ArticleLemmas.WordsOfLines.{overviews_words}}
+use Rattle.nntp_article.{specs.Inner.Fields.{AreWords, TellsWords}, proofs.ArticleLemmas.WordsOfLines.{overviews_words}}
 use Rattle.nntp_theory.proofs.OkResults.{if_ok}
 use Rattle.nntp_facts.specs.Inner.{Articles.{telling}, ArticleView.{is_added}, KeptSaying.{IsSaidAdded, said_alone}}
 use Rattle.nntp_facts.proofs.Keeping.SaidOfArticles.{first_said}
@@ -8,9 +8,9 @@ use Rattle.nntp_facts.proofs.articles.Articles.note_told.Goals as goal
 
 pub tell-requires : goal.tell-requires
 tell-requires g c =
-    let all = subst (AllByRecursion (λ o. AreWords (fields_told o))) (sym c.overviews.ensures.listed ∙ c.in-Some.ensures.steps)
+    let all = subst (AllByRecursion TellsWords) (sym c.overviews.ensures.listed ∙ c.in-Some.ensures.steps)
     (overviews_words c.args.block.now c.overviews.ensures.clean c.overviews.ensures.octets) in
-    subst AreWords (sym c.of_overview.ensures) all.0
+    subst (λ told. IfSome told AreWords) (sym c.of_overview.ensures) all.0
 
 pub returns-in-Some-clause-added : goal.returns-in-Some-clause-added
 returns-in-Some-clause-added g c = if_ok c.tell.result (λ added adds facts id kept may.
@@ -18,6 +18,6 @@ returns-in-Some-clause-added g c = if_ok c.tell.result (λ added adds facts id k
     let listed = sym c.overviews.ensures.listed ∙ c.in-Some.ensures.steps in
     let is = first_said (overviews_of c.args.block.now) o _ id listed may in
     subst (λ said. IsSaidAdded facts said c.args.self.now c.tell.new.self (is_added added)) is
-    (subst (λ told. IsSaidAdded facts (said_alone o.id (telling true (Some told))) c.args.self.now c.tell.new.self (is_added added)) c.of_overview.ensures
-    (subst (λ id. IsSaidAdded facts (said_alone id (telling true (Some c.of_overview.result))) c.args.self.now c.tell.new.self (is_added added)) c.as_str-id.ensures.value
+    (subst (λ told. IsSaidAdded facts (said_alone o.id (telling true told)) c.args.self.now c.tell.new.self (is_added added)) c.of_overview.ensures
+    (subst (λ id. IsSaidAdded facts (said_alone id (telling true c.of_overview.result)) c.args.self.now c.tell.new.self (is_added added)) c.as_str-id.ensures.value
     (adds facts kept)))) c.tell.ensures.added

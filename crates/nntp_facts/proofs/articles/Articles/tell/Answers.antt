@@ -6,7 +6,7 @@ use Rattle.nntp_facts.proofs.articles.Articles.tell.Goals as goal
 
 pub returns-then-is_denied-clause-added : goal.returns-then-is_denied-clause-added
 returns-then-is_denied-clause-added g c facts kept =
-    of_denied facts c.args.self.now c.args.id.now (telling c.args.is_sent (Some c.args.told)) kept refl (sym c.is_denied.ensures ∙ c.if-is_denied.true)
+    of_denied facts c.args.self.now c.args.id.now (telling c.args.is_sent c.args.told) kept refl (sym c.is_denied.ensures ∙ c.if-is_denied.true)
 
 pub returns-clause-added : goal.returns-clause-added
 returns-clause-added g c facts kept =

@@ -1,8 +1,8 @@
-use Rattle.std.{proofs.{Common.{◌≡◌, ℕ, true, false, [], Some, sym, ap, subst, ◌∙◌}, lemmas.Bool.{true≢false}}, specs.Prelude.{IsFalse, option_map}}
+use Rattle.std.{proofs.{Common.{◌≡◌, ℕ, true, false, [], Some, sym, ap, subst, ◌∙◌}, lemmas.Bool.{true≢false}}, specs.Prelude.{IsFalse, IfSome, option_map}}
 use Rattle.std.specs.{List.{list_any}, Rc.{rc_str_bytes}}
 use Rattle.nntp_wire.specs.Inner.View.{overview_value}
 use Rattle.nntp_theory.{specs.{Given.{first_given, fields_in}, Together.{denies_article}, Inner.Together.{AreSame}}, proofs.OkResults.{on_ok}}
-use Rattle.nntp_article.specs.{Article.{Parts.{Id}, Fields.{fields_told}}, Inner.Fields.{AreWords}}
+use Rattle.nntp_article.specs.{Article.Parts.{Id}, Inner.Fields.{AreWords}}
 use Rattle.nntp_facts.specs.Inner.{Articles.{telling}, Kept.{AreKept, AreKeptArticles, AreKeptWith, Agree, MayShow}, KeptSaying.{IsSaidAdded, IsSaidKept}}
 use Rattle.nntp_facts.{specs.Inner.{KeptSaying.{IsTextOf, said_alone}, ArticleView.{is_added}, SayingView.{id_at}}, proofs.Keeping.OverviewsJoin.{surely_added}}
 use Rattle.nntp_facts.proofs.kept.Kept.give.Goals as goal
@@ -14,15 +14,15 @@ returns-clause-kept g c =
     let o = overview_value c.args.overview in
     let id = o.id in
     let is = c.as_str-id.ensures.value in
-    let told = fields_told o in
+    let told = o.told in
     let part = c.of_id.result in
     let at : ℕ × Id = (o.number, id) in
     let same_name = c.of_id.ensures.name in
     let same_id = c.of_id.ensures.id ∙ ap (λ id. Some (o.number, id)) is in
     let known = subst (λ k. AreKeptArticles facts k.articles) (sym c.self.view_is) articles in
     let noted = surely_added facts c.as_str-id.result.now told c.self.inside.articles c.tell.new.self _ known
-    (subst (λ id. IsFalse (list_any (denies_article id) facts)) (sym is) may.free) (subst (λ id. AreSame (Some told) (first_given (fields_in id) facts)) (sym is) may.fields)
-    (subst (λ told. IsSaidAdded facts (said_alone c.as_str-id.result.now (telling false (Some told))) c.self.inside.articles c.tell.new.self (is_added c.in_ok-added.added))
+    (subst (λ id. IsFalse (list_any (denies_article id) facts)) (sym is) may.free) (subst (λ id. AreSame told (first_given (fields_in id) facts)) (sym is) may.fields)
+    (subst (λ told. IsSaidAdded facts (said_alone c.as_str-id.result.now (telling false told)) c.self.inside.articles c.tell.new.self (is_added c.in_ok-added.added))
     c.of_overview.ensures (c.in_ok-added.ensures.added facts known)) in
     let text = c.in_ok-added.ensures.text noted.0 in (
       subst (λ name. AreKeptWith tells name [] (Some at) c.add.new.self) same_name (subst (λ id. AreKeptWith tells part.name.now [] id c.add.new.self) same_id
@@ -31,8 +31,8 @@ returns-clause-kept g c =
           (λ none. absurd (true≢false (sym (subst (λ name. (tells name).is_shown ≡ true) (sym same_name) may.shown) ∙ none)))
           (subst (λ name. Agree (tells name).ids (tells name).places (id_at part.id)) (sym same_name) (subst (Agree (tells name).ids (tells name).places) (sym same_id) may.agree))
           (subst (λ name. MayShow (tells name) (id_at part.id)) (sym same_name) (subst (MayShow (tells name)) (sym same_id) may.may)))),
-      subst (λ id. IsSaidKept facts (said_alone id (telling false (Some told))) c.tell.new.self) is noted.1,
+      subst (λ id. IsSaidKept facts (said_alone id (telling false told)) c.tell.new.self) is noted.1,
     )) c.add.ensures
 
 pub tell-requires : goal.tell-requires
-tell-requires g c = subst AreWords (sym c.of_overview.ensures) c.requires
+tell-requires g c = subst (λ told. IfSome told AreWords) (sym c.of_overview.ensures) c.requires

@@ -1,6 +1,6 @@
 use Rattle.std.{proofs.Common.{◌≡◌, [], ◌∷◌, ◌++◌, refl, sym, ap, subst, ◌∙◌, append-nil, append_assoc}, specs.List.{AllByRecursion}}
 use Rattle.nntp_wire.specs.{Listing.{OverviewValue, overviews_of}, Inner.View.{overview_value}}
-use Rattle.nntp_article.{specs.{Article.Fields.{fields_told}, Inner.Fields.{AreWords}}, proofs.ArticleLemmas.WordsOfLines.{overviews_words}}
+use Rattle.nntp_article.{specs.Inner.Fields.{TellsWords}, proofs.ArticleLemmas.WordsOfLines.{overviews_words}}
 use Rattle.nntp_theory.specs.Inner.Together.{said_of}
 use Rattle.nntp_facts.{specs.Inner.{Kept.{AreKept}, KeptSaying.{MayGive, with_overviews}, ListedOverviews.{HaveOwn}}, proofs.Keeping.OverviewsJoin.{none_yet}}
 use Rattle.nntp_facts.proofs.Keeping.{OverviewsJoin.{so_far, AreGiven, said_so_far, said_next, may_give_next, one_more_given}, SaidOfArticles.{nothing_more}}
@@ -10,7 +10,7 @@ pub loop-overview-init : goal.loop-overview-init
 loop-overview-init g c = (
   tt,
   tt,
-  subst (AllByRecursion (λ o. AreWords (fields_told o))) (sym (c.into_iter-overview-iterator.ensures.into_iter_gives ∙ c.overviews-overview-items.ensures.listed))
+  subst (AllByRecursion TellsWords) (sym (c.into_iter-overview-iterator.ensures.into_iter_gives ∙ c.overviews-overview-items.ensures.listed))
       (overviews_words c.args.block.now c.overviews-overview-items.ensures.clean c.overviews-overview-items.ensures.octets),
   refl,
   (
@@ -24,7 +24,7 @@ loop-overview-init g c = (
 )
 
 pub give-requires : goal.give-requires
-give-requires g c = (subst (AllByRecursion (λ o. AreWords (fields_told o))) c.in-Some.ensures.steps c.loop-overview.invariant.2).0
+give-requires g c = (subst (AllByRecursion TellsWords) c.in-Some.ensures.steps c.loop-overview.invariant.2).0
 
 pub loop-overview-preserved : goal.loop-overview-preserved
 loop-overview-preserved g c =
@@ -34,7 +34,7 @@ loop-overview-preserved g c =
     let whole : front ++ o ∷ rest ≡ overviews_of c.args.block.now = ap (λ left. front ++ left) (sym c.in-Some.ensures.steps) ∙ c.loop-overview.invariant.4.1 in (
       tt,
       tt,
-      (subst (AllByRecursion (λ o. AreWords (fields_told o))) c.in-Some.ensures.steps c.loop-overview.invariant.2).1,
+      (subst (AllByRecursion TellsWords) c.in-Some.ensures.steps c.loop-overview.invariant.2).1,
       c.give.ensures.names ∙ c.loop-overview.invariant.3,
       (
         front ++ o ∷ [],

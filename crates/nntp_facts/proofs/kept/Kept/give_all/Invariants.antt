@@ -1,6 +1,6 @@
 use Rattle.std.{proofs.Common.{◌≡◌, ◌++◌, true, List}, specs.List.{AllByRecursion}}
 use Rattle.nntp_wire.specs.Listing.{OverviewValue, overviews_of}
-use Rattle.nntp_article.specs.{Article.Fields.{fields_told}, Inner.Fields.{AreWords}, Session.Spool.{Name}}
+use Rattle.nntp_article.specs.{Inner.Fields.{TellsWords}, Session.Spool.{Name}}
 use Rattle.nntp_said.specs.Facts.{Fact}
 use Rattle.nntp_facts.specs.Inner.{Kept.{AreKept, AreKeptArticles, Told}, KeptSaying.{MayGive}, ListedOverviews.{HaveOwn}}
 use Rattle.nntp_facts.proofs.Keeping.OverviewsJoin.{AreGiven}
@@ -10,7 +10,7 @@ use Rattle.nntp_facts.proofs.kept.Kept.give_all.Given as goal
 abbrev pub invariant-loop-overview : goal.invariant-loop-overview
 invariant-loop-overview g l =
     (goal.iterator-loop-overview g).can_next l.overview-iterator × (goal.iterator-loop-overview g).is_finite l.overview-iterator
-    × AllByRecursion (λ o. AreWords (fields_told o)) l.overview-iterator
+    × AllByRecursion TellsWords l.overview-iterator
     × (l.self.names ≡ l.initial.self.names)
     × ((front : List OverviewValue) × (front ++ l.overview-iterator ≡ overviews_of l.block)
     × ((facts : List Fact) (tells : Name → Told) → AreKept tells l.initial.self.groups → AreKeptArticles facts l.initial.self.articles → (tells l.name).is_shown ≡ true
