@@ -1,4 +1,4 @@
-//! Short sessions with overviews, where OVER and XOVER are judged and where they are opaque: the runs agree with the calls
+//! Short sessions with overviews, where overviews are judged and where they are opaque: the runs agree with the calls
 //! that take them so, and what `explain` and `verify` say agrees with what `check` says.
 use crate::runs::expect_run;
 use nntp_fixtures::{
@@ -19,7 +19,7 @@ type Exchange = (&'static str, &'static str);
 const SELECTED: Exchange = ("GROUP g\r\n", "211 3 1 4 g\r\n");
 
 /// What is said behind it.
-const EXCHANGES: [Exchange; 12] = [
+const EXCHANGES: [Exchange; 14] = [
     (
         "XOVER 1-3\r\n",
         "224 x\r\n1\t\t\t\t<a@x>\r\n3\t\t\t\t<c@x>\r\n.\r\n",
@@ -32,6 +32,11 @@ const EXCHANGES: [Exchange; 12] = [
     ("OVER\r\n", "224 x\r\n2\t\t\t\t<b@x>\r\n.\r\n"),
     ("OVER <c@x>\r\n", "224 x\r\n0\t\t\t\t<c@x>\r\n.\r\n"),
     ("OVER <c@x>\r\n", "430 no\r\n"),
+    (
+        "HDR Message-ID 1-3\r\n",
+        "225 x\r\n1 <a@x>\r\n3 <c@x>\r\n.\r\n",
+    ),
+    ("XHDR message-id 2-\r\n", "221 x\r\n2 <b@x>\r\n.\r\n"),
     ("STAT 2\r\n", "223 2 <b@x>\r\n"),
     ("STAT 3\r\n", "423 no\r\n"),
     ("STAT 1\r\n", "223 1 <b@x>\r\n"),
@@ -157,7 +162,7 @@ fn count(alloc: Global, by: By) -> Result<(u64, u64), Fail> {
     Ok((consistent, bad))
 }
 
-/// Compares all sessions by this choice: where OVER and XOVER are judged, fewer are consistent, but some are.
+/// Compares all sessions by this choice: where overviews are judged, fewer are consistent, but some are.
 fn compare_all(rt: &impl Abort, alloc: Global, choice: Choice) -> Result<(), Fail> {
     let judged = By {
         choice,

@@ -18,7 +18,7 @@ pub fn checker_by<A: Allocator + Copy>(choice: Choice, alloc: A) -> Checker<A> {
     Checker::new(alloc, choice.limit, choice.marks)
 }
 
-/// A checker to which nothing was fed, where OVER and XOVER are taken so.
+/// A checker to which nothing was fed, where overviews are taken so.
 pub fn checker_taking<A: Allocator + Copy>(
     choice: Choice,
     alloc: A,

@@ -54,7 +54,7 @@ pub fn note_all<A: Allocator + Copy>(
     note_taking(alloc, limit, marks, Overviews::Opaque, client, server)
 }
 
-/// Notes the exchanges of a session one after the other, where OVER and XOVER are taken so.
+/// Notes the exchanges of a session one after the other, where overviews are taken so.
 pub fn note_taking<A: Allocator + Copy>(
     alloc: A,
     limit: Limit,

@@ -11,7 +11,7 @@ use nntp_wire::{Marks, Overviews};
 use std::alloc::{AllocError, Allocator, Global};
 use std::test::Fail;
 
-/// A session of these streams of the client and of the server, where OVER and XOVER are taken so.
+/// A session of these streams of the client and of the server, where overviews are taken so.
 pub fn recorded_taking<'a>(
     overviews: Overviews,
     (client, server): (&'a str, &'a str),
@@ -23,7 +23,7 @@ pub fn recorded_taking<'a>(
     }
 }
 
-/// Sessions, of each of which these are the streams of the client and of the server, where OVER and XOVER are opaque.
+/// Sessions, of each of which these are the streams of the client and of the server, where overviews are opaque.
 pub fn recorded<'a>(
     alloc: Global,
     sessions: &[(&'a str, &'a str)],
@@ -233,7 +233,7 @@ pub fn checked_by_octets(
     checked_taking(alloc, choice, Overviews::Opaque, sessions)
 }
 
-/// What a checker says that takes OVER and XOVER so, to which the streams come octet by octet.
+/// What a checker says that takes overviews so, to which the streams come octet by octet.
 ///
 /// # Errors
 ///

@@ -1,4 +1,5 @@
-//! Want of memory while sessions are judged in which overviews tell of headers (RFC 3977, section 8.3.2).
+//! Want of memory while sessions are judged in which overviews tell of headers, or ids are listed (RFC 3977, sections 8.3.2
+//! and 8.5).
 use crate::facts::outcome;
 use crate::several::{judge_at_once, judge_in_turn, verify_given};
 use crate::spools::right_if_written;
@@ -85,10 +86,30 @@ const TWO_GROUPS: Session = Session {
     verified: "permits answers=5\n",
 };
 
-const SESSIONS: [Session; 4] = [SAME_HEAD, OTHER_HEAD, OTHER_OVERVIEW, TWO_GROUPS];
+/// The ids of a range, and behind them an overview of one of them.
+const LISTED_IDS: Session = Session {
+    name: "ids of a range, and an overview of one",
+    client: "GROUP g\r\nHDR Message-ID 1-3\r\nXOVER 1\r\nSTAT 3\r\n",
+    server: "200 hi\r\n211 5 1 5 g\r\n225 h\r\n1 <a@x>\r\n3 <c@x>\r\n.\r\n\
+        224 x\r\n1\tone more\tf\t\t<a@x>\r\n.\r\n223 3 <c@x>\r\n",
+    end: (5, None),
+    verdict: "consistent answers=5\n",
+    given: "spool 1\ngroup g 2\n1 <a@x>\n3 <c@x>\n\
+        article <a@x> 3 0\n|Message-ID: <a@x>\n|Subject: one more\n|From: f\n\
+        article <c@x> 1 0\n|Message-ID: <c@x>\nend\n",
+    verified: "permits answers=5\n",
+};
+
+const SESSIONS: [Session; 5] = [
+    SAME_HEAD,
+    OTHER_HEAD,
+    OTHER_OVERVIEW,
+    TWO_GROUPS,
+    LISTED_IDS,
+];
 
 impl Session {
-    /// The session, where OVER and XOVER are judged.
+    /// The session, where overviews are judged.
     fn recorded(&self) -> Recorded<'static> {
         recorded_taking(Overviews::Judged, (self.client, self.server))
     }
@@ -139,7 +160,7 @@ fn make_spool<A: Allocator + Copy>(alloc: Global, heap: A, ample: A, session: &S
 #[test]
 fn spools_are_made_of_overviews(rt: HostRuntime) -> Result<(), Fail> {
     let ample = Refusing::new(rt.alloc(), Refusal::Never);
-    for session in [SAME_HEAD, TWO_GROUPS] {
+    for session in [SAME_HEAD, TWO_GROUPS, LISTED_IDS] {
         let refused = refuse_each(rt.alloc(), session.name, |heap| {
             make_spool(rt.alloc(), heap, &ample, &session)
         })?;

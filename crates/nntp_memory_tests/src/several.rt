@@ -50,7 +50,7 @@ fn after_want<A: Allocator + Copy>(mut checker: Checker<A>) -> Ended {
     }
 }
 
-/// By a checker that takes OVER and XOVER so, to which the sessions come one after the other.
+/// By a checker that takes overviews so, to which the sessions come one after the other.
 pub(crate) fn judge_in_turn<A: Allocator + Copy>(
     alloc: Global,
     heap: A,

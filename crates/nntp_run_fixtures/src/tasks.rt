@@ -1,4 +1,4 @@
-//! Tasks by a limit of article numbers, a way to read marks, and how OVER and XOVER are taken.
+//! Tasks by a limit of article numbers, a way to read marks, and how overviews are taken.
 use nntp_check::{Overviews, Task};
 use nntp_sessions::Choice;
 

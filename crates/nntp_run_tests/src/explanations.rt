@@ -3,6 +3,7 @@ mod conflicts;
 mod endings;
 mod headers;
 mod kinds;
+mod listed_ids;
 mod misfits;
 mod misspellings;
 mod searched;

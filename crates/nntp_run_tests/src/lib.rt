@@ -8,6 +8,8 @@ mod explanations;
 #[cfg(test)]
 mod faults;
 #[cfg(test)]
+mod listed_ids;
+#[cfg(test)]
 mod memory;
 #[cfg(test)]
 mod overviews;

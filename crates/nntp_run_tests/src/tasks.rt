@@ -1,4 +1,4 @@
-//! Tasks by name. What isn't told is the narrow limit, lenient marks, or that OVER and XOVER are opaque.
+//! Tasks by name. What isn't told is the narrow limit, lenient marks, or that overviews are opaque.
 use nntp_check::{Limit, Marks, Overviews, Task};
 
 pub(crate) const CHECK: Task = Task::Check {

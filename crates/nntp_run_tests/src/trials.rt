@@ -1,5 +1,6 @@
 //! Trials of the runs over worked sessions, and over those that are shown.
 use crate::explanations::{CONFLICTS, ENDINGS, FAULTLESS, MISFITS, MISSPELLINGS};
+use crate::listed_ids::LISTED_IDS;
 use crate::memory;
 use crate::overviews::OVERVIEWS;
 use crate::reported::Reported;
@@ -147,9 +148,10 @@ impl Trial {
         self.captured(rt, alloc, SEVERAL)
     }
 
-    /// Tries the runs over each capture of overviews.
+    /// Tries the runs over each capture of overviews and of listed ids.
     pub(crate) fn overviews(self, rt: &impl Abort, alloc: Global) -> Result<(), Fail> {
-        self.captured(rt, alloc, OVERVIEWS)
+        self.captured(rt, alloc, OVERVIEWS)?;
+        self.captured(rt, alloc, LISTED_IDS)
     }
 
     /// Tries all of these runs, but those over overviews.

@@ -1,4 +1,5 @@
-//! OVER and XOVER, where they are judged: what fits what was asked for, what it says, and whether a spool has that.
+//! OVER and XOVER, and HDR and XHDR of Message-ID, where they are judged: what fits what was asked for, what it says, and
+//! whether a spool has that.
 use crate::blocks::is_in;
 use crate::fields::{Overview, told_by_head, told_by_overview};
 use crate::said::Said;
@@ -21,7 +22,7 @@ impl<'a> Visible<'a> {
             (WhichArticles::Id(_), 430) => true,
             (WhichArticles::Range(_) | WhichArticles::Current, 412) => !is_selected,
             (WhichArticles::Range(_), 423) | (WhichArticles::Current, 420) => is_selected,
-            (WhichArticles::Range(_), 420) => is_selected && keyword == OverviewKeyword::Xover,
+            (WhichArticles::Range(_), 420) => is_selected && is_old(keyword),
             _ => false,
         }
     }
@@ -35,9 +36,8 @@ impl<'a> Visible<'a> {
     ) -> bool {
         match which {
             WhichArticles::Range(range) => {
-                let may_be_none = keyword == OverviewKeyword::Xover;
                 self.is_selected()
-                    && (may_be_none || block.lines().next().is_some())
+                    && (is_old(keyword) || block.lines().next().is_some())
                     && self.range_fits(range, block)
                     && ids_differ(block)
             }
@@ -65,6 +65,14 @@ impl<'a> Visible<'a> {
             Some((overview, _)) => self.number_fits(which, overview.number, &overview.id),
             None => false,
         }
+    }
+}
+
+/// Whether the command is one of RFC 2980, which may list nothing of a range, and say so by 420 (sections 2.6 and 2.8).
+fn is_old(keyword: OverviewKeyword) -> bool {
+    match keyword {
+        OverviewKeyword::Xover | OverviewKeyword::Xhdr => true,
+        OverviewKeyword::Over | OverviewKeyword::Hdr => false,
     }
 }
 
@@ -113,7 +121,7 @@ impl<'a> Said<'a> {
         Ok(())
     }
 
-    /// The numbers of a range, each with its id and with what is told of it, and no others.
+    /// The numbers of a range, each with its id and with what is told of it, and no others. Of HDR and XHDR no more is told.
     fn hear_range(
         &mut self,
         group: &'a [u8],
@@ -127,7 +135,9 @@ impl<'a> Said<'a> {
             self.deny(group, from, number.saturating_sub(1))?;
             self.mention(id)?;
             self.show(group, number, Some(id))?;
-            self.tell(id, line)?;
+            if overview.told.is_some() {
+                self.tell(id, line)?;
+            }
             from = number.saturating_add(1);
         }
         self.deny(group, from, range.last.unwrap_or(u64::MAX))
@@ -206,11 +216,11 @@ impl<'s> Standing<'s> {
         overview.number == 0 || is_there
     }
 
-    /// Whether there are the articles of overviews, each of which tells what its overview tells.
+    /// Whether there are the articles of overviews, each of which tells what its overview tells, if this tells something.
     fn has_articles(&self, block: &Block<'_>) -> Result<bool, AllocError> {
         for (overview, line) in block.overviews().zip(block.lines()) {
             let tells = match self.article(overview.id.as_slice()) {
-                Some(article) => article.tells(self.alloc(), line)?,
+                Some(article) => overview.told.is_none() || article.tells(self.alloc(), line)?,
                 None => false,
             };
             if !tells {

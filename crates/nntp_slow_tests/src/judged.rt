@@ -14,7 +14,7 @@ use std::alloc::{AllocError, Global};
 use std::process::Abort;
 use std::test::Fail;
 
-/// Compares a verdict on two streams, where OVER and XOVER are taken so, with what the slow judge says. `verify_taking`
+/// Compares a verdict on two streams, where overviews are taken so, with what the slow judge says. `verify_taking`
 /// permits the spool that is given.
 pub(crate) fn compare_verdict(
     alloc: Global,

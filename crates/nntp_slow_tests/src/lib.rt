@@ -6,6 +6,8 @@ mod given_spools;
 #[cfg(test)]
 mod judged;
 #[cfg(test)]
+mod listed_ids;
+#[cfg(test)]
 mod noted;
 #[cfg(test)]
 mod overviews;

@@ -19,7 +19,7 @@ fn said_of(alloc: Global, whole: &Whole<Global>) -> Result<Said, Fail> {
     Ok((Judged::Consistent, whole.answers, lines))
 }
 
-/// What is noted of two streams, which end behind the last exchange, where OVER and XOVER are taken so.
+/// What is noted of two streams, which end behind the last exchange, where overviews are taken so.
 fn note(
     alloc: Global,
     choice: Choice,

@@ -1,5 +1,5 @@
-//! Short sessions in which OVER and XOVER are judged, as they are noted, by a checker and by the slow judge (RFC 3977,
-//! section 8.3).
+//! Short sessions in which overviews are judged, as they are noted, by a checker and by the slow judge (RFC 3977, sections
+//! 8.3 and 8.5).
 use crate::judged::compare_verdict;
 use crate::noted::compare_noted;
 use nntp_fixtures::checker_taking;
@@ -14,10 +14,10 @@ use std::test::Fail;
 
 /// A command and its answer. `/` stands between lines, `~` for TAB, and `#` for what an overview has between its number
 /// and its id.
-type Exchange = (&'static str, &'static str);
+pub(crate) type Exchange = (&'static str, &'static str);
 
 /// What is said of the group.
-const SELECTED: [Exchange; 3] = [
+pub(crate) const SELECTED: [Exchange; 3] = [
     ("GROUP g", "211 3 1 4 g"),
     ("GROUP g", "211 2 2 4 g"),
     ("GROUP g", "211 0 0 0 g"),
@@ -55,7 +55,7 @@ const EXCHANGES: [Exchange; 27] = [
 ];
 
 /// What is said of the headers of an article.
-const FIELDS: [Exchange; 12] = [
+pub(crate) const FIELDS: [Exchange; 12] = [
     ("XOVER 1-3", "224 x/1#<1@x>/3#<3@x>~<r@x>/."),
     ("XOVER 3-", "224 x/3~ s  ~f~d~<3@x>~<r@x> ~9~1/."),
     ("XOVER 3", "224 x/3~t~f~d~<3@x>~<r@x>/."),
@@ -92,7 +92,7 @@ fn put_lines(stream: &mut Vec<u8>, lines: &str) -> Result<(), AllocError> {
     stream.extend_from_slice(b"\r\n")
 }
 
-/// All exchanges of two streams, where OVER and XOVER are judged.
+/// All exchanges of two streams, where overviews are judged.
 fn exchanges<'a>(
     alloc: Global,
     client: &'a [u8],
@@ -110,7 +110,7 @@ fn exchanges<'a>(
     Ok(answered)
 }
 
-/// The verdict of a checker on two streams, where OVER and XOVER are judged.
+/// The verdict of a checker on two streams, where overviews are judged.
 fn checked(alloc: Global, choice: Choice, client: &[u8], server: &[u8]) -> Result<Verdict, Fail> {
     let mut checker = checker_taking(choice, alloc, Overviews::Judged);
     checker.feed_client(client)?;
@@ -178,7 +178,7 @@ impl Counts {
 }
 
 /// Each two of these exchanges, behind one and before another.
-fn compare_pairs(
+pub(crate) fn compare_pairs(
     alloc: Global,
     choice: Choice,
     (first, last): (Exchange, Exchange),

@@ -1,5 +1,5 @@
-//! Heads and overviews of one article, made at random of a few lines and a few fields, as they are noted, by a checker and
-//! by the slow judge.
+//! Heads and overviews of one article, made at random of a few lines and a few fields, and sometimes its id alone, as they
+//! are noted, by a checker and by the slow judge.
 use crate::overviews::{Counts, compare};
 use nntp_sessions::{NARROW_LENIENT, Random};
 use std::alloc::{AllocError, Global};
@@ -65,19 +65,21 @@ fn overview(alloc: Global, random: &mut Random) -> Result<String, AllocError> {
     format!(in alloc; "224 x/1~{subject}~{from}~{date}~<1@x>{rest}/.")
 }
 
-/// A head and an overview, one behind the other.
+/// A head and an overview, one behind the other, and sometimes the id before them or between them.
 fn compare_both(alloc: Global, random: &mut Random, counts: &mut Counts) -> Result<(), Fail> {
     let head = head(alloc, random)?;
     let overview = overview(alloc, random)?;
     let selected = ("GROUP g", "211 3 1 4 g");
     let head = ("HEAD 1", head.as_str());
     let overview = ("XOVER 1", overview.as_str());
-    let said = if random.below(2) == 0 {
-        [selected, head, overview]
-    } else {
-        [selected, overview, head]
-    };
-    counts.add(compare(alloc, NARROW_LENIENT, &said)?);
+    let listed = ("HDR Message-ID 1", "225 h/1 <1@x>/.");
+    let choice = NARROW_LENIENT;
+    counts.add(match random.below(6) {
+        0 => compare(alloc, choice, &[selected, listed, head, overview])?,
+        1 => compare(alloc, choice, &[selected, overview, listed, head])?,
+        2 | 3 => compare(alloc, choice, &[selected, head, overview])?,
+        _ => compare(alloc, choice, &[selected, overview, head])?,
+    });
     Ok(())
 }
 

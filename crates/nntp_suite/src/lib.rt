@@ -6,6 +6,10 @@ mod checkers;
 #[cfg(test)]
 mod cuts;
 #[cfg(test)]
+mod listed_id_verdicts;
+#[cfg(test)]
+mod listed_ids;
+#[cfg(test)]
 mod marks;
 #[cfg(test)]
 mod overview_fields;

@@ -1,5 +1,5 @@
-//! Spools where OVER and XOVER are judged: those that are given for what overviews tell of headers, as texts, and which
-//! ones permit it (RFC 3977, section 8.3.2).
+//! Spools where overviews are judged: those that are given for what overviews tell of headers, and for ids of which nothing
+//! else is told, as texts, and which ones permit it (RFC 3977, sections 8.3.2 and 8.5).
 use nntp_fixtures::{checked_taking, expect_octets, expect_verified, recorded_taking};
 use nntp_sessions::NARROW_LENIENT;
 use nntp_spool::{Spool, Verified, verify_taking};
@@ -54,7 +54,29 @@ const SINGLE: Row = Row {
         article <c@x> 1 0\n|Message-ID: <c@x>\nend\n",
 };
 
-const ROWS: [Row; 3] = [RANGE, SENT, SINGLE];
+/// The ids of ranges, of whose articles nothing is told.
+const IDS: Row = Row {
+    client: "GROUP g\r\nHDR Message-ID 1-3\r\nXHDR Message-ID 4\r\n",
+    server: "200 hi\r\n211 5 1 5 g\r\n225 h\r\n1 <a@x>\r\n3 <c@x>\r\n.\r\n221 h\r\n4 <b@x>\r\n.\r\n",
+    answers: 4,
+    text: "spool 1\ngroup g 3\n1 <a@x>\n3 <c@x>\n4 <b@x>\n\
+        article <a@x> 1 0\n|Message-ID: <a@x>\narticle <b@x> 1 0\n|Message-ID: <b@x>\n\
+        article <c@x> 1 0\n|Message-ID: <c@x>\nend\n",
+};
+
+/// The ids of a range, and then an overview of one of these articles, once more its id, and a head of another one.
+const BOTH: Row = Row {
+    client: "GROUP g\r\nHDR Message-ID 1-4\r\nXOVER 1-2\r\nXHDR Message-ID 1\r\nHEAD 3\r\n",
+    server: "200 hi\r\n211 5 1 5 g\r\n225 h\r\n1 <a@x>\r\n3 <c@x>\r\n4 <d@x>\r\n.\r\n\
+        224 x\r\n1\tone  more\tf\t\t<a@x>\t<r@x>\t9\t1\r\n.\r\n221 h\r\n1 <a@x>\r\n.\r\n\
+        221 3 <c@x>\r\nSubject: two\r\n.\r\n",
+    answers: 6,
+    text: "spool 1\ngroup g 3\n1 <a@x>\n3 <c@x>\n4 <d@x>\n\
+        article <a@x> 4 0\n|Message-ID: <a@x>\n|Subject: one more\n|From: f\n|References: <r@x>\n\
+        article <c@x> 1 0\n|Subject: two\narticle <d@x> 1 0\n|Message-ID: <d@x>\nend\n",
+};
+
+const ROWS: [Row; 5] = [RANGE, SENT, SINGLE, IDS, BOTH];
 
 /// A checker gives the spool of this text for the session.
 fn expect_given(alloc: Global, row: &Row) -> Result<(), Fail> {
@@ -156,6 +178,52 @@ const PUT: [(Overviews, &str, Verified); 6] = [
 fn spools_that_are_put_to_an_overview(rt: HostRuntime) -> Result<(), Fail> {
     for (overviews, text, wanted) in PUT {
         expect_answer(rt.alloc(), overviews, TELLS_1, text, wanted)?;
+    }
+    Ok(())
+}
+
+/// The ids of the numbers 1 to 3.
+const LISTS_1_AND_3: (&str, &str) = (
+    "GROUP g\r\nHDR Message-ID 1-3\r\n",
+    "200 hi\r\n211 5 1 5 g\r\n225 h\r\n1 <a@x>\r\n3 <c@x>\r\n.\r\n",
+);
+
+/// Spools that are put to it: whatever heads there are, with another number outside the range; with one more number in it;
+/// without one; and with the ids in each other's place.
+const PUT_TO_IDS: [(Overviews, &str, Verified); 5] = [
+    (
+        Overviews::Judged,
+        "spool 1\ngroup g 3\n1 <a@x>\n3 <c@x>\n5 <b@x>\narticle <a@x> 2 1\n|Subject: one\n|From: f\n|body\n\
+        article <b@x> 1 0\n|X: y\narticle <c@x> 1 0\n|Message-ID: <c@x>\nend\n",
+        Verified::Permits { answers: 3 },
+    ),
+    (
+        Overviews::Judged,
+        "spool 1\ngroup g 3\n1 <a@x>\n2 <b@x>\n3 <c@x>\narticle <a@x> 1 0\n|X: y\narticle <b@x> 1 0\n|X: y\n\
+        article <c@x> 1 0\n|X: y\nend\n",
+        Verified::Refuses { index: 2 },
+    ),
+    (
+        Overviews::Judged,
+        "spool 1\ngroup g 1\n1 <a@x>\narticle <a@x> 1 0\n|X: y\narticle <c@x> 1 0\n|X: y\nend\n",
+        Verified::Refuses { index: 2 },
+    ),
+    (
+        Overviews::Judged,
+        "spool 1\ngroup g 2\n1 <c@x>\n3 <a@x>\narticle <a@x> 1 0\n|X: y\narticle <c@x> 1 0\n|X: y\nend\n",
+        Verified::Refuses { index: 2 },
+    ),
+    (
+        Overviews::Opaque,
+        "spool 1\ngroup g 2\n1 <c@x>\n3 <a@x>\narticle <a@x> 1 0\n|X: y\narticle <c@x> 1 0\n|X: y\nend\n",
+        Verified::Permits { answers: 3 },
+    ),
+];
+
+#[test]
+fn spools_that_are_put_to_ids(rt: HostRuntime) -> Result<(), Fail> {
+    for (overviews, text, wanted) in PUT_TO_IDS {
+        expect_answer(rt.alloc(), overviews, LISTS_1_AND_3, text, wanted)?;
     }
     Ok(())
 }

@@ -12,12 +12,12 @@ use nntp_wire::Overviews;
 use std::alloc::Global;
 use std::test::Fail;
 
-/// A session: both streams, and how the report on it begins, where OVER and XOVER are judged.
+/// A session: both streams, and how the report on it begins, where overviews are judged.
 #[derive(Clone, Copy)]
-struct Row {
-    client: &'static str,
-    server: &'static str,
-    judged: &'static str,
+pub(crate) struct Row {
+    pub(crate) client: &'static str,
+    pub(crate) server: &'static str,
+    pub(crate) judged: &'static str,
 }
 
 /// Behind overviews of 1 and 3 of the numbers 1 to 3, number 2 is there.
@@ -133,7 +133,7 @@ fn feed_octets(checker: &mut Checker, row: &Row) -> Result<(), Fail> {
     Ok(())
 }
 
-/// A checker that takes OVER and XOVER so, to which a session came octet by octet.
+/// A checker that takes overviews so, to which a session came octet by octet.
 fn fed(alloc: Global, overviews: Overviews, row: &Row) -> Result<Checker, Fail> {
     let mut checker = checker_taking(NARROW_LENIENT, alloc, overviews);
     feed_octets(&mut checker, row)?;
@@ -166,8 +166,13 @@ fn expect_permitted(
     )
 }
 
-/// A checker that takes OVER and XOVER so reports so, and permits the session by the spool that it gives.
-fn expect(alloc: Global, overviews: Overviews, row: &Row, front: &str) -> Result<(), Fail> {
+/// A checker that takes overviews so reports so, and permits the session by the spool that it gives.
+pub(crate) fn expect(
+    alloc: Global,
+    overviews: Overviews,
+    row: &Row,
+    front: &str,
+) -> Result<(), Fail> {
     let report = finished(alloc, fed(alloc, overviews, row)?)?;
     expect_front(row.client, &report, front)?;
     let verdict = fed(alloc, overviews, row)?.finish()?;
@@ -191,7 +196,7 @@ fn opaque_overviews_say_nothing(rt: HostRuntime) -> Result<(), Fail> {
 }
 
 /// `check` and `verify` take them as opaque: a session is consistent, and its spool permits it.
-fn expect_opaque(alloc: Global, row: &Row) -> Result<(), Fail> {
+pub(crate) fn expect_opaque(alloc: Global, row: &Row) -> Result<(), Fail> {
     let (client, server) = (row.client.as_bytes(), row.server.as_bytes());
     let (limit, marks) = (NARROW_LENIENT.limit, NARROW_LENIENT.marks);
     let verdict = check(alloc, limit, marks, client, server)?;
@@ -214,8 +219,8 @@ fn the_calls_of_one_session_take_them_as_opaque(rt: HostRuntime) -> Result<(), F
     Ok(())
 }
 
-/// Two sessions, each with how OVER and XOVER are taken in it, and how the report on them begins.
-type Pair = ([(Overviews, Row); 2], &'static str);
+/// Two sessions, each with how overviews are taken in it, and how the report on them begins.
+pub(crate) type Pair = ([(Overviews, Row); 2], &'static str);
 
 const PAIRS: [Pair; 10] = [
     (
@@ -279,7 +284,7 @@ const PAIRS: [Pair; 10] = [
 ];
 
 /// A list of sessions is judged each by its own choice; and where they have one choice, so by a checker.
-fn expect_pair(alloc: Global, ([first, second], front): Pair) -> Result<(), Fail> {
+pub(crate) fn expect_pair(alloc: Global, ([first, second], front): Pair) -> Result<(), Fail> {
     let sessions = [
         recorded_taking(first.0, (first.1.client, first.1.server)),
         recorded_taking(second.0, (second.1.client, second.1.server)),
@@ -311,7 +316,7 @@ fn given(alloc: Global, row: &Row) -> Result<Vec<u8>, Fail> {
     }
 }
 
-/// The same session twice, where OVER and XOVER are opaque and then so: what `verify_sessions` answers of a spool that
+/// The same session twice, where overviews are opaque and then so: what `verify_sessions` answers of a spool that
 /// has number 2 alone.
 fn expect_verified_twice(alloc: Global, overviews: Overviews, wanted: &str) -> Result<(), Fail> {
     let streams = (SHOWS_2.client, SHOWS_2.server);

@@ -148,7 +148,7 @@ const ARTICLES: &[Row] = &[
     ),
 ];
 
-/// How the noting of a session ends, where OVER and XOVER are judged.
+/// How the noting of a session ends, where overviews are judged.
 pub(crate) fn noted(alloc: Global, client: &[u8], server: &[u8]) -> Result<End, Stop> {
     let (limit, marks) = (Limit::Narrow, Marks::Lenient);
     match note_taking(alloc, limit, marks, Overviews::Judged, client, server) {

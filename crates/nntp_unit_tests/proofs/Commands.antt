@@ -4,7 +4,7 @@ use Rattle.std.specs.Str.{is_utf8}
 use Rattle.nntp_wire.specs.Command.{Request, by_id, by_number, current, capabilities, mode_reader, next, last, quit, opaque, ill_formed, group, list_group}
 use Rattle.nntp_wire.specs.{Command.{retrieve, list_active, over, the_id, in_range, the_current, form_of, request_as, request_of}, Inner.Prompts.{prompt_kind}}
 use Rattle.nntp_wire.specs.{Answer.{to}, declared.{overviews.Overviews.TheVariants.{Judged}, command.What.TheVariants.{Article, Head, Body, Stat}}}
-use Rattle.nntp_wire.specs.declared.{command.OverviewKeyword.TheVariants.{Over, Xover}, range.Range.{Range}, prompt_kind.PromptKind.{PromptKind}}
+use Rattle.nntp_wire.specs.declared.{command.OverviewKeyword.TheVariants.{Over, Xover, Hdr, Xhdr}, range.Range.{Range}, prompt_kind.PromptKind.{PromptKind}}
 use Rattle.nntp_wire.specs.declared.prompt_kind.PromptKind.TheVariants.{ListGroup, ModeReader, Quit, Other}
 use Rattle.nntp_unit_tests.proofs.Rows.{Makes}
 
@@ -24,6 +24,9 @@ opaque_lines : Ask (
     ∷ codes "OVER"
     ∷ codes "OVER <a@b>"
     ∷ codes "XOVER 1-5"
+    ∷ codes "HDR Message-ID 1-5"
+    ∷ codes "XHDR Message-ID 1-5"
+    ∷ codes "HDR Message-ID 1-5 x"
     ∷ codes "abc"
     ∷ []) opaque
 unfolding form_of chars is_utf8 encode_utf8
@@ -137,6 +140,43 @@ overviews : Makes (request_as Judged) overview_rows
 unfolding form_of
 overviews = refl
 
+-- HDR and XHDR of Message-ID with a range; all others are opaque
+abbrev header_rows : List (List ℕ × Request)
+header_rows =
+    (codes "HDR Message-ID 1-5", over Hdr (in_range (range 1 (Some 5))))
+    ∷ (codes "XHDR Message-ID 1-5", over Xhdr (in_range (range 1 (Some 5))))
+    ∷ (codes "hdr message-id 5", over Hdr (in_range (range 5 (Some 5))))
+    ∷ (codes "xHdr\tMESSAGE-Id  05- ", over Xhdr (in_range (range 5 None)))
+    ∷ (codes "HDR Message-ID 5-3", over Hdr (in_range (range 5 (Some 3))))
+    ∷ (codes "XHDR Message-ID 0", over Xhdr (in_range (range 0 (Some 0))))
+    ∷ (codes "HDR Message-ID 1-1234567890123456", over Hdr (in_range (range 1 (Some 1234567890123456))))
+    ∷ (codes "HDR", opaque)
+    ∷ (codes "HDR Message-ID", opaque)
+    ∷ (codes "XHDR Message-ID", opaque)
+    ∷ (codes "HDR 1-5", opaque)
+    ∷ (codes "HDR Message-ID <a@b>", opaque)
+    ∷ (codes "XHDR Message-ID <", opaque)
+    ∷ (codes "HDR Message-ID 12345678901234567", opaque)
+    ∷ (codes "HDR Message-ID -5", opaque)
+    ∷ (codes "XHDR Message-ID 1-2-3", opaque)
+    ∷ (codes "XHDR Message-ID x", opaque)
+    ∷ (codes "HDR Message-ID 1 2", opaque)
+    ∷ (codes "XHDR Message-ID 1-5 x", opaque)
+    ∷ (codes "HDR 1-5 Message-ID", opaque)
+    ∷ (codes "HDR Subject 1-5", opaque)
+    ∷ (codes "HDR :bytes 1-5", opaque)
+    ∷ (codes "HDR Message-I 1-5", opaque)
+    ∷ (codes "HDR Message-IDs 1-5", opaque)
+    ∷ (codes "HDR Message-ID: 1-5", opaque)
+    ∷ (codes "HDR MessageID 1-5", opaque)
+    ∷ (codes "HDRS Message-ID 1-5", opaque)
+    ∷ (codes "HDR Message-ID 1\0", ill_formed)
+    ∷ []
+
+headers : Makes (request_as Judged) header_rows
+unfolding form_of
+headers = refl
+
 -- ---- lines of 512 octets with CRLF, and of 513
 
 -- so many letters
@@ -155,6 +195,10 @@ opaque_of_512_and_513 : Ask ((codes "LIST " ++ letters 505) ∷ (codes "MODE " +
 unfolding form_of
 opaque_of_512_and_513 = refl
 
+opaque_headers_of_513 : Ask ((codes "HDR " ++ letters 507) ∷ (codes "XHDR " ++ letters 506) ∷ []) opaque
+unfolding form_of
+opaque_headers_of_513 = refl
+
 abbrev long_overviews : List (List ℕ × Request)
 long_overviews =
     (codes "XOVER <" ++ letters 503, over Xover (the_id (codes "<" ++ letters 503)))
@@ -167,6 +211,25 @@ long_overviews =
 overviews_of_512_and_513 : Makes (request_as Judged) long_overviews
 unfolding form_of
 overviews_of_512_and_513 = refl
+
+-- a command that asks for the ids of 1 to 5, and so many spaces
+abbrev spaces : List ℕ → ℕ → List ℕ
+spaces line count = line ++ replicate count 32
+
+abbrev long_headers : List (List ℕ × Request)
+long_headers =
+    (spaces (codes "HDR Message-ID 1-5") 492, over Hdr (in_range (range 1 (Some 5))))
+    ∷ (spaces (codes "HDR Message-ID 1-5") 493, ill_formed)
+    ∷ (spaces (codes "XHDR Message-ID 1-5") 491, over Xhdr (in_range (range 1 (Some 5))))
+    ∷ (spaces (codes "XHDR Message-ID 1-5") 492, ill_formed)
+    ∷ (codes "HDR Subject " ++ letters 498, opaque)
+    ∷ (codes "HDR Subject " ++ letters 499, ill_formed)
+    ∷ (codes "XHDRX Message-ID " ++ letters 494, opaque)
+    ∷ []
+
+headers_of_512_and_513 : Makes (request_as Judged) long_headers
+unfolding form_of
+headers_of_512_and_513 = refl
 
 -- ---- what of a line decides how it is answered
 

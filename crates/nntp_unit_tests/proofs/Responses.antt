@@ -2,10 +2,11 @@
 use Rattle.std.{proofs.Common.{◌≡◌, ℕ, Bool, true, false, List, [], ◌∷◌, ◌++◌, Option, None, Some, replicate, refl}, specs.Prelude.{codes}}
 use Rattle.std.specs.{Char.{encode_utf8}, Str.{chars, is_utf8}}
 use Rattle.nntp_wire.specs.{Lines.{ended}, Command.{form_of, request_of, request_as}, Answer.{Asked, greeting, to, plain}, Session.{closes}}
-use Rattle.nntp_wire.specs.{Misspelling.{misspelling}, Listing.{OverviewValue, overview_of}, declared.overviews.Overviews.TheVariants.{Judged}}
-use Rattle.nntp_wire.specs.declared.misspelling.Misspelling.{Misspelling, TheVariants.{WrongOctet, TooLong, NoCode, WrongArgument, WrongLine, WrongBlock}}
-use Rattle.nntp_wire.specs.declared.misspelling.{Due.TheVariants.{Number, GroupName, MessageId}, LineFault.TheVariants.{BadOctet, SingleDot, NoNumber, NoGroup}}
-use Rattle.nntp_wire.specs.declared.misspelling.LineFault.TheVariants.{NoArticleNumber, NoMessageId, NoVersions}
+use Rattle.nntp_wire.specs.{Misspelling.{misspelling}, Listing.{OverviewValue, overview_of, listed_id_of, overviews_of}}
+use Rattle.nntp_wire.specs.declared.{overviews.Overviews.TheVariants.{Judged}, misspelling.Misspelling.{Misspelling, TheVariants.{WrongOctet, TooLong, NoCode}}}
+use Rattle.nntp_wire.specs.declared.misspelling.{Misspelling.TheVariants.{WrongArgument, WrongLine, WrongBlock}, Due.TheVariants.{Number, GroupName, MessageId}}
+use Rattle.nntp_wire.specs.declared.misspelling.LineFault.TheVariants.{BadOctet, SingleDot, NoNumber, NoGroup, NoArticleNumber, NoMessageId, NoListedNumber}
+use Rattle.nntp_wire.specs.declared.misspelling.LineFault.TheVariants.{NoListedId, NoVersions}
 use Rattle.nntp_unit_tests.proofs.Rows.{Makes}
 
 -- what a line asks
@@ -141,7 +142,7 @@ list_reasons = refl
 -- what a line of OVER or XOVER says
 abbrev overview : ℕ → List ℕ → (subject from date references : List (List ℕ)) → Option OverviewValue
 overview number id subject from date references =
-    Some (record { number = number; id = id; subject = subject; from = from; date = date; references = references })
+    Some (record { number = number; id = id; told = Some (record { subject = subject; from = from; date = date; references = references }) })
 
 abbrev overview_lines : List (List ℕ × Option OverviewValue)
 overview_lines =
@@ -154,6 +155,8 @@ overview_lines =
     )
     ∷ (codes "5\ts\tf\td", None)
     ∷ (codes "5 s f d <a@x> r 9 1", None)
+    ∷ (codes "5 <a@x>", None)
+    ∷ (codes "5\t<a@x>", None)
     ∷ (codes "\ts\tf\td\t<a@x>\tr\t9\t1", None)
     ∷ (codes "x\ts\tf\td\t<a@x>\tr\t9\t1", None)
     ∷ (codes "5 6\ts\tf\td\t<a@x>\tr\t9\t1", None)
@@ -166,6 +169,52 @@ overview_lines =
 
 overviews_of_lines : Makes overview_of overview_lines
 overviews_of_lines = refl
+
+-- what a line of HDR or XHDR says
+abbrev listed_id : ℕ → List ℕ → Option OverviewValue
+listed_id number id = Some (record { number = number; id = id; told = None })
+
+abbrev listed_id_lines : List (List ℕ × Option OverviewValue)
+listed_id_lines =
+    (codes "5 <a@x>", listed_id 5 (codes "<a@x>"))
+    ∷ (codes " 05   <a@x> ", listed_id 5 (codes "<a@x>"))
+    ∷ (codes "0 <a@x>", listed_id 0 (codes "<a@x>"))
+    ∷ (codes "9999999999999999 <a@x>", listed_id 9999999999999999 (codes "<a@x>"))
+    ∷ (codes "00000000000000005 <a@x>", None)
+    ∷ (codes "5\t<a@x>", None)
+    ∷ (codes "5 <a@x>\t", None)
+    ∷ (codes "\t5 <a@x>", None)
+    ∷ (codes "5\t\t\t\t<a@x>", None)
+    ∷ (codes "5", None)
+    ∷ (codes "<a@x>", None)
+    ∷ (codes "5<a@x>", None)
+    ∷ (codes "<a@x> 5", None)
+    ∷ (codes "x <a@x>", None)
+    ∷ (codes "-5 <a@x>", None)
+    ∷ (codes "5 a@x", None)
+    ∷ (codes "5 <>", None)
+    ∷ (codes "5 (none)", None)
+    ∷ (codes "5 <a@x> <b@x>", None)
+    ∷ (codes "5 6 <a@x>", None)
+    ∷ (codes "", None)
+    ∷ []
+
+ids_of_lines : Makes listed_id_of listed_id_lines
+ids_of_lines = refl
+
+-- what the lines of both kinds say, where one between them is of neither
+abbrev mixed_lines : List (List ℕ)
+mixed_lines = codes "1 <a@x>" ∷ codes "2\t\t\t\t<b@x>" ∷ codes "3\t<c@x>" ∷ codes "4  <d@x>" ∷ []
+
+abbrev mixed_overviews : List OverviewValue
+mixed_overviews =
+    record { number = 1; id = codes "<a@x>"; told = None }
+    ∷ record { number = 2; id = codes "<b@x>"; told = Some (record { subject = []; from = []; date = []; references = [] }) }
+    ∷ record { number = 4; id = codes "<d@x>"; told = None }
+    ∷ []
+
+overviews_of_both_kinds : overviews_of mixed_lines ≡ mixed_overviews
+overviews_of_both_kinds = refl
 
 -- why these are no response to the line, where overviews are judged
 abbrev judged_reason : Whole → Option Misspelling
@@ -183,6 +232,7 @@ overviews =
     ∷ ((codes "XOVER 1-5", codes "224", codes "1\ts\tf\td\t\t<r@x>" ∷ []), Some (WrongLine 1 NoMessageId))
     ∷ ((codes "OVER 1-5", codes "224", codes "1" ∷ codes ".x" ∷ []), Some (WrongLine 1 NoMessageId))
     ∷ ((codes "OVER 1-5", codes "224", codes ".x" ∷ []), Some (WrongLine 1 SingleDot))
+    ∷ ((codes "OVER 1-5", codes "224", codes "1 <a@x>" ∷ []), Some (WrongLine 1 NoArticleNumber))
     ∷ ((codes "OVER x", codes "224", codes "1 x" ∷ []), None)
     ∷ ((codes "STAT", codes "224", codes "1 x" ∷ []), None)
     ∷ []
@@ -190,6 +240,38 @@ overviews =
 overview_reasons : Makes judged_reason overviews
 unfolding form_of
 overview_reasons = refl
+
+abbrev ids : List (Whole × Option Misspelling)
+ids =
+    ((codes "HDR Message-ID 1-5", codes "225 h", codes "1 <a@x>" ∷ codes " 03  <c@x>" ∷ []), None)
+    ∷ ((codes "XHDR message-id 1-5", codes "221 h", codes "1 <a@x>" ∷ []), None)
+    ∷ ((codes "HDR Message-ID 1-5", codes "225", []), None)
+    ∷ ((codes "XHDR Message-ID 1-5", codes "221", []), None)
+    ∷ ((codes "HDR Message-ID 1-5", codes "225", codes "x <a@x>" ∷ []), Some (WrongLine 1 NoListedNumber))
+    ∷ ((codes "HDR Message-ID 1-5", codes "225", codes "1 <a@x>" ∷ [] ∷ []), Some (WrongLine 2 NoListedNumber))
+    ∷ ((codes "XHDR Message-ID 1-5", codes "221", codes "<a@x>" ∷ []), Some (WrongLine 1 NoListedNumber))
+    ∷ ((codes "XHDR Message-ID 1-5", codes "221", codes "00000000000000001 <a@x>" ∷ []), Some (WrongLine 1 NoListedNumber))
+    ∷ ((codes "HDR Message-ID 1-5", codes "225", codes "1 <a@x>" ∷ codes "3" ∷ []), Some (WrongLine 2 NoListedId))
+    ∷ ((codes "HDR Message-ID 1-5", codes "225", codes "1 (none)" ∷ []), Some (WrongLine 1 NoListedId))
+    ∷ ((codes "HDR Message-ID 1-5", codes "225", codes "1 <a@x> x" ∷ []), Some (WrongLine 1 NoListedId))
+    ∷ ((codes "HDR Message-ID 1-5", codes "225", codes "1\t<a@x>" ∷ []), Some (WrongLine 1 NoListedId))
+    ∷ ((codes "HDR Message-ID 1-5", codes "225", codes "1 <a@x>\t" ∷ []), Some (WrongLine 1 NoListedId))
+    ∷ ((codes "HDR Message-ID 1-5", codes "225", codes "1\t\t\t\t<a@x>" ∷ []), Some (WrongLine 1 NoListedId))
+    ∷ ((codes "XHDR Message-ID 1-5", codes "221", codes "1\ts\tf\td\t<a@x>\tr\t9\t1" ∷ []), Some (WrongLine 1 NoListedId))
+    ∷ ((codes "HDR Message-ID 1-5", codes "225", codes "1" ∷ codes ".x" ∷ []), Some (WrongLine 1 NoListedId))
+    ∷ ((codes "HDR Message-ID 1-5", codes "225", codes ".x" ∷ []), Some (WrongLine 1 SingleDot))
+    ∷ ((codes "HDR Message-ID 1-5", codes "221", codes "1 x" ∷ []), None)
+    ∷ ((codes "HDR Message-ID 1-5", codes "224", codes "1 x" ∷ []), None)
+    ∷ ((codes "XHDR Message-ID 1-5", codes "225", codes "1 x" ∷ []), None)
+    ∷ ((codes "OVER 1-5", codes "225", codes "1 x" ∷ []), None)
+    ∷ ((codes "HDR Subject 1-5", codes "225", codes "1 x" ∷ []), None)
+    ∷ ((codes "XHDR Message-ID <a@x>", codes "221", codes "<a@x> <a@x>" ∷ []), None)
+    ∷ ((codes "HEAD", codes "225", codes "1 x" ∷ []), None)
+    ∷ []
+
+id_reasons : Makes judged_reason ids
+unfolding form_of
+id_reasons = refl
 
 -- what is wrong with a list of capabilities
 abbrev capabilities_reason : List (List ℕ) → Option Misspelling

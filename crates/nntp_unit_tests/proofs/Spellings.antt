@@ -2,8 +2,8 @@
 use Rattle.std.{proofs.Common.{ℕ, List, [], ◌∷◌, None, Some, refl}, specs.{Prelude.{codes}, Char.{encode_utf8}, Str.{chars, is_utf8}}}
 use Rattle.nntp_wire.specs.Command.{by_id, current, capabilities, next, opaque, group, list_group, from_one, retrieve, list_active, over, the_id, in_range}
 use Rattle.nntp_wire.specs.{Argument.{HasArticle, HasGroup}, Answer.{Spells, greeting, to, group_is, numbers_are, sends, active_are, overviews_are, plain}}
-use Rattle.nntp_wire.specs.declared.{command.{What.TheVariants.{Body, Stat}, OverviewKeyword.TheVariants.{Over, Xover}}, water_marks.WaterMarks.{WaterMarks}}
-use Rattle.nntp_wire.proofs.DecidedLemmas.{message_id-iff, group_name-iff}
+use Rattle.nntp_wire.specs.declared.command.{What.TheVariants.{Body, Stat}, OverviewKeyword.TheVariants.{Over, Xover, Hdr, Xhdr}}
+use Rattle.nntp_wire.{specs.declared.water_marks.WaterMarks.{WaterMarks}, proofs.DecidedLemmas.{message_id-iff, group_name-iff}}
 
 -- ---- a code alone
 
@@ -131,3 +131,21 @@ none_in_a_range = record { line = codes "423 none"; code = 423; block = None; wh
 
 no_overview_of_an_id : Spells (to (over Over (the_id (codes "<a@x>")))) (plain 430) (codes "430\r\n")
 no_overview_of_an_id = record { line = codes "430"; code = 430; block = None; whole = refl; status = refl; due = refl; clean = tt; says = refl }
+
+-- ---- ids
+
+abbrev ids : List (List ℕ)
+ids = codes "1 <a@x>" ∷ codes " 03  <c@x>" ∷ []
+
+ids_of_a_range : Spells (to (over Hdr (in_range from_one))) (overviews_are ids) (codes "225 h\r\n1 <a@x>\r\n 03  <c@x>\r\n.\r\n")
+ids_of_a_range = record { line = codes "225 h"; code = 225; block = Some ids; whole = refl; status = refl; due = refl; clean = (refl, (refl, tt)); says = (refl, refl) }
+
+ids_of_none : Spells (to (over Xhdr (in_range from_one))) (overviews_are []) (codes "221\r\n.\r\n")
+ids_of_none = record { line = codes "221"; code = 221; block = Some []; whole = refl; status = refl; due = refl; clean = tt; says = (refl, refl) }
+
+no_ids_in_a_range : Spells (to (over Xhdr (in_range from_one))) (plain 420) (codes "420 none\r\n")
+no_ids_in_a_range = record { line = codes "420 none"; code = 420; block = None; whole = refl; status = refl; due = refl; clean = tt; says = refl }
+
+-- the code of XHDR after HDR says no more than the code
+of_xhdr_after_hdr : Spells (to (over Hdr (in_range from_one))) (plain 221) (codes "221 x\r\n1 x\r\n.\r\n")
+of_xhdr_after_hdr = record { line = codes "221 x"; code = 221; block = Some (codes "1 x" ∷ []); whole = refl; status = refl; due = refl; clean = (refl, tt); says = refl }

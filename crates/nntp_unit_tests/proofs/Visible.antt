@@ -3,7 +3,7 @@ use Rattle.std.{proofs.Common.{◌≡◌, ℕ, Bool, true, false, List, [], ◌�
 use Rattle.std.specs.{Cmp.Lexicographic.{slice_cmp}, Ordering.{nat_cmp}, FinMap.{FinMap, empty, get, insert}, Char.{encode_utf8}, Str.{chars, is_utf8}}
 use Rattle.nntp_wire.specs.{Limit.{greatest}, Reason.{unless, first}, Command.{Target, by_id, by_number, current, group, list_group, retrieve, list_active}}
 use Rattle.nntp_wire.specs.{Command.{next, quit, over, the_id, in_range, the_current}, Answer.{Asked, greeting, to, Response, group_is, numbers_are, sends}}
-use Rattle.nntp_wire.specs.{Answer.{active_are, overviews_are, plain}, declared.command.OverviewKeyword.{OverviewKeyword, TheVariants.{Over, Xover}}}
+use Rattle.nntp_wire.specs.{Answer.{active_are, overviews_are, plain}, declared.command.OverviewKeyword.{OverviewKeyword, TheVariants.{Over, Xover, Hdr, Xhdr}}}
 use Rattle.nntp_wire.specs.declared.{command.What.TheVariants.{Head, Stat}, limit.Limit.{Limit, TheVariants.{Narrow, Wide}}, marks.Marks.TheVariants.{Lenient}}
 use Rattle.nntp_article.specs.{Article.Parts.{Line}, declared.session.profile.Profile.{Profile}, Session.Machine.{Visible, start, is_article_number}}
 use Rattle.nntp_article.specs.Session.{Machine.{visible_after}, Misfit.{Misfit, wrong_code, wrong_name, wrong_number, wrong_id, below_low, wrong_marks}}
@@ -172,6 +172,43 @@ ranges_in_a_group =
 ranges_of_g : (lows : Lows) → Makes (λ row. misfit (within Narrow) (selected lows) row.0 row.1) ranges_in_a_group
 ranges_of_g lows = refl
 
+-- lines of HDR and XHDR
+abbrev id_of_one : Line
+id_of_one = codes "1 <a@x>"
+
+abbrev id_of_three : Line
+id_of_three = codes "3 <c@x>"
+
+abbrev ids_in_a_group : Rows
+ids_in_a_group =
+    ((of_range Hdr 1 3, overviews_are (id_of_one ∷ id_of_three ∷ [])), None)
+    ∷ ((of_range Xhdr 1 3, overviews_are (id_of_one ∷ id_of_three ∷ [])), None)
+    ∷ ((of_range Hdr 1 5, overviews_are []), Some wrong_lines)
+    ∷ ((of_range Xhdr 1 5, overviews_are []), None)
+    ∷ ((of_range Hdr 2 4, plain 423), None)
+    ∷ ((of_range Hdr 2 4, plain 420), Some (wrong_code 420 (225 ∷ 423 ∷ [])))
+    ∷ ((of_range Hdr 2 4, plain 430), Some (wrong_code 430 (225 ∷ 423 ∷ [])))
+    ∷ ((of_range Hdr 2 4, plain 503), None)
+    ∷ ((of_range Hdr 2 4, plain 381), Some (wrong_code 381 (225 ∷ 423 ∷ [])))
+    ∷ ((of_range Hdr 2 4, plain 221), Some (wrong_code 221 (225 ∷ 423 ∷ [])))
+    ∷ ((of_range Hdr 2 4, plain 224), Some (wrong_code 224 (225 ∷ 423 ∷ [])))
+    ∷ ((of_range Xhdr 2 4, plain 423), None)
+    ∷ ((of_range Xhdr 2 4, plain 420), None)
+    ∷ ((of_range Xhdr 2 4, plain 502), None)
+    ∷ ((of_range Xhdr 2 4, plain 412), Some (wrong_code 412 (221 ∷ 420 ∷ 423 ∷ [])))
+    ∷ ((of_range Xhdr 2 4, plain 225), Some (wrong_code 225 (221 ∷ 420 ∷ 423 ∷ [])))
+    ∷ ((of_range Hdr 5 3, overviews_are (codes "5 <a@x>" ∷ [])), Some (beyond_range 5))
+    ∷ ((of_range Hdr 2 4, overviews_are (id_of_one ∷ [])), Some (beyond_range 1))
+    ∷ ((of_range Xhdr 1 2, overviews_are (id_of_one ∷ codes "2 <a@x>" ∷ [])), Some (listed_twice (codes "<a@x>")))
+    ∷ ((of_range Xhdr 1 3, overviews_are (id_of_three ∷ id_of_one ∷ [])), Some (not_above 3 1))
+    ∷ ((of_range Hdr 1 3, overviews_are (id_of_one ∷ codes "01 <b@x>" ∷ [])), Some (not_above 1 1))
+    ∷ ((of_range Hdr 0 3, overviews_are (codes "0 <b@x>" ∷ id_of_one ∷ [])), Some (beyond_limit 0))
+    ∷ ((of_range Xhdr 1 9999999999999999, overviews_are (codes "2147483648 <a@x>" ∷ [])), Some (beyond_limit 2147483648))
+    ∷ []
+
+ids_of_g : (lows : Lows) → Makes (λ row. misfit (within Narrow) (selected lows) row.0 row.1) ids_in_a_group
+ids_of_g lows = refl
+
 abbrev single_in_a_group : Rows
 single_in_a_group =
     ((of_current, overviews_are (one_is_a ∷ [])), None)
@@ -198,6 +235,10 @@ overviews_before_a_group =
     ((of_range Over 1 3, overviews_are (one_is_a ∷ [])), Some (wrong_code 224 (412 ∷ [])))
     ∷ ((of_range Over 1 3, plain 412), None)
     ∷ ((of_range Over 1 3, plain 423), Some (wrong_code 423 (412 ∷ [])))
+    ∷ ((of_range Hdr 1 3, overviews_are (id_of_one ∷ [])), Some (wrong_code 225 (412 ∷ [])))
+    ∷ ((of_range Hdr 1 3, plain 412), None)
+    ∷ ((of_range Xhdr 1 3, overviews_are []), Some (wrong_code 221 (412 ∷ [])))
+    ∷ ((of_range Xhdr 1 3, plain 420), Some (wrong_code 420 (412 ∷ [])))
     ∷ ((of_current, overviews_are (one_is_a ∷ three_is_c ∷ [])), Some (wrong_code 224 (412 ∷ [])))
     ∷ ((of_current, plain 412), None)
     ∷ ((of_a, overviews_are (codes "0\t\t\t\t<a@x>" ∷ [])), None)
@@ -273,3 +314,6 @@ zeros_leave_the_low_mark lows = refl
 
 overviews_move_nothing : (lows : Lows) → visible_after (selected lows) (of_range Over 1 3) (overviews_are (one_is_a ∷ [])) ≡ selected lows
 overviews_move_nothing lows = refl
+
+ids_move_nothing : (lows : Lows) → visible_after (selected lows) (of_range Hdr 1 3) (overviews_are (id_of_one ∷ [])) ≡ selected lows
+ids_move_nothing lows = refl

@@ -1,7 +1,9 @@
 //! What heads and overviews tell of four headers, where they differ, and heads that are made of it.
 use nntp_article::{Field, FieldWords, Fields, ToldFields, made_head};
 use nntp_refusing::{Refusal, Refusing};
-use nntp_wire::{Answer, Block, Command, MessageId, OwnedBlock, Prompt, frame, overview_line};
+use nntp_wire::{
+    Answer, Block, Command, MessageId, OwnedBlock, Prompt, frame, listed_id, overview_line,
+};
 use std::alloc::{AllocError, Allocator};
 use std::process::Abort;
 
@@ -155,17 +157,22 @@ fn heads_tell_words(rt: HostRuntime) {
 #[test]
 fn overviews_tell_words(rt: HostRuntime) {
     let fields = [Field::Subject, Field::From, Field::Date, Field::References];
-    for &(line, told) in OVERVIEWS {
-        for (field, wanted) in fields.into_iter().zip(told) {
-            let Some(overview) = overview_line(line) else {
+    for &(line, wanted) in OVERVIEWS {
+        for (field, words) in fields.into_iter().zip(wanted) {
+            let Some(told) = told_by(line) else {
                 panic!(rt; "no overview");
             };
-            assert!(rt;
-                are(Fields::of_overview(overview).of(field), wanted),
-                "{line:?}"
-            );
+            assert!(rt; are(told.of(field), words), "{line:?}");
         }
     }
+}
+
+#[test]
+fn listed_ids_tell_no_words(rt: HostRuntime) {
+    let Some(listed) = listed_id(b"3 <z@x>") else {
+        panic!(rt; "no id");
+    };
+    assert!(rt; Fields::of_overview(&listed).is_none());
 }
 
 #[test]
@@ -177,14 +184,14 @@ fn names_of_fields(rt: HostRuntime) {
 }
 
 /// What the overview tells, if the line is one.
-fn told(line: &[u8]) -> Option<Fields<'_>> {
-    Some(Fields::of_overview(overview_line(line)?))
+fn told_by(line: &[u8]) -> Option<Fields<'_>> {
+    Fields::of_overview(&overview_line(line)?)
 }
 
 #[test]
 fn first_differences(rt: HostRuntime) {
     for &(line, wanted) in DIFFERENCES {
-        let (Some(one), Some(other)) = (told(b"1\ts t\tf\td\t<z@x>\tr"), told(line)) else {
+        let (Some(one), Some(other)) = (told_by(b"1\ts t\tf\td\t<z@x>\tr"), told_by(line)) else {
             panic!(rt; "no overview");
         };
         assert!(rt; one.first_difference(other) == wanted, "{line:?}");

@@ -65,7 +65,7 @@ const TOLD: &[Told] = &[
     },
 ];
 
-/// The sessions with their names, in which OVER and XOVER are taken so.
+/// The sessions with their names, in which overviews are taken so.
 fn named<'a>(
     alloc: Global,
     overviews: Overviews,
@@ -83,7 +83,7 @@ fn named<'a>(
     Ok(all)
 }
 
-/// Explains sessions in which OVER and XOVER are taken so, and compares what is printed.
+/// Explains sessions in which overviews are taken so, and compares what is printed.
 pub(super) fn expect_report(
     rt: &impl Abort,
     alloc: Global,

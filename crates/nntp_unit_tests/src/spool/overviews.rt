@@ -1,4 +1,4 @@
-//! Which overviews a spool explains: those that tell what its articles do of four headers.
+//! Which overviews a spool explains: those that tell what its articles do of four headers, or nothing but their ids.
 use nntp_spool::{Spool, Verified, verify_taking};
 use nntp_wire::{Marks, Overviews};
 use std::alloc::{AllocError, Global};
@@ -141,6 +141,35 @@ const RANGES: &[Row] = &[
     ),
 ];
 
+/// The ids of ranges, of which nothing else is told.
+const IDS: &[Row] = &[
+    ("HDR Message-ID 1-3", "1 <a@b>\r\n3 <c@d>\r\n", true),
+    ("XHDR Message-ID 1-", "1 <a@b>\r\n03  <c@d>\r\n", true),
+    ("HDR Message-ID 2-", "3 <c@d>\r\n", true),
+    ("XHDR Message-ID 2", "", true),
+    // One number is left out, or all are.
+    ("HDR Message-ID 1-3", "1 <a@b>\r\n", false),
+    ("HDR Message-ID 1-3", "3 <c@d>\r\n", false),
+    ("XHDR Message-ID 1-3", "", false),
+    // A number that the group hasn't, with an id that has an article, and with one that has none.
+    ("HDR Message-ID 2-3", "2 <a@b>\r\n3 <c@d>\r\n", false),
+    ("XHDR Message-ID 2", "2 <e@f>\r\n", false),
+    // Each other's ids, and another one.
+    ("HDR Message-ID 1-3", "1 <c@d>\r\n3 <a@b>\r\n", false),
+    ("XHDR Message-ID 3", "3 <e@f>\r\n", false),
+];
+
+/// The code by which what is sent for the command begins.
+fn code_of(line: &str) -> u64 {
+    if line.starts_with("HDR") {
+        225
+    } else if line.starts_with("XHDR") {
+        221
+    } else {
+        224
+    }
+}
+
 /// Verifies the answer behind the selection of the group.
 fn verified(
     alloc: Global,
@@ -150,7 +179,8 @@ fn verified(
     sent: &str,
 ) -> Result<Verified, AllocError> {
     let client = format!(in alloc; "GROUP g\r\n{line}\r\n")?;
-    let server = format!(in alloc; "200 hi\r\n211 2 1 3 g\r\n224 x\r\n{sent}.\r\n")?;
+    let code = code_of(line);
+    let server = format!(in alloc; "200 hi\r\n211 2 1 3 g\r\n{code} x\r\n{sent}.\r\n")?;
     verify_taking(
         alloc,
         Marks::Lenient,
@@ -182,7 +212,7 @@ fn fault(alloc: Global, &(line, sent, is_explained): &Row) -> Option<&'static st
 
 #[test]
 fn overviews_tell_what_their_articles_do(rt: HostRuntime) {
-    for rows in [FIRST, SECOND, RANGES] {
+    for rows in [FIRST, SECOND, RANGES, IDS] {
         for row in rows {
             let fault = fault(rt.alloc(), row);
             assert!(rt; fault.is_none(), "{fault:?}: {row:?}");
