@@ -28,8 +28,12 @@ SAYING_CODES = {
     **dict.fromkeys((b"NEXT", b"LAST"), STEP_CODES),
     **dict.fromkeys((b"ARTICLE", b"HEAD", b"BODY", b"STAT"), ARTICLE_CODES),
 }
-# Those of answers to OVER and XOVER, where these are judged.
-OVERVIEW_CODES = frozenset(b"224 420 423 430".split())
+# Those of answers to what asks for overviews, where these are judged.
+OVERVIEW_CODES = {
+    **dict.fromkeys((b"OVER", b"XOVER"), frozenset(b"224 420 423 430".split())),
+    b"HDR": frozenset(b"225 423".split()),
+    b"XHDR": frozenset(b"221 420 423".split()),
+}
 
 
 class Disagreement(Exception):
@@ -74,13 +78,14 @@ class Exchange:
         return code_of(self.initial or b"")
 
     def says_nothing(self, has_overviews: bool) -> bool:
-        """Whether the answer says nothing of any group, number or article, by the rule of tools/judge. OVER and XOVER
-        may be judged or not."""
+        """Whether the answer says nothing of any group, number or article, by the rule of tools/judge. Overviews may be
+        judged or not."""
         word, *arguments = [word.upper() for word in self.words()] or [b""]
         if word == b"LIST":
             return self.code() != b"215" or arguments[:1] not in ([], [b"ACTIVE"])
-        if word in (b"OVER", b"XOVER"):
-            return not (has_overviews and are_overviewed(arguments)) or self.code() not in OVERVIEW_CODES
+        if word in OVERVIEW_CODES:
+            is_judged = has_overviews and asks_for_overviews(word, arguments)
+            return not is_judged or self.code() not in OVERVIEW_CODES[word]
         return self.code() not in SAYING_CODES.get(word, ())
 
     def as_shown(self) -> str:
@@ -128,8 +133,11 @@ def is_list_group(line: bytes) -> bool:
     return words[0].upper() == b"LISTGROUP" and (len(words) < 3 or bool(RANGE.fullmatch(words[2])))
 
 
-def are_overviewed(arguments: List[bytes]) -> bool:
-    """Whether OVER asks for overviews by these words: by none, by an id, or by a range."""
+def asks_for_overviews(keyword: bytes, arguments: List[bytes]) -> bool:
+    """Whether a keyword of these asks for overviews by these words, in upper case: OVER and XOVER by none, by an id, or
+    by a range; HDR and XHDR by Message-ID and a range."""
+    if keyword in (b"HDR", b"XHDR"):
+        return len(arguments) == 2 and arguments[0] == b"MESSAGE-ID" and bool(RANGE.fullmatch(arguments[1]))
     if len(arguments) != 1:
         return not arguments
     return arguments[0].startswith(b"<") or bool(RANGE.fullmatch(arguments[0]))

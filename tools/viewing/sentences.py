@@ -58,7 +58,7 @@ WHY = (
     ("why twice NAME", "It lists {NAME} twice."),
     (
         "why lines",
-        "It lists no overview where OVER names a range, or not just one where the overview of one article was asked for.",
+        "It lists no overview where OVER or HDR names a range, or not just one where one article was asked for.",
     ),
     ("why head", "What it sends isn't a head, or isn't a head and a body. Which line is wrong isn't told."),
     ("why own ID", "The head that it sends says the id {ID}, and that isn't the id of the answer."),

@@ -43,7 +43,7 @@ class Judgement:
 
     sessions: List[Session]
     explanation: Explanation
-    # Whether OVER and XOVER are judged.
+    # Whether overviews are judged.
     has_overviews: bool
     # Which answers are bad, in their order.
     bad: List[Place] = field(init=False)
@@ -93,7 +93,7 @@ class Judgement:
 
 
 def judgement_of(capture: bytes, show: str, explain: str, has_overviews: bool, has_passwords: bool) -> Judgement:
-    """What these reports of `show` and `explain` say of a capture, the second by judging OVER and XOVER or not."""
+    """What these reports of `show` and `explain` say of a capture, the second by judging overviews or not."""
     explanation = explanation_of(explain)
     sessions = list(sessions_of(capture, show, explanation))
     agree(sessions, explanation)
