@@ -97,7 +97,7 @@ impl<A: Allocator + Copy> Kept<A> {
     {
         match (&saying.groups, saying.listing()) {
             (Some(list), _) => self.note_groups(list.wildmat, listed.groups()),
-            (None, Some((group, block))) => self.note_overviews(group, block),
+            (None, Some(group)) => self.note_overviews(group, listed.overviews()),
             (None, None) => self.note_parts(saying),
         }
     }

@@ -286,12 +286,12 @@ impl<'s> Saying<'s> {
         }
     }
 
-    /// Returns the group of whose numbers overviews are said, and the lines that are the overviews, if any are.
-    pub(crate) fn listing(&self) -> Option<(&GroupPart<'s>, &'s Block<'s>)>
-        ensures { option_map (λ l. (of_group l.0.now, overviews_of l.1.now)) result ≡ listing (saying_of self.now) }
+    /// Returns the group of whose numbers overviews are said, if any are.
+    pub(crate) fn listing(&self) -> Option<&GroupPart<'s>>
+        ensures { option_map (λ group. of_group group.now) result ≡ listing (saying_of self.now) }
     {
         match (&self.overviews, &self.group) {
-            (Some(list), Some(group)) => Some((group, list.block)),
+            (Some(_), Some(group)) => Some(group),
             _ => None,
         }
     }

@@ -1,7 +1,7 @@
 -- What an answer lists, and what the values of src/session/listed.rt mean.
 use Rattle.std.specs.Prelude.{ℕ, List, [], map}
-use Rattle.nntp_wire.specs.{Answer.{Response}, Listing.{ActiveValue, OverviewValue}, Inner.View.{active_value, overview_value}}
-use Rattle.nntp_article.specs.{Inner.Misfit.{numbers_of, groups_of, overviews_in}, declared.session.listed.Listed.{Listed, TheVariants.{Nothing, Numbers}}}
+use Rattle.nntp_wire.specs.{Answer.{Response}, Listing.{ActiveValue, OverviewValue}, Inner.View.{active_value}}
+use Rattle.nntp_article.specs.{Session.Machine.{overview_numbers}, Inner.Misfit.{numbers_of, groups_of, overviews_in}, declared.session.listed.Listed.{Listed, TheVariants.{Nothing, Numbers}}}
 use Rattle.nntp_article.specs.declared.session.listed.Listed.TheVariants.{Groups, Overviews}
 
 -- what may be listed: numbers, by themselves or with overviews, groups and overviews (sections 6.1.2, 7.6.3 and 8.3)
@@ -19,4 +19,4 @@ abbrev pub lists : {A : Type 0} → Listed A → Lists
 lists Nothing = record { numbers = []; groups = []; overviews = [] }
 lists (Numbers numbers) = record { numbers = numbers.items; groups = []; overviews = [] }
 lists (Groups groups) = record { numbers = []; groups = map active_value groups.items; overviews = [] }
-lists (Overviews numbers overviews) = record { numbers = numbers.items; groups = []; overviews = map overview_value overviews.items }
+lists (Overviews overviews) = record { numbers = overview_numbers overviews; groups = []; overviews = overviews }

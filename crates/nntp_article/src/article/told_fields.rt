@@ -47,6 +47,9 @@ impl<A: Allocator> ToldFields<A> {
     }
 }
 
+/// The octets that the line of a header seldom has more of, so that memory for it is taken once.
+const USUAL_LINE: usize = 128;
+
 impl<A: Allocator + Copy> ToldFields<A> {
     /// Holds what an overview tells.
     ///
@@ -58,7 +61,8 @@ impl<A: Allocator + Copy> ToldFields<A> {
         ensures { IfOk result (λ held. held ≡ told.entry) }
     {
         let mut lines = OwnedBlock::new(alloc);
-        push_fields(&mut lines, &mut Vec::new(alloc), told)?;
+        let mut line = Vec::with_capacity(alloc, USUAL_LINE)?;
+        push_fields(&mut lines, &mut line, told)?;
         let lines = lines.as_block().to_owned(alloc)?;
         Ok(ToldFields { lines })
     }

@@ -1,12 +1,13 @@
 //! What an answer lists (RFC 3977, sections 6.1.2, 7.6.3 and 8.3).
 ghost use Rattle.std.specs.Prelude.{◌≡◌, IfOk, map};
-ghost use Rattle.nntp_wire.specs.Answer.{overviews_are};
-ghost use Rattle.nntp_wire.specs.Listing.{active_groups, listed_numbers, overviews_of};
+ghost use Rattle.std.specs.List.{AllByRecursion};
+ghost use Rattle.nntp_wire.specs.Listing.{active_groups, listed_numbers};
 ghost use Rattle.nntp_wire.specs.Inner.View.{active_value, overview_value};
 ghost use Rattle.nntp_wire.specs.Inner.AnswerView.{response};
-ghost use Rattle.nntp_article.specs.Session.Machine.{overview_numbers};
+ghost use Rattle.nntp_article.specs.Inner.Fields.{TellsWords};
 ghost use Rattle.nntp_article.specs.Inner.Listed.{lists, lists_of};
 
+use crate::session::listed_overviews::ListedOverviews;
 use nntp_wire::{ActiveLine, Answer, Block, OverviewLine};
 use std::alloc::{AllocError, Allocator, Global};
 
@@ -20,12 +21,7 @@ pub enum Listed<'a, A: Allocator = Global> {
     /// The groups of a 215 to LIST ACTIVE (RFC 3977, section 7.6.3).
     Groups(Vec<ActiveLine<'a>, A>),
     /// The overviews of a 224 to OVER or XOVER, a 225 to HDR or a 221 to XHDR (RFC 3977, sections 8.3 and 8.5).
-    Overviews {
-        /// The number of each.
-        numbers: Vec<u64, A>,
-        /// The overviews, in the order of their lines.
-        overviews: Vec<OverviewLine<'a>, A>,
-    },
+    Overviews(ListedOverviews<'a, A>),
 }
 
 impl<'a, A: Allocator + Copy> Listed<'a, A> {
@@ -40,18 +36,9 @@ impl<'a, A: Allocator + Copy> Listed<'a, A> {
         match answer {
             Answer::Numbers { block, .. } => Ok(Listed::Numbers(numbers_in(alloc, block)?)),
             Answer::Active(block) => Ok(Listed::Groups(groups_in(alloc, block)?)),
-            Answer::Overviews(block) => Listed::of_overviews(alloc, block),
+            Answer::Overviews(block) => Ok(Listed::Overviews(ListedOverviews::of(alloc, block)?)),
             _ => Ok(Listed::Nothing),
         }
-    }
-
-    /// Reads the overviews that the lines are.
-    fn of_overviews(alloc: A, block: &Block<'a>) -> Result<Listed<'a, A>, AllocError>
-        ensures { IfOk result (λ listed. lists listed ≡ lists_of (overviews_are block.now)) }
-    {
-        let overviews = overviews_in(alloc, block)?;
-        let numbers = numbers_of_overviews(alloc, &overviews)?;
-        Ok(Listed::Overviews { numbers, overviews })
     }
 }
 
@@ -62,7 +49,7 @@ impl<'a, A: Allocator> Listed<'a, A> {
     {
         match self {
             Listed::Numbers(numbers) => numbers,
-            Listed::Overviews { numbers, .. } => numbers,
+            Listed::Overviews(listed) => listed.numbers(),
             _ => &[],
         }
     }
@@ -77,12 +64,13 @@ impl<'a, A: Allocator> Listed<'a, A> {
         }
     }
 
-    /// The overviews that are listed.
+    /// The overviews that are listed. What they tell of headers are words of lines that hold neither NUL, CR nor LF.
     pub fn overviews(&self) -> &[OverviewLine<'a>]
-        ensures { map overview_value result.now ≡ (lists self.now).overviews }
+        ensures overviews { map overview_value result.now ≡ (lists self.now).overviews }
+        ensures words { AllByRecursion TellsWords (lists self.now).overviews }
     {
         match self {
-            Listed::Overviews { overviews, .. } => overviews,
+            Listed::Overviews(listed) => listed.overviews(),
             _ => &[],
         }
     }
@@ -111,32 +99,4 @@ fn groups_in<'a, A: Allocator + Copy>(
         groups.push(group)?;
     }
     Ok(groups)
-}
-
-/// Collects the overviews that the lines are.
-fn overviews_in<'a, A: Allocator + Copy>(
-    alloc: A,
-    block: &Block<'a>,
-) -> Result<Vec<OverviewLine<'a>, A>, AllocError>
-    ensures { IfOk result (λ overviews. map overview_value overviews.items ≡ overviews_of block.now) }
-{
-    let mut overviews = Vec::new(alloc);
-    for overview in block.overviews() {
-        overviews.push(overview)?;
-    }
-    Ok(overviews)
-}
-
-/// Collects the numbers of overviews.
-fn numbers_of_overviews<A: Allocator + Copy>(
-    alloc: A,
-    overviews: &[OverviewLine<'_>],
-) -> Result<Vec<u64, A>, AllocError>
-    ensures { IfOk result (λ numbers. numbers.items ≡ overview_numbers (map overview_value overviews.now)) }
-{
-    let mut numbers = Vec::new(alloc);
-    for overview in overviews {
-        numbers.push(overview.number)?;
-    }
-    Ok(numbers)
 }

@@ -35,37 +35,36 @@ list_added facts more s wildmat lines lists old new does is listed t formed adds
 
 -- ---- where overviews are
 
--- the saying lists these overviews of the group
-listing_is : (s : Saying) (g : OfGroup) (os : List OverviewValue) → listing s ≡ Some (g, os) → (range : Range) × (s.overviews ≡ Some (range, os)) × (s.group ≡ Some g)
-listing_is s g os e = by s.overviews refl s.group refl e
+-- the saying lists overviews of the group
+listing_is : (s : Saying) (g : OfGroup) → listing s ≡ Some g → (o : Range × List OverviewValue) × (s.overviews ≡ Some o) × (s.group ≡ Some g)
+listing_is s g e = by s.overviews refl e
   where
-    by : (o : Option (Range × List OverviewValue)) → s.overviews ≡ o → (h : Option OfGroup) → s.group ≡ h
-        → option_map_or (λ o. option_map {U = OfGroup × List OverviewValue} (λ g. (g, o.1)) h) o None ≡ Some (g, os)
-        → (range : Range) × (s.overviews ≡ Some (range, os)) × (s.group ≡ Some g)
-    by None p h q e = cc
-    by (Some o) p None q e = cc
-    by (Some (range, ps)) p (Some h) q e =
-        let same : (h, ps) ≡ (g, os) = cc in
-        (range, p ∙ ap (λ (l : OfGroup × List OverviewValue). Some (range, l.1)) same, q ∙ ap (λ (l : OfGroup × List OverviewValue). Some l.0) same)
+    by : (o : Option (Range × List OverviewValue)) → s.overviews ≡ o → option_map_or (λ o. s.group) o None ≡ Some g
+        → (o : Range × List OverviewValue) × (s.overviews ≡ Some o) × (s.group ≡ Some g)
+    by None is e = cc
+    by (Some o) is e = (o, is, e)
 
 -- or none
 pub lists_none : (facts : List Fact) (s : Saying) (asks : List Ask) → MaySay facts s asks → listing s ≡ None → s.overviews ≡ None
 lists_none facts s asks may e = plain_if facts s asks may (λ o is. let g = group_there facts s asks may o is in grind (arith, e, is, g.1))
 
 -- so what is added of them is added
-pub overviews_added : (facts more : List Fact) (s : Saying) (g : OfGroup) (os : List OverviewValue) (old new : Kept) (does : Bool) → listing s ≡ Some (g, os)
+pub overviews_added : (facts more : List Fact) (s : Saying) (g : OfGroup) (lists : Lists) (old new : Kept) (does : Bool) → listing s ≡ Some g → AreListed s lists
     → Tells facts s more → AllByRecursion IsWellFormed more
-    → ((range : Range) → AllByRecursion IsWellFormed (overviews_facts (Some g) (range, os)) → MayListOf facts g range os
-    → AreAdded facts (overviews_facts (Some g) (range, os)) old new does)
+    → ((range : Range) → AllByRecursion IsWellFormed (overviews_facts (Some g) (range, lists.overviews)) → MayListOf facts g range lists.overviews
+    → AreAdded facts (overviews_facts (Some g) (range, lists.overviews)) old new does)
     → AreAdded facts more old new does
-overviews_added facts more s g os old new does e t formed adds = by (listing_is s g os e)
+overviews_added facts more s g lists old new does e listed t formed adds = by (listing_is s g e)
   where
-    by : (range : Range) × (s.overviews ≡ Some (range, os)) × (s.group ≡ Some g) → AreAdded facts more old new does
-    by (range, is, named) =
+    by : (o : Range × List OverviewValue) × (s.overviews ≡ Some o) × (s.group ≡ Some g) → AreAdded facts more old new does
+    by ((range, os), is, named) =
         let of = of_range facts s t.asks t.may (range, os) is in
         let asked = asks_there facts s t.asks t.may (range, os) is g named in
         let whole : OverviewsAre g.name range os ∷ [] ≡ more = sym (overviews_told facts s t.asks t.may (range, os) is g named) ∙ t.same in
-        subst (λ more. AreAdded facts more old new does) whole (adds range (subst (AllByRecursion IsWellFormed) (sym whole) formed) (record {
+        let same : lists.overviews ≡ os = subst (λ o. IfSome o (λ o. lists.overviews ≡ o.1)) is listed.1 in
+        let adds = subst (λ os. AllByRecursion IsWellFormed (overviews_facts (Some g) (range, os)) → MayListOf facts g range os
+        → AreAdded facts (overviews_facts (Some g) (range, os)) old new does) same (adds range) in
+        subst (λ more. AreAdded facts more old new does) whole (adds (subst (AllByRecursion IsWellFormed) (sym whole) formed) (record {
           shown = grind (arith, t.may.shown, of.there_is, named);
           numbers = grind (arith, t.may.numbers, asked, named);
           id = no_id_there facts s t.asks t.may (range, os) is g named;

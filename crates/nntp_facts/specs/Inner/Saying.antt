@@ -88,9 +88,9 @@ overviews_facts (Some g) o = OverviewsAre g.name o.0 o.1 ∷ []
 abbrev pub facts_told : Saying → List Ask → List Fact
 facts_told s asks = option_map_or (overviews_facts s.group) s.overviews (facts_in s asks)
 
--- the group of whose numbers overviews are said, with these, if any are
-abbrev pub listing : Saying → Option (OfGroup × List OverviewValue)
-listing s = option_map_or (λ o. option_map (λ g. (g, o.1)) s.group) s.overviews None
+-- the group of whose numbers overviews are said, if any are
+abbrev pub listing : Saying → Option OfGroup
+listing s = option_map_or (λ o. s.group) s.overviews None
 
 -- ---- made of facts
 
@@ -206,9 +206,9 @@ TellsThere selected s more = (facts : List Fact) → IfSome selected (λ name. i
 abbrev pub IsSelectedShown : Visible → List Fact → Type 0
 IsSelectedShown v facts = IfSome v.selected (λ name. is_shown_group facts name ≡ true)
 
--- these groups are those that match, if the saying lists them
+-- these are the groups that match and the overviews of a range, if the saying lists them
 abbrev pub AreListed : Saying → Lists → Type 0
-AreListed s lists = IfSome s.groups (λ l. lists.groups ≡ l.1)
+AreListed s lists = IfSome s.groups (λ l. lists.groups ≡ l.1) × IfSome s.overviews (λ o. lists.overviews ≡ o.1)
 
 -- the numbers that an answer shows: the one that it gives, or those that it lists
 abbrev pub numbers_shown : List ℕ → Response → List ℕ

@@ -10,10 +10,10 @@ abbrev pub AsksThese : List ℕ → Ask → Type 0
 AsksThese numbers (ListsIn range ns) = (ns ≡ numbers) × (is_ascending numbers ≡ true)
 AsksThese numbers ask = ⊤
 
--- what is listed, if anything is, is this: the numbers, by themselves or with overviews, which ascend, and the groups, none of which is listed twice
+-- what is listed, if anything is, is this: the numbers, which ascend, by themselves or with the overviews, and the groups, none of which is listed twice
 abbrev pub SaysThese : Lists → Fact → Type 0
 SaysThese listed (Asks name ask) = AsksThese listed.numbers ask
-SaysThese listed (OverviewsAre name range overviews) = AsksThese listed.numbers (ListsIn range (overview_numbers overviews))
+SaysThese listed (OverviewsAre name range overviews) = (overviews ≡ listed.overviews) × AsksThese listed.numbers (ListsIn range (overview_numbers overviews))
 SaysThese listed (GroupsAre p lines) = (lines ≡ listed.groups) × (names_differ listed.groups ≡ true)
 SaysThese listed fact = ⊤
 

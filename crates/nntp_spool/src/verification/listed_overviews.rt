@@ -1,6 +1,6 @@
 //! The comparison of the overviews that OVER, XOVER, HDR or XHDR lists with the articles of a spool, and with a group of it where
 //! they are those of a range (RFC 3977, sections 8.3 and 8.5).
-ghost use Rattle.std.specs.Prelude.{◌≡◌, ◌↔◌, IfSome, IsTrue};
+ghost use Rattle.std.specs.Prelude.{◌≡◌, ◌↔◌, map, IfSome, IsTrue};
 ghost use Rattle.std.specs.List.{AllByRecursion};
 ghost use Rattle.nntp_wire.specs.Inner.View.{overview_value};
 ghost use Rattle.nntp_wire.specs.Listing.{overviews_of};
@@ -36,15 +36,19 @@ pub(crate) fn lists_overviews<A: Allocator, S: Allocator>(
 {
     let lines = NumberLines::Overviews(block);
     group.meets(name, &Ask::Lists { range, lines }, listed.numbers())
-        && stand_in(group, name, block)
+        && stand_in(group, name, listed.overviews())
 }
 
 /// Tells whether each overview has the id at its number in the group, and the article of the id tells the same.
-fn stand_in<S: Allocator>(group: &mut LastGroup<'_, S>, name: &[u8], block: &Block<'_>) -> bool
+fn stand_in<S: Allocator>(
+    group: &mut LastGroup<'_, S>,
+    name: &[u8],
+    overviews: &[OverviewLine<'_>],
+) -> bool
     ensures spool { group.new ≡ group.old }
-    ensures stand { IsTrue result ↔ AllByRecursion (StandsIn group.old name.now) (overviews_of block.now) }
+    ensures stand { IsTrue result ↔ AllByRecursion (StandsIn group.old name.now) (map overview_value overviews.now) }
 {
-    for overview in block.overviews() {
+    for overview in overviews {
         if !stands_in(group, name, overview) {
             return false;
         }
@@ -56,10 +60,10 @@ fn stand_in<S: Allocator>(group: &mut LastGroup<'_, S>, name: &[u8], block: &Blo
 fn stands_in<S: Allocator>(
     group: &mut LastGroup<'_, S>,
     name: &[u8],
-    overview: OverviewLine<'_>,
+    overview: &OverviewLine<'_>,
 ) -> bool
     ensures spool { group.new ≡ group.old }
-    ensures stands { IsTrue result ↔ StandsIn group.old name.now (overview_value overview.entry) }
+    ensures stands { IsTrue result ↔ StandsIn group.old name.now (overview_value overview.now) }
 {
     group.has_id(name, overview.number, overview.id.as_str())
         && has_overview(group.spool(), overview)
@@ -70,7 +74,7 @@ pub(crate) fn have_overviews<A: Allocator>(spool: &Content<A>, block: &Block<'_>
     ensures { IsTrue result ↔ AllByRecursion (HasOverview spool.now) (overviews_of block.now) }
 {
     for overview in block.overviews() {
-        if !has_overview(spool, overview) {
+        if !has_overview(spool, &overview) {
             return false;
         }
     }
@@ -78,11 +82,11 @@ pub(crate) fn have_overviews<A: Allocator>(spool: &Content<A>, block: &Block<'_>
 }
 
 /// Tells whether the id of the overview has an article that tells the same.
-fn has_overview<A: Allocator>(spool: &Content<A>, overview: OverviewLine<'_>) -> bool
-    ensures { IsTrue result ↔ HasOverview spool.now (overview_value overview.entry) }
+fn has_overview<A: Allocator>(spool: &Content<A>, overview: &OverviewLine<'_>) -> bool
+    ensures { IsTrue result ↔ HasOverview spool.now (overview_value overview.now) }
 {
     match spool.article(overview.id.as_str()) {
-        Some(article) => tells_fields(article, &overview),
+        Some(article) => tells_fields(article, overview),
         None => false,
     }
 }

@@ -11,7 +11,7 @@ pub returns-clause-kept : goal.returns-clause-kept
 returns-clause-kept g c =
     on_ok c.add.result (λ adds facts tells kept articles may.
     let name = c.args.name.now in
-    let o = overview_value c.args.overview in
+    let o = overview_value c.args.overview.now in
     let id = o.id in
     let is = c.as_str-id.ensures.value in
     let told = o.told in

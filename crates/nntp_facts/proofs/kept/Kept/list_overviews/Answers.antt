@@ -1,5 +1,5 @@
-use Rattle.std.{proofs.{Common.{◌≡◌, None, refl, sym, ap, subst, ◌∙◌}, lemmas.Bool.{true≢false}}, specs.List.{AllByRecursion}}
-use Rattle.nntp_wire.specs.Listing.{overviews_of}
+use Rattle.std.{proofs.{Common.{◌≡◌, None, map, refl, sym, ap, subst, ◌∙◌}, lemmas.Bool.{true≢false}}, specs.List.{AllByRecursion}}
+use Rattle.nntp_wire.specs.Inner.View.{overview_value}
 use Rattle.nntp_theory.proofs.OkResults.{on_ok}
 use Rattle.nntp_facts.specs.Inner.{Kept.{Kept as KeptValue, IsKept, Told, told, Agree, MayShow, with_part}, KeptSaying.{IsTextOf, MayGive}}
 use Rattle.nntp_facts.{specs.Inner.SayingView.{of_group}, proofs.Keeping.OverviewsJoin.{asks, put, put_there, put_changes, asked_told, all_given}}
@@ -10,7 +10,7 @@ pub returns : goal.returns
 returns g c = on_ok c.give_all.result (λ given facts range kept together may joins.
     let k = subst (IsKept facts) (sym c.self.view_is) kept in
     let name = (of_group c.args.group.now).name in
-    let os = overviews_of c.args.block.now in
+    let os = map overview_value c.args.overviews.now in
     let t = asked_told facts name range os in
     let here = put_there (told facts) name t in
     let numbers = c.in_ok-add.ensures (told facts) (asks facts name range os) (subst (IsTextOf None) (sym may.id) tt) k.groups may.numbers

@@ -7,6 +7,6 @@ pub returns : goal.returns
 returns g c = if_ok c.note.result (λ does adds profile facts limit kept together.
     let name = c.args.name.now in
     let says = c.of_widest-numbers.ensures in
-    adds (subst (λ s. AreListed s (record { numbers = []; groups = []; overviews = [] })) (sym c.selects.ensures.says) tt)
+    adds (subst (λ s. AreListed s (record { numbers = []; groups = []; overviews = [] })) (sym c.selects.ensures.says) (tt, tt))
     facts (a_group profile name) kept together (c.selects.ensures.is_name, (tt, tt))
     (widest_told profile facts name _ (saying_of c.selects.result) (says.says profile limit) (says.bounded profile limit) c.selects.ensures.says)) c.note.ensures

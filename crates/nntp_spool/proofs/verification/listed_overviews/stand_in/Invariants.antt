@@ -1,5 +1,5 @@
-use Rattle.std.{proofs.Common.{◌≡◌, ◌↔◌}, specs.List.{AllByRecursion}}
-use Rattle.nntp_wire.specs.Listing.{overviews_of}
+use Rattle.std.{proofs.Common.{◌≡◌, ◌↔◌, map, drop}, specs.List.{AllByRecursion}}
+use Rattle.nntp_wire.specs.Inner.View.{overview_value}
 use Rattle.nntp_spool.specs.Inner.ListedOverviews.{StandsIn}
 use Rattle.nntp_spool.proofs.verification.listed_overviews.stand_in.Given as goal
 
@@ -7,5 +7,4 @@ use Rattle.nntp_spool.proofs.verification.listed_overviews.stand_in.Given as goa
 abbrev pub invariant-loop-overview : goal.invariant-loop-overview
 invariant-loop-overview g l =
     let Stands = StandsIn l.fn.group l.name in
-    (goal.iterator-loop-overview g).can_next l.overview-iterator × (goal.iterator-loop-overview g).is_finite l.overview-iterator
-    × (AllByRecursion Stands l.overview-iterator ↔ AllByRecursion Stands (overviews_of l.block)) × (l.group ≡ l.fn.group)
+    (AllByRecursion Stands (map overview_value (drop l.overview-index l.overviews)) ↔ AllByRecursion Stands (map overview_value l.overviews)) × (l.group ≡ l.fn.group)

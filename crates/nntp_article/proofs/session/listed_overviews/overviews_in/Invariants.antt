@@ -1,6 +1,6 @@
 use Rattle.std.proofs.Common.{◌≡◌, ◌++◌, map}
 use Rattle.nntp_wire.specs.{Listing.{overviews_of}, Inner.View.{overview_value}}
-use Rattle.nntp_article.proofs.session.listed.overviews_in.Given as goal
+use Rattle.nntp_article.proofs.session.listed_overviews.overviews_in.Given as goal
 
 abbrev pub invariant-loop-overview : goal.invariant-loop-overview
 invariant-loop-overview g l =
