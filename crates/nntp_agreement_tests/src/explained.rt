@@ -1,4 +1,5 @@
 //! Sessions that `explain` and the slow judge read to their end: which answers are bad, and the reasons of contradictions.
+use crate::overviews::By;
 use nntp_fixtures::expect_octets;
 use nntp_run_fixtures::{explain_task, written};
 use nntp_sessions::{
@@ -101,9 +102,9 @@ fn capture(alloc: Global, (client, server): (&[u8], &[u8])) -> Result<Vec<u8>, A
 }
 
 /// What is compared of the report of `explain` on two streams.
-fn explain(alloc: Global, choice: Choice, streams: (&[u8], &[u8])) -> Result<Explained, Fail> {
+fn explain(alloc: Global, by: By, streams: (&[u8], &[u8])) -> Result<Explained, Fail> {
     let capture = capture(alloc, streams)?;
-    let (_, report) = written(alloc, explain_task(choice, Overviews::Opaque), &capture)?;
+    let (_, report) = written(alloc, explain_task(by.choice, by.overviews), &capture)?;
     Ok(Explained::of(alloc, &report)?)
 }
 
@@ -124,14 +125,14 @@ fn is_irredundant(reading: &Reading<'_>, conflict: &Conflict) -> Result<bool, Al
 
 /// How many contradictions there were, and how many of them have no reason, one, and more.
 #[derive(Clone, Copy)]
-struct Counts {
+pub(crate) struct Counts {
     with_none: u64,
-    with_one: u64,
-    with_more: u64,
+    pub(crate) with_one: u64,
+    pub(crate) with_more: u64,
 }
 
 impl Counts {
-    fn new() -> Counts {
+    pub(crate) fn new() -> Counts {
         Counts {
             with_none: 0,
             with_one: 0,
@@ -173,17 +174,28 @@ fn compare_reading(
 }
 
 /// Compares what both say of two streams.
+pub(crate) fn compare_by(
+    alloc: Global,
+    by: By,
+    streams: (&[u8], &[u8]),
+    counts: &mut Counts,
+) -> Result<(), Fail> {
+    let (client, server) = (streams.0.escape_ascii(), streams.1.escape_ascii());
+    let name = format!(in alloc; "{:?}: {client}, {server}", by.choice)?;
+    let explained = explain(alloc, by, streams)?;
+    let reading = read(alloc, by.choice, by.overviews, streams)?;
+    compare_reading(name.as_str(), &explained, &reading, counts)
+}
+
+/// The same where overviews are opaque.
 fn compare(
     alloc: Global,
     choice: Choice,
     streams: (&[u8], &[u8]),
     counts: &mut Counts,
 ) -> Result<(), Fail> {
-    let (client, server) = (streams.0.escape_ascii(), streams.1.escape_ascii());
-    let name = format!(in alloc; "{choice:?}: {client}, {server}")?;
-    let explained = explain(alloc, choice, streams)?;
-    let reading = read(alloc, choice, streams.0, streams.1)?;
-    compare_reading(name.as_str(), &explained, &reading, counts)
+    let overviews = Overviews::Opaque;
+    compare_by(alloc, By { choice, overviews }, streams, counts)
 }
 
 #[test]

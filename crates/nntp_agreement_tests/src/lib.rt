@@ -1,9 +1,11 @@
 //! Tests in which runs have to agree with calls and with the slow judge: every small session, lines at their limits,
-//! sessions that `explain` reads to their end, and short ones with overviews.
+//! sessions that `explain` reads to their end, with overviews and without, and short ones with overviews.
 #![tactic(auto)]
 
 #[cfg(test)]
 mod explained;
+#[cfg(test)]
+mod explained_overviews;
 #[cfg(test)]
 mod family;
 #[cfg(test)]

@@ -13,13 +13,13 @@ use std::process::Abort;
 use std::test::Fail;
 
 /// A command and its answer.
-type Exchange = (&'static str, &'static str);
+pub(crate) type Exchange = (&'static str, &'static str);
 
 /// What is said first.
-const SELECTED: Exchange = ("GROUP g\r\n", "211 3 1 4 g\r\n");
+pub(crate) const SELECTED: Exchange = ("GROUP g\r\n", "211 3 1 4 g\r\n");
 
 /// What is said behind it.
-const EXCHANGES: [Exchange; 14] = [
+pub(crate) const EXCHANGES: [Exchange; 14] = [
     (
         "XOVER 1-3\r\n",
         "224 x\r\n1\t\t\t\t<a@x>\r\n3\t\t\t\t<c@x>\r\n.\r\n",
@@ -44,14 +44,14 @@ const EXCHANGES: [Exchange; 14] = [
 
 /// By what a session is judged.
 #[derive(Clone, Copy)]
-struct By {
-    choice: Choice,
-    overviews: Overviews,
+pub(crate) struct By {
+    pub(crate) choice: Choice,
+    pub(crate) overviews: Overviews,
 }
 
 /// What the client and the server sent, and how many answers that are.
 #[derive(Drop)]
-struct Recording {
+pub(crate) struct Recording {
     client: String,
     server: String,
     answers: u64,
@@ -59,7 +59,7 @@ struct Recording {
 
 impl Recording {
     /// A greeting and these exchanges.
-    fn of(alloc: Global, exchanges: &[Exchange]) -> Result<Recording, AllocError> {
+    pub(crate) fn of(alloc: Global, exchanges: &[Exchange]) -> Result<Recording, AllocError> {
         let mut client = String::new(alloc);
         let mut server = String::from_str(alloc, "200 hi\r\n")?;
         for (command, answer) in exchanges {
@@ -74,7 +74,7 @@ impl Recording {
         })
     }
 
-    fn streams(&self) -> (&[u8], &[u8]) {
+    pub(crate) fn streams(&self) -> (&[u8], &[u8]) {
         (self.client.as_bytes(), self.server.as_bytes())
     }
 

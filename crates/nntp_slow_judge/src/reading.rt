@@ -6,6 +6,7 @@ use crate::told::Told;
 use crate::{Judged, judge_listed};
 use nntp_pair::{Exchange, PairClass, Pairs, Step};
 use nntp_sessions::Choice;
+use nntp_wire::Overviews;
 use std::alloc::{AllocError, Global};
 
 /// What was read of a session.
@@ -25,15 +26,15 @@ pub struct Reading<'a> {
     lines: String,
 }
 
-/// Reads a session to its end.
+/// Reads a session to its end, where overviews are taken so.
 pub fn read<'a>(
     alloc: Global,
     choice: Choice,
-    client: &'a [u8],
-    server: &'a [u8],
+    overviews: Overviews,
+    (client, server): (&'a [u8], &'a [u8]),
 ) -> Result<Reading<'a>, AllocError> {
     let mut reading = Reading::new(alloc, choice);
-    reading.read(client, server)?;
+    reading.read(Pairs::taking(overviews, client, server), (client, server))?;
     Ok(reading)
 }
 
@@ -50,9 +51,12 @@ impl<'a> Reading<'a> {
         }
     }
 
-    /// Reads both streams to their end.
-    fn read(&mut self, client: &'a [u8], server: &'a [u8]) -> Result<(), AllocError> {
-        let mut pairs = Pairs::new(client, server);
+    /// Reads the pairs of both streams to their end.
+    fn read(
+        &mut self,
+        mut pairs: Pairs<'a>,
+        (client, server): (&'a [u8], &'a [u8]),
+    ) -> Result<(), AllocError> {
         for _ in 0..=server.len() {
             match pairs.next() {
                 Step::Exchange(exchange) => self.judge(exchange)?,
