@@ -1,11 +1,9 @@
 -- The code of an answer tells whether the server closes the connection after it.
-use Rattle.std.proofs.{Common.{◌≡◌, ℕ, ◌≤◌, List, Option, Some, Bool, true, false, cond, ap, refl, ◌∙◌, arith, ◌⊎◌}, lemmas.Bool.{eqb-true}}
-use Rattle.std.specs.Prelude.{◌==◌}
+use Rattle.std.{proofs.{Common.{◌≡◌, ℕ, ◌≤◌, List, Option, Some, Bool, true, false, cond, ap, ◌∙◌, arith, ◌⊎◌}, lemmas.Bool.{eqb-true}}, specs.Prelude.{◌==◌}}
 use Rattle.nntp_wire.specs.{Lines.{HasNoCrlf}, Answer.{Asked, to, Response, plain, Spells, Says, kind_of, overview_code, overview_kind, code_of, block_octets}}
-use Rattle.nntp_wire.specs.{Frame.{frame_octets, framed}, Session.{closes}, Command.{over}, declared.kind.Kind.{Kind, TheVariants.{Group, Numbers, Sent}}}
-use Rattle.nntp_wire.specs.declared.{kind.Kind.TheVariants.{Active, Overview, Ids, Capabilities, Plain}, command.OverviewKeyword.{OverviewKeyword}}
-use Rattle.nntp_wire.{specs.declared.command.OverviewKeyword.TheVariants.{Over, Xover, Hdr, Xhdr}, proofs.{FrameLemmas.{one_line}, SpellLemmas.{clean-line}}}
-use Rattle.nntp_wire.proofs.SpellLemmas.{status-clean, status-code}
+use Rattle.nntp_wire.specs.{Frame.{frame_octets, framed}, Session.{closes}, Command.{over}, declared.kind.Kind.{Kind, TheVariants.{Capabilities, Plain}}}
+use Rattle.nntp_wire.{specs.declared.command.OverviewKeyword.{OverviewKeyword}, proofs.{FrameLemmas.{one_line}, SpellLemmas.{clean-line, status-clean}}}
+use Rattle.nntp_wire.proofs.SpellLemmas.{status-code}
 
 -- a response that is no more than its code
 abbrev is_plain : Response → Bool
@@ -28,28 +26,19 @@ plain-code code bytes block response same = grind arith
 abbrev IsQuiet : ℕ → Response → Type 0
 IsQuiet code response = (response ≡ plain code) ⊎ ((is_plain response ≡ false) × (211 ≤ code) × (code ≤ 225))
 
--- by a kind of response that has a code of its own, from 211 to 225
+-- a kind of response that says more than its code
+abbrev says_more : Kind → Bool
+says_more Capabilities = false
+says_more Plain = false
+says_more kind = true
+
+more-said : (kind : Kind) (code : ℕ) (bytes : List ℕ) (block : Option (List (List ℕ))) (response : Response) → says_more kind ≡ true → Says kind code bytes block response → is_plain response ≡ false
+more-said kind code bytes block response more says = grind arith
+
+-- by such a kind that has a code of its own, from 211 to 225
 by-code : (kind : Kind) (k code : ℕ) (bytes : List ℕ) (block : Option (List (List ℕ))) (response : Response) (test : Bool) → (code == k) ≡ test → 211 ≤ k → k ≤ 225
-    → (Says kind code bytes block response → is_plain response ≡ false) → Says (cond test kind Plain) code bytes block response → IsQuiet code response
-by-code kind k code bytes block response test e low high more says = grind (arith, plain-code, eqb-true)
-
-says-group : (code : ℕ) (bytes : List ℕ) (block : Option (List (List ℕ))) (response : Response) → Says Group code bytes block response → is_plain response ≡ false
-says-group code bytes block response none = grind arith
-
-says-numbers : (code : ℕ) (bytes : List ℕ) (block : Option (List (List ℕ))) (response : Response) → Says Numbers code bytes block response → is_plain response ≡ false
-says-numbers code bytes block response none = grind arith
-
-says-sent : (code : ℕ) (bytes : List ℕ) (block : Option (List (List ℕ))) (response : Response) → Says Sent code bytes block response → is_plain response ≡ false
-says-sent code bytes block response none = grind arith
-
-says-active : (code : ℕ) (bytes : List ℕ) (block : Option (List (List ℕ))) (response : Response) → Says Active code bytes block response → is_plain response ≡ false
-says-active code bytes block response none = grind arith
-
-says-overviews : (code : ℕ) (bytes : List ℕ) (block : Option (List (List ℕ))) (response : Response) → Says Overview code bytes block response → is_plain response ≡ false
-says-overviews code bytes block response none = grind arith
-
-says-ids : (code : ℕ) (bytes : List ℕ) (block : Option (List (List ℕ))) (response : Response) → Says Ids code bytes block response → is_plain response ≡ false
-says-ids code bytes block response none = grind arith
+    → says_more kind ≡ true → Says (cond test kind Plain) code bytes block response → IsQuiet code response
+by-code kind k code bytes block response test e low high more says = grind (arith, plain-code, eqb-true, more-said)
 
 -- capabilities are said by their code alone
 capabilities-code : (code : ℕ) (bytes : List ℕ) (block : Option (List (List ℕ))) (response : Response) (test : Bool)
@@ -58,14 +47,11 @@ capabilities-code code bytes block response test says = grind arith
 
 over-quiet : (keyword : OverviewKeyword) (code : ℕ) (bytes : List ℕ) (block : Option (List (List ℕ))) (response : Response)
     → Says (cond (code == overview_code keyword) (overview_kind keyword) Plain) code bytes block response → IsQuiet code response
-over-quiet Over code bytes block response says = by-code Overview 224 code bytes block response (code == 224) refl (omega arith) (omega arith) (says-overviews code bytes block response) says
-over-quiet Xover code bytes block response says = by-code Overview 224 code bytes block response (code == 224) refl (omega arith) (omega arith) (says-overviews code bytes block response) says
-over-quiet Hdr code bytes block response says = by-code Ids 225 code bytes block response (code == 225) refl (omega arith) (omega arith) (says-ids code bytes block response) says
-over-quiet Xhdr code bytes block response says = by-code Ids 221 code bytes block response (code == 221) refl (omega arith) (omega arith) (says-ids code bytes block response) says
+over-quiet keyword code bytes block response says = search (arith, by-code)
 
 said-quiet : (asked : Asked) (code : ℕ) (bytes : List ℕ) (block : Option (List (List ℕ))) (response : Response) → Says (kind_of asked code) code bytes block response → IsQuiet code response
 said-quiet (to (over keyword which)) code bytes block response says = over-quiet keyword code bytes block response says
-said-quiet asked code bytes block response says = search (arith, plain-code, capabilities-code, by-code, says-group, says-numbers, says-active, says-sent)
+said-quiet asked code bytes block response says = search (arith, plain-code, capabilities-code, by-code)
 
 -- so the code closes where the response does
 quiet-closes : (asked : Asked) (code : ℕ) (response : Response) → IsQuiet code response → closes asked (plain code) ≡ closes asked response

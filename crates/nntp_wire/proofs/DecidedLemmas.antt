@@ -1,6 +1,6 @@
 -- The tests that compute are the relations of nntp_wire.
-use Rattle.std.proofs.Common.{◌≡◌, ◌↔◌, ℕ, ◌<◌, Bool, true, false, ◌&&◌, ◌||◌, ◌==◌, not, IsTrue, List, [], ◌∷◌, ◌++◌, length, map, length-append, inl, inr}
-use Rattle.std.proofs.{Common.{refl, sym, ap, subst, ◌∙◌, arith}, lemmas.Bool.{and_parts, and_from, or_cases, or_left, or_right, cases_Bool, leb-true, le-leb}}
+use Rattle.std.proofs.Common.{◌≡◌, ◌↔◌, ℕ, ◌<◌, Bool, true, false, ◌&&◌, ◌==◌, not, IsTrue, List, [], ◌∷◌, ◌++◌, length, map, length-append, inl, inr, refl}
+use Rattle.std.proofs.{Common.{sym, ap, subst, ◌∙◌, arith}, lemmas.Bool.{and_parts, and_from, or_cases, or_left, or_right, cases_Bool, leb-true, le-leb}}
 use Rattle.std.proofs.lemmas.{Bool.{lt-ltb, ltb-true, eqb-true, true≢false, not-true, Decides.{nat_tests}}, Str.{IsUtf8-from_is_utf8, is_utf8-from_IsUtf8}}
 use Rattle.std.{proofs.lemmas.{Str.{chars-encodes, chars-nil}, List.Elements.{recursion_from_All, All-from_recursion}}, specs.Prelude.{nat_le, nat_lt}}
 use Rattle.std.specs.{List.{list_all, list_any, AllByRecursion}, Str.{chars, is_utf8, encode_utf8_all}}
@@ -29,8 +29,7 @@ octet_test c h = grind arith
 
 inside_ends : (inside : List ℕ) → AllByRecursion IsIdOctet inside → (ends_id (inside ++ 62 ∷ []) ≡ true) × (list_all is_id_octet (inside ++ 62 ∷ []) ≡ true)
 inside_ends [] h = (refl, refl)
-inside_ends (c ∷ []) h = let t = octet_test c h.0 in (and_from (not (c == 62)) true t.0 refl, and_from (is_id_octet c) true t.1 refl)
-inside_ends (c ∷ d ∷ inside) h = grind (arith, octet_test, inside_ends (d ∷ inside) h.1, and_from)
+inside_ends (c ∷ inside) h = grind (arith, octet_test, inside_ends inside h.1, and_from)
 
 pub message_id-iff : (id : List ℕ) → IsTrue (is_message_id id) ↔ IsMessageId id
 message_id-iff id = grind (arith, and_parts, ends_inside, eqb-true, leb-true, length-append, All-from_recursion, inside_ends, recursion_from_All, and_from, le-leb)
@@ -75,12 +74,10 @@ suffix_any p [] (c ∷ cs) h = or_left (p (c ∷ cs)) (list_any p (suffixes cs))
 suffix_any p (c ∷ front) rest h = or_right (p (c ∷ (front ++ rest))) (list_any p (suffixes (front ++ rest))) (suffix_any p front rest h)
 
 items_match : (items : List Item) (text : List ℕ) → matches items text ≡ true → Matches items text
-items_match [] text h = grind arith
 items_match (star ∷ items) text h = let s = any_suffix (matches items) text h in (s.0, s.1, s.2, items_match items s.1 s.3)
-items_match (question ∷ items) [] h = cc
 items_match (question ∷ items) (c ∷ cs) h = (c, cs, refl, items_match items cs h)
-items_match (character d ∷ items) [] h = cc
 items_match (character d ∷ items) (c ∷ cs) h = let p = and_parts (c == d) (matches items cs) h in (cs, ap (λ c. c ∷ cs) (eqb-true c d p.0), items_match items cs p.1)
+items_match items text h = grind arith
 
 same_octet : (c : ℕ) → (c == c) ≡ true
 same_octet c = grind (arith, nat_tests)
@@ -91,23 +88,14 @@ match_items (star ∷ items) text (front, rest, e, m) = ap (λ t. list_any (matc
 match_items (question ∷ items) text (c, rest, e, m) = ap (matches (question ∷ items)) e ∙ match_items items rest m
 match_items (character d ∷ items) text (rest, e, m) = ap (matches (character d ∷ items)) e ∙ and_from (d == d) (matches items rest) (same_octet d) (match_items items rest m)
 
-pattern_matches : (pattern text : List ℕ) → matches_pattern pattern text ≡ true → MatchesPattern pattern text
-pattern_matches pattern text h = items_match (map item_of (chars (without_negation pattern))) text h
-
-match_pattern : (pattern text : List ℕ) → MatchesPattern pattern text → matches_pattern pattern text ≡ true
-match_pattern pattern text m = match_items (map item_of (chars (without_negation pattern))) text m
-
 -- none of the patterns matches
 none_match : (patterns : List (List ℕ)) (text : List ℕ) → not (list_any (λ other. matches_pattern other text) patterns) ≡ true → AllByRecursion (λ pattern. ¬ (MatchesPattern pattern text)) patterns
 none_match [] text h = tt
-none_match (p ∷ ps) text h = elim (cases_Bool (matches_pattern p text)) [
-  | inl e ↦ absurd (true≢false (sym h ∙ ap not (or_left (matches_pattern p text) (list_any (λ other. matches_pattern other text) ps) e)))
-  | inr f ↦ grind (arith, true≢false, match_pattern, none_match ps text (sym (ap (λ b. not (b || list_any (λ other. matches_pattern other text) ps)) f) ∙ h))
-]
+none_match (p ∷ ps) text h = grind (arith, or_left, true≢false, match_items, none_match ps text)
 
 match_none : (patterns : List (List ℕ)) (text : List ℕ) → AllByRecursion (λ pattern. ¬ (MatchesPattern pattern text)) patterns → not (list_any (λ other. matches_pattern other text) patterns) ≡ true
 match_none [] text h = refl
-match_none (p ∷ ps) text h = grind (arith, cases_Bool, pattern_matches, match_none ps text h.1)
+match_none (p ∷ ps) text h = grind (arith, cases_Bool, items_match, match_none ps text h.1)
 
 chosen : (patterns : List (List ℕ)) (text : List ℕ) → is_chosen patterns text ≡ true → IsChosen patterns text
 chosen [] text h = cc
@@ -118,13 +106,14 @@ chosen (p ∷ ps) text h = elim (or_cases (is_chosen ps text) (matches_pattern p
   | inr here ↦
       let a = and_parts (matches_pattern p text && not (is_negated p)) (not (list_any (λ other. matches_pattern other text) ps)) here in
       let b = and_parts (matches_pattern p text) (not (is_negated p)) a.0 in
-      record { before = []; last = p; after = ps; whole = refl; matches = pattern_matches p text b.0; plain = not-true (is_negated p) b.1; others = none_match ps text a.1 }
+      let m = items_match (map item_of (chars (without_negation p))) text b.0 in
+      record { before = []; last = p; after = ps; whole = refl; matches = m; plain = not-true (is_negated p) b.1; others = none_match ps text a.1 }
 ]
 
 choose : (before : List (List ℕ)) (last : List ℕ) (after : List (List ℕ)) (text : List ℕ) → MatchesPattern last text
     → is_negated last ≡ false → AllByRecursion (λ pattern. ¬ (MatchesPattern pattern text)) after
     → is_chosen (before ++ last ∷ after) text ≡ true
-choose [] last after text m plain others = grind (arith, or_right, and_from, match_pattern, match_none)
+choose [] last after text m plain others = grind (arith, or_right, and_from, match_items, match_none)
 choose (p ∷ before) last after text m plain others = grind (arith, or_left, choose before last after text m plain others)
 
 pub matches_name-iff : (wildmat name : List ℕ) → IsTrue (matches_name wildmat name) ↔ MatchesName wildmat name

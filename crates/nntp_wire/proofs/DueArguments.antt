@@ -1,10 +1,10 @@
 -- The arguments behind a code are those that are due exactly if they name a group with its marks, or an article.
 use Rattle.std.proofs.{Common.{arith, ◌≡◌, ℕ, ◌+◌, ◌&&◌, Bool, true, false, List, [], ◌∷◌, inl, inr, refl, sym, ap, ◌∙◌, cond}, lemmas.Bool.{cases_Bool}}
 use Rattle.std.{proofs.lemmas.Bool.{and_from, false≢true}, specs.{Prelude.{is_none}, List.{slice_split}}}
-use Rattle.nntp_wire.specs.{Number.{number_value}, Argument.{BeginsWithArgument, BeginsWithNumber, HasArticle}, Misspelling.{is_space, arguments_of, dues}}
-use Rattle.nntp_wire.specs.{Misspelling.{is_argument, argument_misspelling}, declared.{kind.Kind.TheVariants.{Group, Sent}, misspelling.Due.{Due}}}
-use Rattle.nntp_wire.{specs.declared.misspelling.Due.TheVariants.{Number, GroupName, MessageId}, proofs.Reasons.{none_unless, none_two}}
-use Rattle.nntp_wire.proofs.{MisspellingLemmas.{argument-first, argument-some}, DecidedLemmas.{message_id-iff, group_name-iff}, SaysDecided.{Grouped}}
+use Rattle.nntp_wire.specs.{Number.{number_value}, Argument.{BeginsWithArgument, BeginsWithNumber, HasArticle, HasGroup}, Misspelling.{is_space, arguments_of}}
+use Rattle.nntp_wire.specs.{Misspelling.{dues, is_argument, argument_misspelling}, declared.{kind.Kind.TheVariants.{Group, Sent}, misspelling.Due.{Due}}}
+use Rattle.nntp_wire.specs.declared.{misspelling.Due.TheVariants.{Number, GroupName, MessageId}, water_marks.WaterMarks.{WaterMarks}}
+use Rattle.nntp_wire.proofs.{Reasons.{none_unless, none_two}, MisspellingLemmas.{argument-first, argument-some}, DecidedLemmas.{message_id-iff, group_name-iff}}
 
 -- the arguments begin with what is due
 abbrev pub are_arguments : List Due → List (List ℕ) → Bool
@@ -46,6 +46,9 @@ put_number : (later : List Due) (bytes rest : List ℕ) (n : ℕ) → BeginsWith
 put_number later bytes rest n b more = put_due Number later bytes b.word rest b.begins b.writes.0 more
 
 -- three numbers and the name of a group
+abbrev pub Grouped : List ℕ → Type 0
+Grouped bytes = (marks : WaterMarks) × (name : List ℕ) × HasGroup bytes marks name
+
 pub group_taken : (bytes : List ℕ) → are_arguments (dues Group) (arguments_of bytes) ≡ true → Grouped bytes
 group_taken bytes h =
     let e = take_due Number (Number ∷ Number ∷ GroupName ∷ []) bytes h in

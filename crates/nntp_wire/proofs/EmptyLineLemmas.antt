@@ -1,6 +1,6 @@
 -- The first empty line of a block.
 use Rattle.std.proofs.Common.{◌≡◌, ◌≢◌, ℕ, ◌+◌, ◌≤◌, List, [], ◌∷◌, ◌++◌, length, take, drop, refl, sym, ◌∙◌, ap, arith, append_assoc, append-nil}
-use Rattle.std.proofs.{Common.{length-append}, lemmas.List.{take_at, drop_at}}
+use Rattle.std.proofs.{Common.{length-append}, lemmas.List.{take_at, drop_at, append_cancel_right}}
 use Rattle.bstr.{specs.Text.{lines_of}, proofs.lemmas.LineLemmas.{lines-nil}}
 use Rattle.nntp_wire.specs.{Octets.{crlf}, Block.{stuffed, unstuffed, sent, AreClean}, Inner.Block.{received, Sends, HasNoEmptyLine}}
 use Rattle.nntp_wire.proofs.{BlockLemmas.{lines-sent, unstuffed-stuffed}, SubBlockLemmas.{clean-append, sent-append, received-of}}
@@ -11,10 +11,7 @@ none-append (x ∷ xs) ys a b = (a.0, none-append xs ys a.1 b)
 
 -- a CRLF alone sends an empty line
 empty-of : (line : List ℕ) → stuffed line ++ crlf ≡ crlf → line ≡ []
-empty-of line e = at (stuffed line) refl e where
-  at : (octets : List ℕ) → stuffed line ≡ octets → octets ++ crlf ≡ crlf → line ≡ []
-  at [] is whole = sym (unstuffed-stuffed line) ∙ ap unstuffed is
-  at (b ∷ bs) is whole = absurd (omega (arith, ap length whole, length-append (b ∷ bs) crlf))
+empty-of line e = sym (unstuffed-stuffed line) ∙ ap unstuffed (append_cancel_right (stuffed line) [] crlf e)
 
 -- lines of so many octets were passed over, none of them empty, and these are left as they are sent
 pub record Nonempty (bytes : List ℕ) (left : List (List ℕ)) (count : ℕ) : Type 0 where
@@ -28,16 +25,8 @@ pub record Nonempty (bytes : List ℕ) (left : List (List ℕ)) (count : ℕ) : 
   pub is_count : length (sent done) ≡ count
 
 pub nonempty-start : (bytes : List ℕ) (left : List (List ℕ)) → Sends bytes (received bytes) → left ≡ lines_of bytes → Nonempty bytes left 0
-nonempty-start bytes left sends is = record {
-  done = [];
-  others = received bytes;
-  clean = tt;
-  others_clean = sends.clean;
-  whole = sends.whole;
-  none = tt;
-  left_is = is ∙ ap lines_of sends.whole;
-  is_count = refl;
-}
+nonempty-start bytes left sends is =
+    record { done = []; others = received bytes; clean = tt; others_clean = sends.clean; whole = sends.whole; none = tt; left_is = is ∙ ap lines_of sends.whole; is_count = refl }
 
 -- the next line that is left
 pub record IsNext (bytes line : List ℕ) (more : List (List ℕ)) (count : ℕ) : Type 0 where

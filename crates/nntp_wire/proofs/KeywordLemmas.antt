@@ -1,6 +1,6 @@
 -- A word that is one of the keywords has the form of a keyword.
 use Rattle.std.proofs.{Common.{◌≡◌, ℕ, Bool, true, false, List, [], ◌∷◌, length, map, get_or, arith, refl, sym, ◌∙◌, ap, Some}, lemmas.List.{length-map}}
-use Rattle.std.{proofs.lemmas.{Bool.{and_parts, Decides.{nat_tests}}, Slice.Eq.{bytes_eq-Decides}}, specs.{Prelude.{◌&&◌, nat_le}, List.{find, list_all}}}
+use Rattle.std.{proofs.lemmas.{Bool.{and_parts, Decides.{nat_tests}}, Slice.Eq.{bytes_eq-Decides}}, specs.{Prelude.{nat_le}, List.{find, list_all}}}
 use Rattle.std.specs.{Option.{option_map}, Char.{to_ascii_lowercase, is_ascii_alphabetic}}
 use Rattle.nntp_wire.specs.{Octets.{is_clean}, Words.{words_of, is_same_word}, Command.{Request, keywords, form_of, is_keyword, is_keyword_octet, request_by}}
 use Rattle.nntp_wire.specs.{Command.{request_as}, declared.overviews.Overviews.{Overviews, TheVariants.{Opaque, Judged}}}
@@ -22,7 +22,7 @@ lower_octet b = grind (arith, nat_tests)
 
 lower_octets : (word : List ℕ) → list_all is_keyword_octet (map to_ascii_lowercase word) ≡ list_all is_keyword_octet word
 lower_octets [] = refl
-lower_octets (b ∷ bs) = rw (lower_octet b) (ap (λ t. is_keyword_octet b && t) (lower_octets bs))
+lower_octets (b ∷ bs) = grind (arith, lower_octet, lower_octets bs)
 
 -- a word has the form of a keyword in either case
 lower_keyword : (word : List ℕ) → is_keyword (map to_ascii_lowercase word) ≡ is_keyword word

@@ -3,9 +3,9 @@ use Rattle.std.proofs.{Common.{◌≡◌, ℕ, ◌<◌, Bool, true, false, ◌�
 use Rattle.std.{proofs.lemmas.List.Splits.{slice_split-cons_no}, specs.{Prelude.{◌==◌, ⊤}, List.{find, filter, onto_first, slice_split}, Option.{option_map}}}
 use Rattle.std.specs.Char.{to_ascii_lowercase}
 use Rattle.nntp_wire.specs.{Octets.{is_blank}, Words.{words_of, is_some_octets, is_same_word}, Answer.{to}, Command.{Request, keywords, form_of, request_by}}
-use Rattle.nntp_wire.specs.Command.{request_by_keyword, request_of_words, request_as, capabilities_of, group_of, alone, next, overview_keywords, over_of}
-use Rattle.nntp_wire.specs.{Command.{hdr_of, retrieve_of}, declared.{overviews.Overviews.{Overviews}, command.{OverviewKeyword.{OverviewKeyword}, What.{What}}}}
-use Rattle.nntp_wire.{specs.{declared.prompt_kind.PromptKind.TheVariants.{Other}, Inner.Prompts.{prompt_kind}}, proofs.KeywordLemmas.{lower_first, same_lower}}
+use Rattle.nntp_wire.specs.Command.{request_by_keyword, request_of_words, request_as, capabilities_of, overview_keywords}
+use Rattle.nntp_wire.specs.{declared.{overviews.Overviews.{Overviews}, prompt_kind.PromptKind.TheVariants.{Other}}, Inner.Prompts.{prompt_kind}}
+use Rattle.nntp_wire.proofs.KeywordLemmas.{lower_first, same_lower}
 
 -- the word begins as LISTGROUP, MODE or QUIT does, in either case
 abbrev pub begins_kind : List ℕ → Bool
@@ -18,31 +18,16 @@ MakesOther makes = (arguments : List (List ℕ)) → prompt_kind (to (makes argu
 capabilities_other : MakesOther capabilities_of
 capabilities_other h = grind arith
 
-group_other : MakesOther group_of
-group_other h = grind arith
-
-next_other : MakesOther (alone next)
-next_other h = grind arith
-
-retrieve_other : (what : What) → MakesOther (retrieve_of what)
-retrieve_other what h = grind arith
-
-over_other : (keyword : OverviewKeyword) → MakesOther (over_of keyword)
-over_other keyword h = search arith
-
-hdr_other : (keyword : OverviewKeyword) → MakesOther (hdr_of keyword)
-hdr_other keyword h = search arith
-
 -- each keyword begins so, or makes the kind Other
 abbrev AllMakeOther : List (List ℕ × (List (List ℕ) → Request)) → Type 0
 AllMakeOther [] = ⊤
 AllMakeOther (row ∷ rows) = ((begins_kind row.0 ≡ true) ⊎ MakesOther row.1) × AllMakeOther rows
 
 overviews_other : (overviews : Overviews) → AllMakeOther (overview_keywords overviews)
-overviews_other overviews = grind (arith, over_other, hdr_other)
+overviews_other overviews = grind arith
 
 keywords_other : (overviews : Overviews) → AllMakeOther (keywords overviews)
-keywords_other overviews = grind (arith, capabilities_other, group_other, next_other, retrieve_other, overviews_other)
+keywords_other overviews = grind (arith, capabilities_other, overviews_other)
 
 -- words that are the same begin with the same letter
 same_begin : (word other : List ℕ) → is_same_word word other ≡ true → begins_kind word ≡ begins_kind other

@@ -2,19 +2,18 @@
 use Rattle.std.proofs.Common.{arith, ◌≡◌, ℕ, ◌+◌, ◌↔◌, ◌&&◌, Bool, true, false, List, [], ◌∷◌, length, map, drop, Option, None, Some, refl, sym, ap, ◌∙◌, cond}
 use Rattle.std.proofs.{Common.{subst}, lemmas.{List.{append-nil, Splits.{join_with_byte-slice_split}}, Bool.{and_from, and_parts, eqb-true, false≢true}}}
 use Rattle.std.{proofs.lemmas.Bool.{true≢false}, specs.{Prelude.{is_none, is_some, option_map, ⊤}, List.{AllByRecursion, join_with_byte}}}
-use Rattle.nntp_wire.specs.{Octets.{is_clean, tab}, Lines.{HasNoCrlf, ended, lines_of_stream}, Block.{stuffed, unstuffed, AreClean}}
-use Rattle.nntp_wire.specs.Listing.{are_listed_numbers, are_active_lines, begins_with_versions, overview_of, are_overview_lines, listed_id_of, are_listed_ids}
-use Rattle.nntp_wire.specs.{Listing.{fields_of, number_of_words, listed_id_of_words, listed_id_of_fields}, Answer.{overviews_are, Asked, Response, group_is}}
-use Rattle.nntp_wire.specs.Answer.{numbers_are, sends, active_are, plain, Says, Spells, code_of, is_fitting, status_of, kind_of, is_block_due}
-use Rattle.nntp_wire.specs.{Words.{words_of}, declared.{misspelling.LineFault.TheVariants.{NoListedNumber, NoListedId}, kind.Kind.{Kind, TheVariants.{Group}}}}
-use Rattle.nntp_wire.specs.{declared.kind.Kind.TheVariants.{Numbers, Sent, Active, Overview, Ids, Capabilities, Plain}, Inner.AnswerView.{SendsBlock, IsBlock}}
-use Rattle.nntp_wire.specs.{Inner.{AnswerView.{Reads}, Frame.{FrameParts, IsFrame}}, Frame.{IsBlockLine, IsBeforeDotLine, frame_octets}}
-use Rattle.nntp_wire.specs.Misspelling.{arguments_of, dues, has_no_single_dot, listing_fault, kind_behind, line_misspelling, lines_misspelling}
-use Rattle.nntp_wire.{specs.Misspelling.{block_misspelling, misspelling_behind, code_misspelling, misspelling}, proofs.Reasons.{none_unless, none_two}}
-use Rattle.nntp_wire.proofs.{Reasons.{none_three, none_by_test, and_true}, DueArguments.{are_arguments, none_arguments, group_taken, group_put, article_taken}}
-use Rattle.nntp_wire.proofs.{DueArguments.{article_put}, BlockLemmas.{stuffed-clean, unstuffed-clean, unstuffed-stuffed}, SpellLemmas.{sent-lines, status-code}}
-use Rattle.nntp_wire.proofs.{FrameLemmas.{line-nil}, StreamLemmas.{split-lines}, AnswerLemmas.{reads-spells, spells-reads}, SaysDecided.{group_said}}
-use Rattle.nntp_wire.proofs.SaysDecided.{overviews_said, ids_said}
+use Rattle.nntp_wire.specs.{Octets.{is_clean, tab}, Lines.{ended, lines_of_stream}, Block.{stuffed, unstuffed, AreClean}, Listing.{are_listed_numbers}}
+use Rattle.nntp_wire.specs.Listing.{are_active_lines, begins_with_versions, overview_of, are_overview_lines, listed_id_of, are_listed_ids, fields_of}
+use Rattle.nntp_wire.specs.{Listing.{number_of_words, listed_id_of_words, listed_id_of_fields}, Answer.{overviews_are, Asked, Response, group_is, numbers_are}}
+use Rattle.nntp_wire.specs.{Answer.{sends, active_are, plain, Says, Spells, code_of, is_fitting, status_of, kind_of, is_block_due}, Words.{words_of}}
+use Rattle.nntp_wire.specs.declared.{misspelling.LineFault.TheVariants.{NoListedNumber, NoListedId}, kind.Kind.{Kind, TheVariants.{Group, Numbers, Sent}}}
+use Rattle.nntp_wire.specs.{declared.kind.Kind.TheVariants.{Active, Overview, Ids, Capabilities, Plain}, Inner.AnswerView.{SendsBlock, IsBlock, Reads}}
+use Rattle.nntp_wire.specs.{Inner.Frame.{FrameParts, IsFrame}, Frame.{IsBlockLine, IsBeforeDotLine, frame_octets}, Misspelling.{arguments_of, dues}}
+use Rattle.nntp_wire.specs.Misspelling.{has_no_single_dot, listing_fault, kind_behind, line_misspelling, lines_misspelling, block_misspelling}
+use Rattle.nntp_wire.{specs.Misspelling.{misspelling_behind, code_misspelling, misspelling}, proofs.Reasons.{none_unless, none_two, none_three, none_by_test}}
+use Rattle.nntp_wire.proofs.{Reasons.{and_true}, DueArguments.{are_arguments, none_arguments, group_taken, group_put, article_taken, article_put}}
+use Rattle.nntp_wire.proofs.{BlockLemmas.{stuffed-clean, unstuffed-clean, unstuffed-stuffed}, SpellLemmas.{sent-lines, status-code}, FrameLemmas.{line-nil}}
+use Rattle.nntp_wire.proofs.{FrameLemmas.{no_crlfs}, StreamLemmas.{split-lines}, AnswerLemmas.{reads-spells, spells-reads}}
 
 -- ---- lines
 
@@ -28,7 +27,7 @@ none_mapped f o = grind arith
 
 none_lines : (kind : Kind) (place : ℕ) (lines : List (List ℕ)) → is_none (line_misspelling kind place lines) ≡ are_right kind lines
 none_lines kind place [] = refl
-none_lines kind place (line ∷ lines) = grind (arith, none_two, none_mapped, none_three, none_unless, none_lines (kind_behind kind) (place + 1) lines)
+none_lines kind place (line ∷ lines) = grind (arith, none_mapped, none_unless, none_lines (kind_behind kind) (place + 1) lines)
 
 -- a dot that is followed by another was put in front
 doubled : (line : List ℕ) → has_no_single_dot line ≡ true → stuffed (unstuffed line) ≡ line
@@ -43,14 +42,10 @@ lists kind [] = true
 lists kind (line ∷ lines) = is_none (listing_fault kind line) && lists (kind_behind kind) lines
 
 -- lines that were sent are right
-record Right (kind : Kind) (lines : List (List ℕ)) : Type 0 where
-  clean : AreClean (map unstuffed lines)
-  same : map stuffed (map unstuffed lines) ≡ lines
-  listed : lists kind (map unstuffed lines) ≡ true
-
-right_parts : (kind : Kind) (lines : List (List ℕ)) → are_right kind lines ≡ true → Right kind lines
-right_parts kind [] h = record { clean = tt; same = refl; listed = refl }
-right_parts kind (line ∷ lines) h = grind (arith, and_parts, right_parts (kind_behind kind) lines, unstuffed-clean, doubled, and_from)
+right_parts : (kind : Kind) (lines : List (List ℕ)) → are_right kind lines ≡ true
+    → AreClean (map unstuffed lines) × (map stuffed (map unstuffed lines) ≡ lines) × (lists kind (map unstuffed lines) ≡ true)
+right_parts kind [] h = (tt, refl, refl)
+right_parts kind (line ∷ lines) h = grind (arith, and_parts, right_parts (kind_behind kind) lines, unstuffed-clean, doubled)
 
 right_sent : (kind : Kind) (lines : List (List ℕ)) → AreClean lines → lists kind lines ≡ true → are_right kind (map stuffed lines) ≡ true
 right_sent kind [] clean h = refl
@@ -60,23 +55,22 @@ right_sent kind (line ∷ lines) clean h = grind (arith, and_parts, and_from, st
 overview_parts : (line : List ℕ) → is_none (listing_fault Overview line) ≡ is_some (overview_of line)
 overview_parts line = search (arith, none_two, none_unless)
 
+both_true : (p q : Bool) → (q ≡ true → p ≡ true) → (p && q) ≡ q
+both_true p q f = grind arith
+
 -- and one of HDR exactly if it begins with a number and is a number and an id
 listed_id_parts : (line : List ℕ) → is_none (listing_fault Ids line) ≡ is_some (listed_id_of line)
 listed_id_parts line = none_two _ _ _ _ (none_unless (is_some (number_of_words (words_of line))) NoListedNumber) (none_unless (is_some (listed_id_of line)) NoListedId)
     ∙ both_true _ _ (by (fields_of line) refl)
   where
-    both_true : (p q : Bool) → (q ≡ true → p ≡ true) → (p && q) ≡ q
-    both_true p q f = grind arith
-
     numbered : (words : List (List ℕ)) → is_some (listed_id_of_words words) ≡ true → is_some (number_of_words words) ≡ true
     numbered words h = grind arith
 
     by : (fields : List (List ℕ)) → fields_of line ≡ fields → is_some (listed_id_of_fields fields) ≡ true → is_some (number_of_words (words_of line)) ≡ true
-    by [] e h = absurd (false≢true h)
     by (field ∷ []) e h =
         let same : field ≡ line = sym (ap (join_with_byte tab) e) ∙ join_with_byte-slice_split tab line in
         subst (λ line. is_some (number_of_words (words_of line)) ≡ true) same (numbered (words_of field) h)
-    by (field ∷ next ∷ fields) e h = absurd (false≢true h)
+    by fields e h = grind (arith, false≢true)
 
 -- what the lines of a response of this kind have to list
 abbrev listing : Kind → List (List ℕ) → Bool
@@ -87,37 +81,22 @@ listing Ids lines = are_listed_ids lines
 listing Capabilities lines = begins_with_versions lines
 listing kind lines = true
 
-any_lines : (kind : Kind) → kind_behind kind ≡ kind → ((line : List ℕ) → listing_fault kind line ≡ None) → (lines : List (List ℕ)) → lists kind lines ≡ true
-any_lines kind behind none [] = refl
-any_lines kind behind none (line ∷ lines) = grind (arith, and_from, any_lines kind behind none lines)
-
 -- where there is a line, or none is due
 abbrev listed : Kind → List (List ℕ) → Bool
 listed Capabilities [] = false
 listed kind lines = lists kind lines
 
 listing-listed : (kind : Kind) (lines : List (List ℕ)) → listed kind lines ≡ listing kind lines
-listing-listed Group lines = any_lines Group refl (λ line. refl) lines
-listing-listed Numbers [] = refl
-listing-listed Numbers (line ∷ lines) = grind (arith, none_unless, listing-listed Numbers lines)
-listing-listed Sent lines = any_lines Sent refl (λ line. refl) lines
-listing-listed Active [] = refl
-listing-listed Active (line ∷ lines) = grind (arith, none_unless, listing-listed Active lines)
-listing-listed Overview [] = refl
-listing-listed Overview (line ∷ lines) = grind (arith, overview_parts, listing-listed Overview lines)
-listing-listed Ids [] = refl
-listing-listed Ids (line ∷ lines) = grind (arith, listed_id_parts, listing-listed Ids lines)
-listing-listed kind lines = grind (arith, none_unless, any_lines, and_true)
+listing-listed Capabilities [] = refl
+listing-listed Capabilities (line ∷ lines) = grind (arith, none_unless, and_true, listing-listed Plain lines)
+listing-listed kind [] = refl
+listing-listed kind (line ∷ lines) = grind (arith, none_unless, overview_parts, listed_id_parts, listing-listed kind lines)
 
 -- ---- blocks
 
 -- the lines are those of the octets, each followed by CRLF
 lines-are : (bytes : List ℕ) (lines : List (List ℕ)) → AllByRecursion IsBlockLine lines → bytes ≡ ended lines → lines ≡ lines_of_stream bytes
-lines-are bytes lines each whole = split-lines bytes lines [] (record { whole = whole ∙ sym (append-nil (ended lines)); each = no_crlf lines each; last = line-nil })
-  where
-    no_crlf : (lines : List (List ℕ)) → AllByRecursion IsBlockLine lines → AllByRecursion HasNoCrlf lines
-    no_crlf [] each = tt
-    no_crlf (line ∷ lines) each = (each.0.0, no_crlf lines each.1)
+lines-are bytes lines each whole = split-lines bytes lines [] (record { whole = whole ∙ sym (append-nil (ended lines)); each = no_crlfs lines each; last = line-nil })
 
 -- what the lines of a block list, where there is one
 abbrev Lists : Kind → Option (List (List ℕ)) → Type 0
@@ -134,69 +113,58 @@ listed_lines : (kind : Kind) (lines : List (List ℕ)) → is_none (lines_misspe
 listed_lines kind lines h = grind (arith, false≢true, none_lines, right_parts)
 
 sent_lines : (kind : Kind) (lines : List (List ℕ)) → AreClean lines → listed kind lines ≡ true → is_none (lines_misspelling kind (map stuffed lines)) ≡ true
-sent_lines kind lines clean h = search (arith, false≢true, none_lines, right_sent)
+sent_lines kind lines clean h = grind (arith, none_lines, right_sent)
 
 block_taken : (kind : Kind) (is_due : Bool) (bytes : Option (List ℕ)) → IsBeforeDotLine bytes → is_none (block_misspelling kind is_due bytes) ≡ true → Block kind bytes is_due
-block_taken kind true None before h = absurd (false≢true h)
-block_taken kind false bytes before h = grind arith
 block_taken kind true (Some bytes) (lines, each, whole) h =
     let same : lines ≡ lines_of_stream bytes = lines-are bytes lines each whole in
     let both = listed_lines kind lines (ap (λ ls. is_none (lines_misspelling kind ls)) same ∙ h) in
     let right = right_parts kind lines both.0 in
     record {
       block = Some (map unstuffed lines);
-      is_block = record { sends = record { clean = right.clean; whole = whole ∙ ap ended (sym right.same) }; due = refl };
+      is_block = record { sends = record { clean = right.0; whole = whole ∙ ap ended (sym right.1) }; due = refl };
       all_listed = sym (listing-listed kind (map unstuffed lines)) ∙ both.1;
     }
+block_taken kind is_due bytes before h = grind (arith, false≢true)
 
 block_put : (kind : Kind) (is_due : Bool) (bytes : Option (List ℕ)) (block : Option (List (List ℕ))) → SendsBlock bytes block → is_some block ≡ is_due → Lists kind block
     → is_none (block_misspelling kind is_due bytes) ≡ true
-block_put kind is_due None block is due right = grind arith
-block_put kind is_due (Some bytes) None is due right = absurd is
 block_put kind is_due (Some bytes) (Some lines) is due right = grind (arith, true≢false, lines-are, sent-lines, sent_lines, listing-listed)
+block_put kind is_due bytes block is due right = grind arith
 
 -- ---- responses
 
 -- a response of this kind lists something
 abbrev is_listing : Kind → Bool
-is_listing Numbers = true
-is_listing Active = true
-is_listing Overview = true
-is_listing Ids = true
-is_listing Capabilities = true
-is_listing kind = false
+is_listing Group = false
+is_listing Sent = false
+is_listing Plain = false
+is_listing kind = true
 
 says_of : (kind : Kind) (code : ℕ) (bytes : List ℕ) (block : Option (List (List ℕ))) → (is_listing kind ≡ true → is_some block ≡ true)
     → are_arguments (dues kind) (arguments_of bytes) ≡ true → Lists kind block → (r : Response) × Says kind code bytes block r
 says_of Group code bytes block some args right = let g = group_taken bytes args in (group_is g.0 g.1, g.2)
-says_of Numbers code bytes None some args right = absurd (false≢true (some refl))
 says_of Numbers code bytes (Some lines) some args right = let g = group_taken bytes args in (numbers_are g.0 g.1 lines, (g.2, right, refl))
 says_of Sent code bytes block some args right = let a = article_taken bytes args in (sends (record { code = code; number = a.0; id = a.1; block = block }), (refl, a.2, refl))
-says_of Active code bytes None some args right = absurd (false≢true (some refl))
 says_of Active code bytes (Some lines) some args right = (active_are lines, (right, refl))
-says_of Overview code bytes None some args right = absurd (false≢true (some refl))
-says_of Overview code bytes (Some lines) some args right = (overviews_are lines, (right, refl))
-says_of Ids code bytes None some args right = absurd (false≢true (some refl))
-says_of Ids code bytes (Some lines) some args right = (overviews_are lines, (right, refl))
-says_of Capabilities code bytes None some args right = absurd (false≢true (some refl))
 says_of Capabilities code bytes (Some lines) some args right = (plain code, (right, refl))
 says_of Plain code bytes block some args right = (plain code, refl)
+says_of kind code bytes (Some lines) some args right = (overviews_are lines, (right, refl))
+says_of kind code bytes None some args right = absurd (false≢true (some refl))
 
 any_block : (kind : Kind) → ((lines : List (List ℕ)) → listing kind lines ≡ true) → (block : Option (List (List ℕ))) → Lists kind block
 any_block kind all block = grind arith
 
 says_back : (kind : Kind) (code : ℕ) (bytes : List ℕ) (block : Option (List (List ℕ))) (r : Response) → Says kind code bytes block r
     → (are_arguments (dues kind) (arguments_of bytes) ≡ true) × Lists kind block
-says_back Group code bytes block r says = (group_put bytes (group_said bytes r says), any_block Group (λ lines. refl) block)
-says_back Numbers code bytes block r says = grind (arith, group_put)
-says_back kind code bytes block r says = grind (arith, article_put, any_block, overviews_said)
+says_back kind code bytes block r says = grind (arith, group_put, article_put, any_block)
 
 either_not : (b : Bool) (k l : Kind) → is_listing k ≡ false → is_listing l ≡ false → is_listing (cond b k l) ≡ true → ⊥
 either_not b k l e f h = grind arith
 
 -- what lists something has a block
 listing_due : (asked : Asked) (code : ℕ) → is_listing (kind_of asked code) ≡ true → is_block_due asked code ≡ true
-listing_due asked code h = grind (arith, false≢true, eqb-true, either_not)
+listing_due asked code h = grind (arith, eqb-true, either_not)
 
 -- a line with a status is clean and fits
 status_front : (asked : Asked) (line : List ℕ) (code : ℕ) → status_of asked line ≡ Some code → (is_clean line && is_fitting asked (length line)) ≡ true

@@ -1,12 +1,35 @@
 -- The arguments and the lines that a reason counts.
 use Rattle.std.proofs.Common.{arith, ◌≡◌, ℕ, ◌+◌, ◌<◌, true, false, List, [], ◌∷◌, ◌++◌, None, Some, refl, sym, ap, ◌∙◌, cond, length, drop, get_or, drop-cons}
-use Rattle.std.{proofs.{Common.{add-one, inl, inr}, lemmas.Bool.{cases_Bool, and_parts, not-true}}, specs.List.{list_all, slice_split}}
+use Rattle.std.{proofs.{Common.{add-one, inl, inr, ◌==◌, not, IsTrue}, lemmas.Bool.{cases_Bool, and_parts, not-true, and_from}}, specs.List.{list_all}}
+use Rattle.std.specs.List.{slice_split}
 use Rattle.nntp_wire.specs.{Argument.{no_space, is_comment, BeginsWithArgument}, Reason.{unless, first}, Misspelling.{is_space, arguments_of, is_argument}}
 use Rattle.nntp_wire.specs.{Misspelling.{argument_misspelling, line_fault, kind_behind, line_misspelling}, declared.kind.Kind.{Kind}}
-use Rattle.nntp_wire.{specs.declared.misspelling.{Misspelling.TheVariants.{WrongArgument}, Due.{Due}}, proofs.Reasons.{first_alone}}
-use Rattle.nntp_wire.proofs.SaysDecided.{up_to_space}
+use Rattle.nntp_wire.{specs.{declared.misspelling.{Misspelling.TheVariants.{WrongArgument}, Due.{Due}}, Octets.{space}}, proofs.Reasons.{first_alone}}
 
 -- ---- arguments
+
+-- the octets before the first space, and those from it on
+record UpToSpace (bytes : List ℕ) : Type 0 where
+  word : List ℕ
+  rest : List ℕ
+  whole : bytes ≡ word ++ rest
+  spaceless : IsTrue (list_all no_space word)
+  ended : IsTrue (is_comment rest)
+
+up_to_space : (bytes : List ℕ) → UpToSpace bytes
+up_to_space [] = record { word = []; rest = []; whole = refl; spaceless = refl; ended = refl }
+up_to_space (b ∷ bs) = elim (cases_Bool (b == space)) [
+  | inl e ↦ record { word = []; rest = b ∷ bs; whole = refl; spaceless = refl; ended = e }
+  | inr f ↦
+      let w = up_to_space bs in
+      record {
+        word = b ∷ w.word;
+        rest = w.rest;
+        whole = ap (λ t. b ∷ t) w.whole;
+        spaceless = and_from (no_space b) (list_all no_space w.word) (ap not f) w.spaceless;
+        ended = w.ended;
+      }
+]
 
 -- octets up to a space are the first part
 split_word : (word rest : List ℕ) → list_all no_space word ≡ true → is_comment rest ≡ true → slice_split is_space (word ++ rest) ≡ word ∷ arguments_of rest

@@ -1,9 +1,9 @@
 -- Octets of sent lines, each beside the two behind it.
-use Rattle.std.proofs.Common.{◌≡◌, ◌≢◌, ◌<◌, ◌∙◌, ◌↔◌, ◌++◌, ◌∷◌, [], List, ℕ, Bool, true, length, sym, ap, subst, refl, arith, ⊎_elim, append_assoc}
-use Rattle.std.proofs.{Common.{append-nil, length-append, slice_index_or, ◌≤◌, ◌-◌, take, nat_eq}, Math.Bool.{and-true}, lemmas.Bool.{cases_eq, and_parts}}
-use Rattle.std.{proofs.lemmas.{Bool.Decides.{nat_tests, Decides-eqb}, Slice.Eq.{ends_is}}, specs.{Prelude.{◌&&◌, not}, List.{ends_with}}}
+use Rattle.std.proofs.Common.{◌≡◌, ◌≢◌, ◌<◌, ◌∙◌, ◌↔◌, ◌++◌, ◌∷◌, [], List, ℕ, Bool, true, length, sym, ap, subst, refl, arith, ⊎_elim, length-append}
+use Rattle.std.proofs.{Common.{slice_index_or, ◌≤◌, ◌-◌, take, nat_eq, map}, Math.Bool.{and-true}, lemmas.Bool.{cases_eq, and_parts, Decides.{nat_tests}}}
+use Rattle.std.{proofs.lemmas.{Bool.Decides.{Decides-eqb}, Slice.Eq.{ends_is}}, specs.{Prelude.{◌&&◌, not}, List.{ends_with}}}
 use Rattle.nntp_wire.specs.{Octets.{dot, crlf, is_clean, is_line_breaking}, Inner.Block.{are_fit, is_fit, IsSent}, Block.{stuffed, unstuffed, sent, AreClean}}
-use Rattle.nntp_wire.proofs.BlockLemmas.{sent-cons, stuffed-iff, stuffed-clean, unstuffed-stuffed}
+use Rattle.nntp_wire.proofs.{BlockLemmas.{sent-cons, stuffed-iff, stuffed-clean, unstuffed-stuffed}, FrameLemmas.{ended-end}}
 
 -- fewer than three octets fit
 pub fit-short : (b : Bool) (all rest : List ℕ) → length rest < 3 → are_fit all ≡ (b && are_fit rest) → b ≡ are_fit all
@@ -32,11 +32,8 @@ fit-tail : (a b : ℕ) (front : List ℕ) → are_fit (a ∷ b ∷ (front ++ crl
 fit-tail a b front h = grind arith
 
 -- a clean octet
-clean_octet : (b : ℕ) → b ≢ 0 → b ≢ 13 → b ≢ 10 → not (is_line_breaking b) ≡ true
-clean_octet b some no_cr no_lf = grind (arith, nat_tests)
-
-clean-octet : (b : ℕ) → not (is_line_breaking b) ≡ true → (b ≢ 0) × ((b ≢ 13) × (b ≢ 10))
-clean-octet b h = grind arith
+clean-octet : (b : ℕ) → (not (is_line_breaking b) ≡ true) ↔ ((b ≢ 0) × ((b ≢ 13) × (b ≢ 10)))
+clean-octet b = grind (arith, nat_tests)
 
 fit-stuffed : (line others : List ℕ) → are_fit (10 ∷ ((line ++ crlf) ++ others)) ≡ true → stuffed (unstuffed line) ≡ line
 fit-stuffed line others h = grind arith
@@ -75,14 +72,14 @@ rest-of p (b ∷ []) other h =
     let tail : are_fit (b ∷ crlf) ≡ true = fit-tail p b [] h in
     ⊎_elim
     (λ (is : b ≡ 13). absurd (let e : 13 ≡ 10 = (fit-pair b 13 10 (and_parts _ _ tail).0).1.0 is in omega arith))
-    (λ (next : b ≢ 13). rest-more b crlf (clean_octet b (fit-head b [] tail) next (λ e. other ((fit-next p b [] h).1 e))) (rest-of b [] next tail))
+    (λ (next : b ≢ 13). rest-more b crlf ((clean-octet b).1 (fit-head b [] tail, (next, λ e. other ((fit-next p b [] h).1 e)))) (rest-of b [] next tail))
     (cases_eq b 13)
 rest-of p (b ∷ c ∷ front) other h =
     let tail : are_fit (b ∷ c ∷ (front ++ crlf)) ≡ true = fit-tail p b (c ∷ front) h in
     ⊎_elim
     (grind (arith, fit-next, fit-tail, rest-none, sent-rest, rest-of 10 front (λ e. omega arith)))
     (λ (next : b ≢ 13).
-    rest-more b (c ∷ (front ++ crlf)) (clean_octet b (fit-head b (c ∷ front) tail) next (λ e. other ((fit-next p b (c ∷ front) h).1 e))) (rest-of b (c ∷ front) next tail))
+    rest-more b (c ∷ (front ++ crlf)) ((clean-octet b).1 (fit-head b (c ∷ front) tail, (next, λ e. other ((fit-next p b (c ∷ front) h).1 e)))) (rest-of b (c ∷ front) next tail))
     (cases_eq b 13)
 
 -- octets that fit, the first as behind an LF, and end with CRLF are sent lines
@@ -96,14 +93,10 @@ twice b c line is e = grind arith
 line-fit : (p : ℕ) (line others : List ℕ) → p ≢ 0 → p ≢ 13 → (p ≡ 10 → stuffed (unstuffed line) ≡ line) → is_clean line ≡ true → are_fit (10 ∷ others) ≡ true
     → are_fit (p ∷ ((line ++ crlf) ++ others)) ≡ true
 line-fit p [] others some other dots clean h = grind arith
-line-fit p (b ∷ []) others some other dots clean h =
-    let parts : (not (is_line_breaking b) ≡ true) × (true ≡ true) = and_parts _ _ clean in
-    let is = clean-octet b parts.0 in
-    search (arith, fits_of, line-fit b [] others is.0 is.1.0 (λ e. absurd (is.1.1 e)) refl h)
-line-fit p (b ∷ c ∷ line) others some other dots clean h =
-    let parts : (not (is_line_breaking b) ≡ true) × (is_clean (c ∷ line) ≡ true) = and_parts _ _ clean in
-    let is = clean-octet b parts.0 in
-    search (arith, fits_of, twice, line-fit b (c ∷ line) others is.0 is.1.0 (λ e. absurd (is.1.1 e)) parts.1 h)
+line-fit p (b ∷ line) others some other dots clean h =
+    let parts : (not (is_line_breaking b) ≡ true) × (is_clean line ≡ true) = and_parts _ _ clean in
+    let is = (clean-octet b).0 parts.0 in
+    search (arith, fits_of, twice, line-fit b line others is.0 is.1.0 (λ e. absurd (is.1.1 e)) parts.1 h)
 
 -- sent lines fit, the first octet as behind an LF
 pub sent-fit : (lines : List (List ℕ)) → AreClean lines → are_fit (10 ∷ sent lines) ≡ true
@@ -111,16 +104,9 @@ sent-fit [] clean = refl
 sent-fit (l ∷ ls) clean = grind (arith, line-fit, unstuffed-stuffed, stuffed-clean, sent-fit ls clean.1)
 
 -- and end with CRLF, if there are some
-pub sent-ends : (line : List ℕ) (lines : List (List ℕ)) → (front : List ℕ) × (sent (line ∷ lines) ≡ front ++ crlf)
-sent-ends line [] = (stuffed line, append-nil (stuffed line ++ crlf))
-sent-ends line (l ∷ lines) = let more = sent-ends l lines in
-    ((stuffed line ++ crlf) ++ more.0, ap (λ t. (stuffed line ++ crlf) ++ t) more.1 ∙ sym (append_assoc (stuffed line ++ crlf) more.0 crlf))
-
 sent_ends : (bytes : List ℕ) → 0 < length bytes → IsSent bytes → (front : List ℕ) × (bytes ≡ front ++ crlf)
-sent_ends bytes some (lines, sends) = at lines sends.whole where
-  at : (lines : List (List ℕ)) → bytes ≡ sent lines → (front : List ℕ) × (bytes ≡ front ++ crlf)
-  at [] whole = absurd (omega (arith, ap length whole))
-  at (l ∷ ls) whole = let ends = sent-ends l ls in (ends.0, whole ∙ ends.1)
+sent_ends bytes some ([], sends) = absurd (omega (arith, ap length sends.whole))
+sent_ends bytes some (l ∷ ls, sends) = let ends = ended-end (stuffed l) (map stuffed ls) in (ends.0, sends.whole ∙ ends.1)
 
 -- no lines are sent by one octet
 pub sent-two : (bytes : List ℕ) → 0 < length bytes → IsSent bytes → 2 ≤ length bytes

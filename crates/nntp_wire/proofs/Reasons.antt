@@ -27,16 +27,11 @@ none_four a b c d p q r s e f g h = grind arith
 
 pub none_five : {A : Type 0} (a b c d e : Option A) (p q r s t : Bool) → is_none a ≡ p → is_none b ≡ q → is_none c ≡ r → is_none d ≡ s → is_none e ≡ t
     → is_none (first (a ∷ b ∷ c ∷ d ∷ e ∷ [])) ≡ (p && q && r && s && t)
-none_five a b c d e p q r s t h i j k l =
-    none_first a (b ∷ c ∷ d ∷ e ∷ []) ∙ ap (λ x. is_none a && x) (none_four b c d e q r s t i j k l) ∙ ap (λ x. x && (q && r && s && t)) h ∙ left p q r s t
-  where
-    left : (p q r s t : Bool) → (p && (q && r && s && t)) ≡ (p && q && r && s && t)
-    left true q r s t = refl
-    left false q r s t = refl
+none_five a b c d e p q r s t h i j k l = grind arith
 
 pub none_each : {A B : Type 0} (f : A → Option B) (p : A → Bool) → ((x : A) → is_none (f x) ≡ p x) → (xs : List A) → is_none (first (map f xs)) ≡ list_all p xs
 none_each f p e [] = refl
-none_each f p e (x ∷ xs) = none_first (f x) (map f xs) ∙ ap (λ b. b && is_none (first (map f xs))) (e x) ∙ ap (λ b. p x && b) (none_each f p e xs)
+none_each f p e (x ∷ xs) = grind (arith, none_first, e x, none_each f p e xs)
 
 -- there is no reason exactly if the test says so
 pub none_by_test : {A : Type 0} (o : Option A) → is_none o ≡ true → o ≡ None
@@ -49,6 +44,9 @@ so_unless Q b why f = grind arith
 
 pub so_first : {A : Type 0} (Q : A → Type 0) (o : Option A) (others : List (Option A)) → IfSome o Q → IfSome (first others) Q → IfSome (first (o ∷ others)) Q
 so_first Q o others p q = grind arith
+
+pub so_two : {A : Type 0} (Q : A → Type 0) (a b : Option A) → IfSome a Q → IfSome b Q → IfSome (first (a ∷ b ∷ [])) Q
+so_two Q a b p q = so_first Q a (b ∷ []) p (so_first Q b [] q tt)
 
 pub so_each : {A B : Type 0} (Q : B → Type 0) (f : A → Option B) → ((x : A) → IfSome (f x) Q) → (xs : List A) → IfSome (first (map f xs)) Q
 so_each Q f p [] = tt

@@ -1,16 +1,13 @@
 -- Octets spell one response.
 use Rattle.std.proofs.{Common.{arith, ◌≡◌, ℕ, List, [], ◌∷◌, drop, refl, sym, ◌∙◌, ap, map, Option, None, Some}, lemmas.Bool.{false≢true}}
 use Rattle.std.specs.Prelude.{is_some}
-use Rattle.nntp_wire.specs.{Block.{stuffed, unstuffed}, Answer.{Asked, Success, Response, numbers_are, sends, Spells, Says, SaysGroup, SaysNumbers}}
-use Rattle.nntp_wire.specs.Answer.{SaysArticle, SaysActive, SaysOverviews, SaysCode, kind_of, status_of, is_block_due, block_octets, IsCleanBlock}
-use Rattle.nntp_wire.{specs.declared.kind.Kind.{Kind}, proofs.{ArgumentLemmas.{one-article, one-group}, SpellLemmas.{clean-line, one_block, sent-lines}}}
-use Rattle.nntp_wire.proofs.{SpellLemmas.{status-clean}, BlockLemmas.{unstuffed-stuffed}, FrameLemmas.{one_line}}
+use Rattle.nntp_wire.specs.{Block.{stuffed, unstuffed}, Answer.{Asked, Success, Response, numbers_are, sends, Spells, Says, SaysNumbers, SaysArticle, kind_of}}
+use Rattle.nntp_wire.{specs.{Answer.{status_of, is_block_due, block_octets, IsCleanBlock}, declared.kind.Kind.{Kind}}, proofs.ArgumentLemmas.{one-article}}
+use Rattle.nntp_wire.proofs.{ArgumentLemmas.{one-group}, SpellLemmas.{clean-line, one_block, sent-lines, status-clean}, BlockLemmas.{unstuffed-stuffed}}
+use Rattle.nntp_wire.proofs.FrameLemmas.{one_line}
 
 same_success : (s t : Success) → s.code ≡ t.code → s.number ≡ t.number → s.id ≡ t.id → s.block ≡ t.block → s ≡ t
 same_success s t c n i b = grind arith
-
-one_by_group : (bytes : List ℕ) (r o : Response) → SaysGroup bytes r → SaysGroup bytes o → r ≡ o
-one_by_group bytes r o p q = grind (arith, one-group)
 
 one_by_numbers : (bytes : List ℕ) (lines : List (List ℕ)) (r o : Response) → SaysNumbers bytes lines r → SaysNumbers bytes lines o → r ≡ o
 one_by_numbers bytes lines (numbers_are m n ls) (numbers_are o n' ms) p q =
@@ -24,18 +21,9 @@ one_by_article code bytes block (sends s) (sends t) p q =
     ap sends (same_success s t (p.0 ∙ sym q.0) g.0 g.1 (p.2 ∙ sym q.2))
 one_by_article code bytes block r o p q = grind arith
 
-one_by_active : (lines : List (List ℕ)) (r o : Response) → SaysActive lines r → SaysActive lines o → r ≡ o
-one_by_active lines r o p q = grind arith
-
-one_by_overviews : (lines : List (List ℕ)) (r o : Response) → SaysOverviews lines r → SaysOverviews lines o → r ≡ o
-one_by_overviews lines r o p q = grind arith
-
-one_by_code : (code : ℕ) (r o : Response) → SaysCode code r → SaysCode code o → r ≡ o
-one_by_code code r o p q = grind arith
-
 -- the octets behind a code and a block say one thing
 one_meaning : (k : Kind) (code : ℕ) (bytes : List ℕ) (block : Option (List (List ℕ))) (r o : Response) → Says k code bytes block r → Says k code bytes block o → r ≡ o
-one_meaning k code bytes block r o p q = search (arith, one_by_group, one_by_numbers, one_by_article, one_by_active, one_by_overviews, one_by_code)
+one_meaning k code bytes block r o p q = search (arith, one-group, one_by_numbers, one_by_article)
 
 map-unstuffed : (lines : List (List ℕ)) → map unstuffed (map stuffed lines) ≡ lines
 map-unstuffed [] = refl

@@ -1,10 +1,10 @@
 -- The finite map that the entries of a `BTreeMap` show, under a view of its keys and one of its values.
-use Rattle.std.proofs.Common.{◌≡◌, Bool, true, false, cond, T, Option, None, Some, IsSome, is_some, option_map, List, [], ◌∷◌, map, length, refl, sym, ap}
-use Rattle.std.{proofs.{Common.{subst, ◌∙◌, arith}, lemmas.{Bool.{true≢false}, List.{length-map}}}, specs.declared.cmp.Ordering.{Ordering, TheVariants.{Less}}}
-use Rattle.std.specs.{declared.cmp.Ordering.TheVariants.{Equal}, Ordering.{eq_by_cmp, is_eq}, Cmp.{IsTotalOrder, eq_by_cmp_equiv}, Prelude.{◌&&◌}}
-use Rattle.std.specs.{List.{AllByRecursion, list_all, Sorted.{IsStrictlySortedBy}}, FinMap.{FinMap, get, insert, entries, len, find, put, is_sorted}}
-use Rattle.std.specs.FinMap.{from_entries, from_sorted, IsAntisymmetric, same_map, get-from_entries, get-from_sorted, entries-from_sorted, len-entries}
-use Rattle.std.specs.{FinMap.{get-insert, Entries.{find-put, below_all}}, Map.{lookup, keys_of, set_value}, BTreeMap.{insert_entry}}
+use Rattle.std.proofs.Common.{◌≡◌, Bool, true, cond, T, Option, None, Some, IsSome, is_some, option_map, List, [], ◌∷◌, map, length, refl, sym, ap, subst, ◌∙◌}
+use Rattle.std.{proofs.{Common.{arith}, lemmas.{Bool.{true≢false}, List.{length-map}}}, specs.declared.cmp.Ordering.{Ordering, TheVariants.{Less, Equal}}}
+use Rattle.std.specs.{Ordering.{eq_by_cmp, is_eq}, Cmp.{IsTotalOrder, eq_by_cmp_equiv}, Prelude.{◌&&◌}, List.{AllByRecursion, list_all}}
+use Rattle.std.specs.{List.Sorted.{IsStrictlySortedBy}, FinMap.{FinMap, get, insert, entries, len, find, put, is_sorted, from_entries, from_sorted}}
+use Rattle.std.specs.FinMap.{IsAntisymmetric, same_map, get-from_entries, get-from_sorted, entries-from_sorted, len-entries, get-insert, Entries.{find-put}}
+use Rattle.std.specs.{FinMap.Entries.{below_all}, Map.{lookup, keys_of, set_value}, BTreeMap.{insert_entry}}
 
 module _ {K X : Type 0} {R : K → K → Ordering} (o : IsTotalOrder R) where
   pub from_entries-put : IsAntisymmetric R → (es : List (K × X)) (k : K) (v : X) → from_entries {R = R} (put R k v es) ≡ insert (from_entries es) k v
@@ -100,11 +100,7 @@ module _ {L V K X : Type 0} (R : K → K → Ordering) (key : L → K) (value : 
 -- to insert what is there changes nothing
 module _ {K X : Type 0} {R : K → K → Ordering} (o : IsTotalOrder R) (same : IsAntisymmetric R) where
   pub insert-same : (m : FinMap R X) (k : K) (x : X) → get m k ≡ Some x → insert m k x ≡ m
-  insert-same m k x here = same_map o same _ _ (λ q. get-insert o m k x q ∙
-      elim (eq_by_cmp R q k) as (λ b. eq_by_cmp R q k ≡ b → cond b (Some x) (get m q) ≡ get m q) [
-        | true ↦ λ t. sym here ∙ ap (get m) (sym (same q k (equal_is _ t)))
-        | false ↦ λ t. refl
-      ] refl)
+  insert-same m k x here = same_map o same _ _ (λ q. let g = get-insert o m k x q in let e = same q k in grind (arith, equal_is))
 
 pub is_some-option_map : {A B : Type 0} (f : A → B) (o : Option A) → is_some (option_map f o) ≡ is_some o
 is_some-option_map f o = grind arith

@@ -1,9 +1,9 @@
 -- The lines of a stream.
-use Rattle.std.proofs.Common.{◌≡◌, ◌≢◌, ℕ, List, [], ◌∷◌, ◌++◌, drop, refl, sym, ◌∙◌, ap, subst, inl, inr, arith, append_assoc, ⊎_elim, Bool, true, false, cond}
-use Rattle.std.{proofs.lemmas.{List.{append-nil, append_cancel_left}, Bool.{cases_eq, Decides.{nat_tests}}}, specs.Prelude.{◌&&◌, ◌==◌, ◌⊎◌}}
+use Rattle.std.proofs.Common.{◌≡◌, ℕ, List, [], ◌∷◌, ◌++◌, drop, refl, sym, ◌∙◌, ap, subst, inl, inr, arith, append_assoc, Bool, true, false, cond}
+use Rattle.std.{proofs.lemmas.{List.{append-nil, append_cancel_left}, Bool.{cases_eq, Decides.{nat_tests}}}, specs.Prelude.{◌&&◌, ◌==◌}}
 use Rattle.std.specs.List.{AllByRecursion}
 use Rattle.nntp_wire.specs.{Octets.{crlf, carriage_return}, Lines.{HasNoCrlf, ended, lines_of_stream, parts_of, with_octet, all_but_last}}
-use Rattle.nntp_wire.{specs.{Lines.{begins_with_line_feed}, Inner.Lines.{IsSplit}}, proofs.FrameLemmas.{line-tail, line-cons, line-one, line-nil}}
+use Rattle.nntp_wire.{specs.{Lines.{begins_with_line_feed}, Inner.Lines.{IsSplit}}, proofs.FrameLemmas.{line-tail, line-nil, cons-line, lines-cons}}
 use Rattle.nntp_wire.proofs.FrameLemmas.{occurs-behind}
 
 -- one octet more in front leaves a first part
@@ -60,17 +60,6 @@ lines-ended (line ∷ lines) rest each = grind (arith, append_assoc, lines-first
 pub split-lines : (stream : List ℕ) (lines : List (List ℕ)) (rest : List ℕ) → IsSplit stream lines rest → lines ≡ lines_of_stream stream
 split-lines stream lines rest split = grind (arith, lines-ended, lines-none, append-nil)
 
--- an octet in front of octets without CRLF: still none, or one at the front
-cons-line : (b : ℕ) (part : List ℕ) → HasNoCrlf part → HasNoCrlf (b ∷ part) ⊎ ((rest : List ℕ) × HasNoCrlf rest × (b ∷ part ≡ crlf ++ rest))
-cons-line b [] line = inl (line-one b)
-cons-line b (c ∷ cs) line = ⊎_elim
-    (λ (is_b : b ≡ 13). ⊎_elim
-    (λ (is_c : c ≡ 10). inr (cs, line-tail c cs line, cc))
-    (λ (no_c : c ≢ 10). inl (line-cons b c cs (λ _ is_c. no_c is_c) line))
-    (cases_eq c 10))
-    (λ (no_b : b ≢ 13). inl (line-cons b c cs (λ is_b _. no_b is_b) line))
-    (cases_eq b 13)
-
 -- some lines and a rest are the stream
 abbrev HasSplit : List ℕ → Type 0
 HasSplit stream = (lines : List (List ℕ)) × (rest : List ℕ) × IsSplit stream lines rest
@@ -79,21 +68,13 @@ HasSplit stream = (lines : List (List ℕ)) × (rest : List ℕ) × IsSplit stre
 split-cons : (b : ℕ) (stream : List ℕ) → HasSplit stream → HasSplit (b ∷ stream)
 split-cons b stream (lines, rest, split) = at lines split.each split.whole where
   at : (lines : List (List ℕ)) → AllByRecursion HasNoCrlf lines → stream ≡ ended lines ++ rest → HasSplit (b ∷ stream)
-  at [] each whole = ⊎_elim
-      (λ (line : HasNoCrlf (b ∷ rest)). ([], b ∷ rest, record { whole = ap (λ t. b ∷ t) whole; each = tt; last = line }))
-      (λ (more : (left : List ℕ) × HasNoCrlf left × (b ∷ rest ≡ crlf ++ left)).
-      ([] ∷ [], more.0, record { whole = ap (λ t. b ∷ t) whole ∙ more.2; each = (line-nil, tt); last = more.1 }))
-      (cons-line b rest split.last)
+  at [] each whole = elim (cons-line b rest split.last) [
+    | inl line ↦ ([], b ∷ rest, record { whole = ap (λ t. b ∷ t) whole; each = tt; last = line })
+    | inr (left, line, is) ↦ ([] ∷ [], left, record { whole = ap (λ t. b ∷ t) whole ∙ is; each = (line-nil, tt); last = line })
+  ]
   at (line ∷ lines) each whole =
-      let parts : stream ≡ line ++ (crlf ++ (ended lines ++ rest)) = whole ∙ append_assoc (line ++ crlf) (ended lines) rest ∙ append_assoc line crlf (ended lines ++ rest) in
-      ⊎_elim
-      (λ (is_line : HasNoCrlf (b ∷ line)). ((b ∷ line) ∷ lines, rest, record { whole = ap (λ t. b ∷ t) whole; each = (is_line, each.1); last = split.last }))
-      (λ (more : (left : List ℕ) × HasNoCrlf left × (b ∷ line ≡ crlf ++ left)). (
-        [] ∷ more.0 ∷ lines,
-        rest,
-        grind arith,
-      ))
-      (cons-line b line each.0)
+      let more = lines-cons b line lines each.0 each.1 in
+      (more.lines, rest, record { whole = ap (λ t. b ∷ t) whole ∙ ap (λ t. t ++ rest) more.whole; each = more.each; last = split.last })
 
 has-split : (stream : List ℕ) → HasSplit stream
 has-split [] = ([], [], record { whole = refl; each = tt; last = line-nil })

@@ -3,9 +3,6 @@ use Rattle.memchr.specs.Find.{Nowhere, Passes, is_byte}
 use Rattle.nntp_wire.proofs.SearchLemmas.{no-end-before, no-end-at, no-end-left, first-end}
 use Rattle.nntp_wire.proofs.search.find_block_end.Goals as goal
 
-pub loop-dot-init : goal.loop-dot-init
-loop-dot-init c = (omega arith, λ k low at. absurd (omega arith))
-
 pub split_at-requires : goal.split_at-requires
 split_at-requires c = c.loop-dot.invariant.0
 

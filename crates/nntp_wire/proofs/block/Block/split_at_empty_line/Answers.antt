@@ -38,9 +38,7 @@ overflow_add-length c =
     omega (arith, next-fits _ _ _ _ next, c.self.told.0)
 
 pub loop-line-preserved : goal.loop-line-preserved
-loop-line-preserved c =
-    let next = next-is c.self.inside.sent.now c.in-Some.line.now c.loop-line.line-iterator c.next.new.self c.loop-line.length c.loop-line.invariant c.in-Some.ensures.steps in
-    nonempty-more _ _ _ _ next (grind arith)
+loop-line-preserved c = grind (arith, nonempty-more, next-is)
 
 pub returns : goal.returns
 returns c = subst HasNoEmptyLine c.self.view_is (nonempty-end c.self.inside.sent.now c.loop-line.line-iterator c.loop-line.length c.loop-line.invariant c.in-None.ensures.steps.0)

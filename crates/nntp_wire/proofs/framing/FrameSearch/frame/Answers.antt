@@ -41,12 +41,6 @@ overflow_sub-end c =
     let at = block_at c.args.stream.now c.in_ok-line.line.now c.in_ok-line.rest.now c.args.self.now.block_end c.in-Found.end c.in_ok-line.ensures.parts c.requires.searched.block c.in-Found.is in
     grind arith
 
-pub new-requires-clause-code : goal.new-requires-clause-code
-new-requires-clause-code c = let parts = c.in_ok-line.ensures.parts in c.requires.through.code c.in_ok-line.line.now c.in_ok-line.rest.now parts.0 parts.1
-
-pub new-requires-2-clause-code : goal.new-requires-2-clause-code
-new-requires-2-clause-code c = let parts = c.in_ok-line.ensures.parts in c.requires.through.code c.in_ok-line.line.now c.in_ok-line.rest.now parts.0 parts.1
-
 pub new-requires-2-clause-frame : goal.new-requires-2-clause-frame
 new-requires-2-clause-frame c =
     let line = c.in_ok-line.line.now in
