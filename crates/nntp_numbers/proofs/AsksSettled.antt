@@ -111,7 +111,4 @@ module _ (asks : List Ask) (c : ℕ) (e : Option ℕ) (within : (n : ℕ) → is
 -- where nothing that is known is denied, and each ask can be met, all stands together exactly if the test passes
 pub settled : (asks : List Ask) (d : Demand) (w : HowMany) (f : Option ℕ) (c : ℕ) (e : Option ℕ) → Looks asks d w f c e → ArePossible asks → AreApart asks
     → IsTrue (is_settled d w f c e) ↔ AsksStand asks
-settled asks d w f c e looks possible apart = (
-  λ t. stands asks c looks.count possible apart (way asks c e looks.estimate f looks.free d looks.demanded w looks.found t),
-  λ s. test asks c e looks.estimate f looks.free d looks.demanded w looks.found (ways asks c looks.count s),
-)
+settled asks d w f c e looks possible apart = search (arith, stands, way, test, ways)

@@ -1,7 +1,6 @@
 -- The parts of what is asked of a group, each by itself: a known number that is denied, too many given numbers, an unmet demand.
-use Rattle.std.proofs.Common.{◌≡◌, ℕ, ◌+◌, ◌^◌, Bool, true, false, not, cond, ◌&&◌, ◌||◌, IsTrue, List, [], Option, None, Some, is_some, inl, inr, refl, sym}
-use Rattle.std.{proofs.{Common.{ap, subst, ◌∙◌, arith}, lemmas.Bool.{cases_lt, true≢false, or_cases, eqb-true}}, specs.Prelude.{MatchOption, ◌↔◌}}
-use Rattle.nntp_intervals.specs.Inner.Intervals.{holds}
+use Rattle.std.proofs.Common.{◌≡◌, ℕ, ◌+◌, Bool, true, false, not, cond, ◌&&◌, ◌||◌, IsTrue, List, [], Option, None, is_some, refl, sym, ap, subst, ◌∙◌, arith}
+use Rattle.std.{proofs.lemmas.Bool.{true≢false, or_cases, eqb-true}, specs.Prelude.{MatchOption, ◌↔◌}}
 use Rattle.nntp_numbers.proofs.{AsksSettled.{no_more, met_by, met_if, is_met_if, AreGiven, few_given, shown_given, more_given}, HullOfMarks.{is_known_by}}
 use Rattle.nntp_numbers.proofs.{HullOfMarks.{ends_known, apart_known, apart_by_hull}, Tallies.{same_tally}, UnseenNumbers.{one_more_is, ends_kept, hull_is}}
 use Rattle.nntp_numbers.specs.Inner.{Part.{is_end_of}, Summary.{Summary, IsSummary, AreBounded, has, PassSoMany, AreCounted, IsTally, is_met, DeniedAmong}}
@@ -14,10 +13,6 @@ use Rattle.nntp_theory.specs.Together.{MeetsDemand}
 -- ---- known numbers that are denied
 
 module _ (s : Summary) (asks : List Ask) (sum : IsSummary s asks) (bounded : AreBounded asks) where
-  -- what is kept as denied is denied
-  pub denied_kept : (n : ℕ) → holds s.denied n ≡ true → IsTrue (is_denied asks n)
-  denied_kept n t = elim (cases_lt n (2 ^ 64)) [ inl l ↦ sym (sum.denied n l) ∙ t | inr g ↦ bounded n g ]
-
   -- a strict mark is known, where it is said that there is a number
   end_known : (n : ℕ) → is_end_of (known_ends_in s) n ≡ true → IsTrue (is_known asks n)
   end_known n t = grind (arith, ends_kept s asks sum bounded, ends_known asks, or_cases, eqb-true)
@@ -25,7 +20,7 @@ module _ (s : Summary) (asks : List Ask) (sum : IsSummary s asks) (bounded : Are
   -- where no shown number is denied, it is the strict mark that is, or no known number is
   pub end_or_apart : DeniedAmong (has s.shown) s.denied None → (found : Option ℕ) → DeniedAmong (is_end_of (known_ends_in s)) s.denied found
       → MatchOption found (AreApart asks) (λ n. IsTrue (is_known asks n) × IsTrue (is_denied asks n))
-  end_or_apart shown found at = search (arith, end_known, denied_kept, apart_by_hull, is_known_by, or_cases, hull_is)
+  end_or_apart shown found at = search (arith, end_known, apart_by_hull, is_known_by, or_cases, hull_is)
 
   -- ---- what is counted
 
@@ -39,11 +34,7 @@ module _ (s : Summary) (asks : List Ask) (sum : IsSummary s asks) (bounded : Are
 
   -- where none of them is wanted, what is found is the one more
   pub more_found : ((n : ℕ) → (is_known asks n && wants (demand asks) n) ≡ false) → (b : Bool) → b ≡ is_some (one_more_in s) → IsTrue b ↔ ((n : ℕ) × IsOneMore asks n)
-  more_found none b is = by (one_more_in s) (one_more_is s asks sum bounded (λ _ n k. grind (arith, none n))) is
-    where
-      by : (o : Option ℕ) → MatchOption o ((n : ℕ) → IsOneMore asks n → ⊥) (IsOneMore asks) → b ≡ is_some o → IsTrue b ↔ ((n : ℕ) × IsOneMore asks n)
-      by None none is = (λ t. cc, λ x. absurd (none x.0 x.1))
-      by (Some n) more is = (λ t. (n, more), λ x. is)
+  more_found none b is = grind (arith, one_more_is s asks sum bounded, none)
 
 -- ---- whether there are too many
 
@@ -65,15 +56,10 @@ too_many_if asks c counted false has m is b few =
 
 module _ (asks : List Ask) (found : HowMany) (so_many : PassSoMany (λ n. is_known asks n && wants (demand asks) n) found)
     (s v : Summary) (view : v ≡ s) (demanded : s.demand ≡ demand asks) (met : Bool) (is : met ≡ is_met v.demand found) where
-  tests : met ≡ is_met (demand asks) found
-  tests = is ∙ ap (λ s. is_met s.demand found) view ∙ ap (λ d. is_met d found) demanded
-
   -- those that are known do
   pub known_met : met ≡ true → MeetsDemand (demand asks) (IsGivenNumber asks)
-  known_met t = grind (arith, met_if asks (demand asks) refl found so_many (sym tests ∙ t), known_meet, no_more)
+  known_met t = grind (arith, met_if asks (demand asks) refl found so_many, known_meet, no_more)
 
   -- or else exactly if there is one more
   pub more_met : met ≡ false → (b : Bool) → IsTrue b ↔ ((n : ℕ) × IsOneMore asks n) → IsTrue b ↔ MeetsDemand (demand asks) (IsGivenNumber asks)
-  more_met unmet b more =
-      let unmet : is_met (demand asks) found ≡ false = sym tests ∙ unmet in
-      grind (arith, more_meets, met_by, true≢false, is_met_if)
+  more_met unmet b more = grind (arith, more_meets, met_by, true≢false, is_met_if)

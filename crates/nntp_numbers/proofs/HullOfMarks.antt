@@ -1,10 +1,10 @@
 -- The hull of the strict marks: what is known is known by it, where it isn't denied.
-use Rattle.std.proofs.Common.{◌≡◌, ℕ, ◌≤◌, ◌⊎◌, Bool, true, false, cond, ◌&&◌, ◌||◌, ◌==◌, IsTrue, List, [], ◌∷◌, ◌++◌, Option, None, Some, inl, refl, subst}
-use Rattle.std.proofs.{Common.{arith}, lemmas.Bool.{and_from, or_left, or_right, or_cases, eq-eqb, false_from_ne_true, Decides.{nat_tests}}}
-use Rattle.std.specs.{List.{list_any}, Prelude.{IsFalse, MatchOption}}
+use Rattle.std.proofs.Common.{◌≡◌, ℕ, ◌≤◌, ◌⊎◌, Bool, true, cond, ◌&&◌, ◌||◌, ◌==◌, IsTrue, List, [], ◌∷◌, ◌++◌, Option, None, Some, inl, refl, arith}
+use Rattle.std.{proofs.lemmas.Bool.{and_from, or_left, or_right, or_cases, eq-eqb, false_from_ne_true, Decides.{nat_tests}}, specs.List.{list_any}}
+use Rattle.std.specs.Prelude.{IsFalse, MatchOption}
 use Rattle.nntp_wire.specs.declared.{marks.Marks.TheVariants.{Lenient, Strict}, water_marks.WaterMarks.{WaterMarks}}
 use Rattle.nntp_said.specs.{Asks.{Ask, Estimates, ListsIn, Has, StandsAt, StepsUp, StepsDown}, declared.position.Position.TheVariants.{First}}
-use Rattle.nntp_theory.{proofs.{GivenNumbers.GivenNumbersMeet.{shows_some, no_demand}, Members.{In, any_in, found_in}}, specs.Given.{shows, denies, is_shown}}
+use Rattle.nntp_theory.{proofs.{GivenNumbers.GivenNumbersMeet.{shows_some, no_demand}, Members.{In, any_in, found_in}}, specs.Given.{shows, is_shown}}
 use Rattle.nntp_theory.specs.{Given.{is_denied, is_known, is_end, says_some, demand_in, demand}, Inner.{Conflict.{AreApart}, OneMore.{is_demanding}}}
 use Rattle.nntp_theory.specs.Inner.Together.{AsksStand}
 use Rattle.nntp_numbers.specs.{Inner.Part.{join_ends, ends_in, ends_of, is_end_of}, declared.ends.Ends.{Ends}}
@@ -50,15 +50,9 @@ within_ends (ask ∷ asks) m i = grind (arith, within_ends asks m)
 
 -- ---- where the ends of the hull aren't denied
 
--- what isn't denied is between strict marks
-between_marks : (asks : List Ask) (m : WaterMarks) → In (Estimates Strict m) asks → (k : ℕ) → IsFalse (is_denied asks k) → (m.low ≤ k) × (k ≤ m.high)
-between_marks asks m i k free = grind (arith, any_in (λ ask. denies ask k) (Estimates Strict m) asks i, nat_tests)
-
 module _ (asks : List Ask) (e : Ends) (is : ends_of asks ≡ Some e) (low : IsFalse (is_denied asks e.low)) (high : IsFalse (is_denied asks e.high)) where
   same_marks : (m : WaterMarks) → In (Estimates Strict m) asks → (e.low ≡ m.low) × (e.high ≡ m.high)
-  same_marks m i =
-      let w : AreWithin m (Some e) = subst (AreWithin m) is (within_ends asks m i) in
-      grind (arith, w, between_marks)
+  same_marks m i = grind (arith, within_ends, any_in, nat_tests)
 
   -- all strict marks are the hull's
   same_ends : (n : ℕ) → list_any (λ ask. is_end ask n) asks ≡ is_end_of (Some e) n
@@ -66,7 +60,7 @@ module _ (asks : List Ask) (e : Ends) (is : ends_of asks ≡ Some e) (low : IsFa
 
   -- what isn't denied is between the ends
   pub between_ends : (n : ℕ) → IsFalse (is_denied asks n) → (e.low ≤ n) × (n ≤ e.high)
-  between_ends n free = grind (arith, found_in, ends_are asks e is, between_marks, same_marks)
+  between_ends n free = grind (arith, found_in, ends_are asks e is, same_marks, any_in, nat_tests)
 
 -- the ends are given, where it is said that there is a number
 pub ends_known : (asks : List Ask) (e : Ends) → ends_of asks ≡ Some e → list_any says_some asks ≡ true → IsTrue (is_known asks e.low) × IsTrue (is_known asks e.high)
@@ -74,17 +68,10 @@ ends_known asks e is some = grind (arith, or_right, and_from, ends_are asks e is
 
 -- ---- what is known by the hull
 
--- no end, where there is no hull
-no_hull : (asks : List Ask) → ends_of asks ≡ None → (n : ℕ) → list_any (λ ask. is_end ask n) asks ≡ false
-no_hull asks is n = grind (arith, false_from_ne_true, found_in, none)
-  where
-    none : (m : WaterMarks) → In (Estimates Strict m) asks → ⊥
-    none m i = subst (AreWithin m) is (within_ends asks m i)
-
 -- where the ends aren't denied, or no number is said to be there, what is known is known by the hull
 pub known_by : (asks : List Ask) → (list_any says_some asks ≡ true → (e : Ends) → ends_of asks ≡ Some e → IsFalse (is_denied asks e.low) × IsFalse (is_denied asks e.high))
     → (n : ℕ) → is_known asks n ≡ is_known_by asks n
-known_by asks free n = grind (arith, no_hull, same_ends)
+known_by asks free n = grind (arith, same_ends, false_from_ne_true, found_in, within_ends)
 
 -- so it is where nothing that is known is denied
 pub apart_known : (asks : List Ask) → AreApart asks → (n : ℕ) → is_known asks n ≡ is_known_by asks n

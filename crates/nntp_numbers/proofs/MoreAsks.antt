@@ -1,23 +1,21 @@
 -- More asks: what is kept and what they say tell whether all stands together.
-use Rattle.std.proofs.Common.{◌≡◌, ℕ, ◌^◌, ◌<◌, Bool, true, false, not, ◌&&◌, ◌||◌, ◌==◌, IsTrue, List, [], ◌∷◌, ◌++◌, length, Option, None, Some, is_some, inl}
-use Rattle.std.proofs.{Common.{inr, refl, sym, ap, subst, ◌∙◌, arith}, lemmas.Bool.{true≢false, and_parts, and_from, or_left, or_right, or_cases, cases_lt}}
-use Rattle.std.proofs.lemmas.{Bool.Decides.{nat_tests}, List.{length-map, Folds.{list_any-append, list_all-append}}, Map.Keys.{IsDistinct-from_sorted}}
-use Rattle.std.{proofs.lemmas.Map.{Lookups.{exact_unsigned}, Made.{length-from_same_keys}, Views.{tells_apart}}, specs.Cmp.{nat_cmp_total, eq_by_cmp_equiv}}
-use Rattle.std.specs.{Cmp.{both_ways}, FinMap.{get, len, keys, entries, entries_sorted, len-entries, nat_cmp-IsAntisymmetric, contains_key-keys}}
-use Rattle.std.specs.{List.{list_any, list_all, Sorted.{IsStrictlySortedBy}}, Ordering.{nat_cmp}, Prelude.{◌↔◌, IsFalse, ◌⊎◌, ◌≤◌}}
+use Rattle.std.proofs.Common.{◌≡◌, ℕ, ◌^◌, ◌<◌, Bool, true, false, not, ◌&&◌, ◌||◌, ◌==◌, IsTrue, List, [], ◌∷◌, ◌++◌, length, Option, inl, inr, refl, sym, ap}
+use Rattle.std.proofs.{Common.{subst, ◌∙◌, arith}, lemmas.Bool.{true≢false, and_parts, and_from, or_left, or_right, or_cases, cases_lt, Decides.{nat_tests}}}
+use Rattle.std.proofs.lemmas.{List.{length-map, Folds.{list_any-append, list_all-append}}, Map.{Keys.{IsDistinct-from_sorted}, Lookups.{exact_unsigned}}}
+use Rattle.std.{proofs.lemmas.Map.{Made.{length-from_same_keys}, Views.{tells_apart}}, specs.{Cmp.{nat_cmp_total, eq_by_cmp_equiv, both_ways}, FinMap.{len}}}
+use Rattle.std.specs.{FinMap.{keys, entries, entries_sorted, len-entries, nat_cmp-IsAntisymmetric, contains_key-keys}, List.{list_any, list_all}}
+use Rattle.std.specs.{List.Sorted.{IsStrictlySortedBy}, Ordering.{nat_cmp}, Prelude.{◌↔◌, IsFalse, ◌⊎◌, ◌≤◌}}
 use Rattle.nntp_intervals.specs.Inner.Intervals.{holds}
 use Rattle.nntp_article.specs.Session.Spool.{Numbers, IsNumber}
 use Rattle.nntp_numbers.proofs.{AsksSettled.{settled, ArePossible}, HullOfMarks.{is_known_by, end_if, ends_append, some_is, apart_by_hull, stands_by_hull}}
-use Rattle.nntp_numbers.specs.Inner.{Part.{join_ends, ends_of, is_end_of, is_one_of, Said, IsRegular, Says}, Summary.{IsTally, Summary, has, IsSummary}}
-use Rattle.nntp_numbers.specs.Inner.Summary.{AreBounded, shown_after, says_some_after, ends_after, known_after, denied_after, PassSoMany, FirstFree, is_settled}
-use Rattle.nntp_numbers.specs.{Inner.Summary.{AreCounted, Looks, FirstFreeBelow, AgreesWith, AreOpen, LooksAfter}, declared.ends.Ends.{Ends}}
-use Rattle.nntp_numbers.specs.declared.shown.HowMany.{HowMany}
+use Rattle.nntp_numbers.specs.Inner.{Part.{join_ends, is_end_of, is_one_of, Said, IsRegular, Says}, Summary.{IsTally, Summary, has, IsSummary, AreBounded}}
+use Rattle.nntp_numbers.specs.Inner.Summary.{shown_after, says_some_after, ends_after, known_after, denied_after, PassSoMany, FirstFree, is_settled, AreCounted}
+use Rattle.nntp_numbers.specs.{Inner.Summary.{Looks, FirstFreeBelow, AgreesWith, AreOpen, LooksAfter}, declared.{ends.Ends.{Ends}, shown.HowMany.{HowMany}}}
 use Rattle.nntp_said.specs.Asks.{Ask}
 use Rattle.nntp_theory.proofs.{GivenNumbers.{JoinedDemands.{demand_append}, MetNumbersStand.{key_in, key_is, shown_known}}, Maps.{key_map, in_key_map}}
 use Rattle.nntp_theory.{proofs.{Maps.{of_key_map, sorted_keys}, Members.{any_in, found_in, all_both, all_back}}, specs.Given.{shows, denies, is_shown}}
-use Rattle.nntp_theory.specs.{Given.{is_denied, says_some, demand, join, wants, is_known}, Inner.{Conflict.{AreApart}, Estimates.{estimate_in, is_within}}}
-use Rattle.nntp_theory.specs.{Inner.{Estimates.{is_within_all}, OneMore.{is_demanding}, Together.{AsksStand}}, Together.{is_possible}}
-use Rattle.nntp_theory.specs.declared.demand.Demand.{Demand}
+use Rattle.nntp_theory.specs.{Given.{is_denied, says_some, demand, join, wants, is_known}, Inner.{Estimates.{estimate_in, is_within}, OneMore.{is_demanding}}}
+use Rattle.nntp_theory.specs.{Inner.Together.{AsksStand}, Together.{is_possible}, declared.demand.Demand.{Demand}}
 
 -- ---- maps of ascending numbers
 
@@ -33,12 +31,9 @@ in_map_of ns n = grind (arith, any_in, of_key_map, nat_cmp-IsAntisymmetric, key_
 pub len_map_of : (ns : List ℕ) → IsStrictlySortedBy nat_cmp ns → len (map_of ns) ≡ length ns
 len_map_of ns up =
     let M = map_of ns in
-    let same : length (keys M) ≡ length ns =
-    length-from_same_keys (eq_by_cmp_equiv nat_cmp_total) (keys M) ns
-    (IsDistinct-from_sorted nat_cmp (keys M) (sorted_keys nat_cmp (entries M) (entries_sorted M)))
-    (IsDistinct-from_sorted nat_cmp ns up)
-    (λ q. sym (contains_key-keys M q) ∙ both_ways (is_some (get M q)) (has ns q) (in_map_of ns q).0 (in_map_of ns q).1) in
-    simp (len-entries) (simp length-map at same)
+    let same = length-from_same_keys (eq_by_cmp_equiv nat_cmp_total) (keys M) ns in
+    let sorted = sorted_keys nat_cmp (entries M) (entries_sorted M) in
+    grind (arith, same, IsDistinct-from_sorted nat_cmp, sorted, contains_key-keys M, both_ways, in_map_of ns, len-entries, length-map)
 
 -- ---- more asks
 
@@ -62,14 +57,12 @@ one_found [] (m ∷ ms) d t = inl (m, grind (arith, nat_tests))
 -- and back
 pub found_some : (ns ms : List ℕ) (n : ℕ) → (has ns n || is_one_of ms n) ≡ true → (not (length ns == 0) || not (length ms == 0)) ≡ true
 found_some [] [] n t = cc
-found_some (k ∷ ns) ms n t = grind (arith, nat_tests)
-found_some [] (m ∷ ms) n t = grind (arith, nat_tests)
+found_some ns ms n t = grind (arith, nat_tests)
 
 -- the first free number below 2^64 is the first one, where none is free from there on
 pub free_of_all : {taken denied : ℕ → Bool} → ((n : ℕ) → n < 2 ^ 64 → taken n ≡ denied n) → ((n : ℕ) → 2 ^ 64 ≤ n → denied n ≡ true)
     → (f : Option ℕ) → FirstFreeBelow taken f → FirstFree denied f
-free_of_all same full None taken = λ n one. elim (cases_lt n (2 ^ 64)) [ inl lt ↦ sym (same n lt) ∙ taken n one lt | inr ge ↦ full n ge ]
-free_of_all same full (Some f) (small, (one, here, below)) = (one, sym (same f small) ∙ here, λ m lo hi. sym (same m (omega arith)) ∙ below m lo hi)
+free_of_all same full f taken = grind (arith, cases_lt)
 
 module _ (s : Summary) (p : Said) (asks more : List Ask) (sum : IsSummary s asks) (says : Says p more) where
   shown_grows : (n : ℕ) → shown_after s.shown p.numbers n ≡ is_shown (asks ++ more) n
@@ -78,14 +71,8 @@ module _ (s : Summary) (p : Said) (asks more : List Ask) (sum : IsSummary s asks
   denied_grows : (n : ℕ) → n < 2 ^ 64 → denied_after s.denied p n ≡ is_denied (asks ++ more) n
   denied_grows n small = (λ i. sum.denied n small i || says.denying n small i) ∙ sym (list_any-append (λ ask. denies ask n) asks more)
 
-  estimate_grows : (e : Option ℕ) → ((n : ℕ) → is_within e n ≡ (is_within s.estimate n && is_within p.estimate n)) → (n : ℕ) → is_within e n ≡ is_within_all (asks ++ more) n
-  estimate_grows e is n = is n ∙ (λ i. sum.estimate n i && says.estimating n i) ∙ sym (list_all-append (λ ask. is_within (estimate_in ask) n) asks more)
-
   demand_grows : join s.demand p.demand ≡ demand (asks ++ more)
   demand_grows = (λ i. join (sum.demand i) (says.demanding i)) ∙ sym (demand_append asks more)
-
-  ends_grow : join_ends s.ends p.ends ≡ ends_of (asks ++ more)
-  ends_grow = (λ i. join_ends (sum.ends i) (says.ending i)) ∙ sym (ends_append asks more)
 
   -- whether it is said that there is a number
   some_grows : says_some_after s p ≡ list_any says_some (asks ++ more)
@@ -99,7 +86,7 @@ module _ (s : Summary) (p : Said) (asks more : List Ask) (sum : IsSummary s asks
 
   -- what is known then is known by the hull
   hull_grows : (n : ℕ) → known_after s p n ≡ is_known_by (asks ++ more) n
-  hull_grows n = grind (arith, end_if, some_grows, ends_grow, shown_grows)
+  hull_grows n = grind (arith, end_if, some_grows, shown_grows, ends_append)
 
   module _ (bounded : AreBounded (asks ++ more)) where
     -- what is said agrees, and the strict marks are open
@@ -114,12 +101,9 @@ module _ (s : Summary) (p : Said) (asks more : List Ask) (sum : IsSummary s asks
       known_grows : (n : ℕ) → known_after s p n ≡ is_known (asks ++ more) n
       known_grows n = hull_grows n ∙ sym (apart_by_hull (asks ++ more) apart_by n)
 
-      apart : AreApart (asks ++ more)
-      apart n t = apart_by n (sym (apart_by_hull (asks ++ more) apart_by n) ∙ t)
-
       -- all stands together with the asks exactly if the test passes
       settles : (d : Demand) (w : HowMany) (f : Option ℕ) (c : ℕ) (e : Option ℕ) → LooksAfter s p d w f c e → IsTrue (is_settled d w f c e) ↔ AsksStand (asks ++ more)
-      settles d w f c e l = settled (asks ++ more) d w f c e looks (grind (arith, all_both, are_possible)) apart
+      settles d w f c e l = settled (asks ++ more) d w f c e looks (grind (arith, all_both, are_possible)) (λ n t. apart_by n (sym (apart_by_hull (asks ++ more) apart_by n) ∙ t))
         where
           looks : Looks (asks ++ more) d w f c e
           looks = record {
@@ -127,7 +111,7 @@ module _ (s : Summary) (p : Said) (asks more : List Ask) (sum : IsSummary s asks
             found = subst {A = ℕ → Bool} (λ known. PassSoMany (λ n. known n && wants d n) w) (λ i n. known_grows n i) l.tally.found;
             free = free_of_all denied_grows bounded f l.free;
             count = subst {A = ℕ → Bool} (λ known. AreCounted known c) (λ i n. known_grows n i) l.tally.count;
-            estimate = estimate_grows e l.estimate;
+            estimate = λ n. l.estimate n ∙ (λ i. sum.estimate n i && says.estimating n i) ∙ sym (list_all-append (λ ask. is_within (estimate_in ask) n) asks more);
           }
 
     -- and back
@@ -142,19 +126,11 @@ module _ (s : Summary) (p : Said) (asks more : List Ask) (sum : IsSummary s asks
         after = λ n b. grind (arith, free_then n);
       }
 
-      open_then : AreOpen s.denied p (ends_after s p)
-      open_then n t = free_then n (or_right (shown_after s.shown p.numbers n) (is_end_of (ends_after s p) n) t)
-
 -- ---- for the code
 
 -- a value tells by its test whether all stands together with the asks
 abbrev pub Tells : Bool → Summary → Said → Type 0
 Tells b s p = (asks more : List Ask) → IsSummary s asks → AsksStand asks → AreBounded (asks ++ more) → Says p more → IsTrue b ↔ AsksStand (asks ++ more)
-
--- the strict marks as the code finds them
-ends_then : (s v : Summary) (p : Said) (d : Demand) (ends : Option Ends) → v ≡ s → d ≡ join v.demand p.demand
-    → (d ≡ join s.demand p.demand → ends ≡ ends_after s p) → ends ≡ ends_after v p
-ends_then s v p d ends view is found = found (is ∙ ap (λ s. join s.demand p.demand) view) ∙ ap (λ s. ends_after s p) (sym view)
 
 module _ (s v : Summary) (p : Said) (b : Bool) (d : Demand) (ends : Option Ends) (view : v ≡ s) (is_demand : d ≡ join v.demand p.demand)
     (are_ends : d ≡ join s.demand p.demand → ends ≡ ends_after s p) where
@@ -162,7 +138,7 @@ module _ (s v : Summary) (p : Said) (b : Bool) (d : Demand) (ends : Option Ends)
       → AgreesWith v.shown v.denied p → AreOpen v.denied p ends → IsTally (λ n. shown_after v.shown p.numbers n || is_end_of ends n) d w c
       → FirstFreeBelow (denied_after v.denied p) f → ((n : ℕ) → is_within e n ≡ (is_within v.estimate n && is_within p.estimate n)) → Tells b s p
   joins_then w f c e is agrees open_ends tally free estimate =
-      let at = ends_then s v p d ends view is_demand are_ends in
+      let at = are_ends (is_demand ∙ ap (λ s. join s.demand p.demand) view) ∙ ap (λ s. ends_after s p) (sym view) in
       let l : LooksAfter v p d w f c e = record {
         demanded = is_demand;
         tally = subst (λ o. IsTally (λ n. shown_after v.shown p.numbers n || is_end_of o n) d w c) at tally;
@@ -173,10 +149,7 @@ module _ (s v : Summary) (p : Said) (b : Bool) (d : Demand) (ends : Option Ends)
       grind (arith, settles)
 
   pub joins_else : b ≡ false → (AgreesWith v.shown v.denied p → AreOpen v.denied p ends → ⊥) → Tells b s p
-  joins_else is not_open =
-      let not_open_after : AgreesWith v.shown v.denied p → AreOpen v.denied p (ends_after v p) → ⊥ =
-      λ agree opened. not_open agree (subst (AreOpen v.denied p) (sym (ends_then s v p d ends view is_demand are_ends)) opened) in
-      grind (arith, true≢false, agrees_then, open_then)
+  joins_else is not_open = grind (arith, true≢false, agrees_then, free_then, or_right)
 
 -- what is kept with the part is kept of all with the asks
 pub added : (s v : Summary) (p : Said) (t : Summary) → v ≡ s → ((n : ℕ) → has t.shown n ≡ shown_after v.shown p.numbers n) → (IsStrictlySortedBy nat_cmp v.shown → IsStrictlySortedBy nat_cmp t.shown)
@@ -184,7 +157,7 @@ pub added : (s v : Summary) (p : Said) (t : Summary) → v ≡ s → ((n : ℕ) 
     → ((n : ℕ) → is_within t.estimate n ≡ (is_within v.estimate n && is_within p.estimate n))
     → t.ends ≡ join_ends v.ends p.ends
     → t.demand ≡ join v.demand p.demand → (asks more : List Ask) → IsSummary s asks → Says p more → IsSummary t (asks ++ more)
-added s v p t view shown up denied estimate ends demand = grind (arith, shown_grows, denied_grows, estimate_grows, ends_grow, demand_grows)
+added s v p t view shown up denied estimate ends demand = grind (arith, shown_grows, denied_grows, demand_grows, ends_append, list_all-append)
 
 -- where nothing is asked, all stands together
 pub none_stand : AsksStand []

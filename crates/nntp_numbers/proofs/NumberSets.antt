@@ -1,9 +1,9 @@
 -- Numbers that are kept as their ends and those between them.
 use Rattle.std.proofs.Common.{◌≡◌, ◌≢◌, ℕ, ◌<◌, ◌≤◌, Bool, true, false, cond, ◌&&◌, ◌||◌, ◌==◌, List, [], ◌∷◌, ◌++◌, Option, None, Some, length, inl, refl, sym}
-use Rattle.std.proofs.{Common.{ap, subst, ◌∙◌, arith}, lemmas.Bool.{or_right, or_cases, cases_eq, lt-ltb, le-ltb, eq-eqb, eqb-true, Decides.{nat_tests}}}
+use Rattle.std.proofs.{Common.{ap, subst, ◌∙◌, arith}, lemmas.Bool.{or_right, cases_eq, lt-ltb, le-ltb, eq-eqb, Decides.{nat_tests}}}
 use Rattle.std.{proofs.lemmas.{List.Folds.{list_any-append}, Map.Keys.{le_from_not_gt}}, specs.{BTreeMap.{is_at}, Borrow.{Bor}, Cmp.{nat_cmp_total}}}
 use Rattle.std.specs.{Cmp.{eq_by_cmp_equiv}, List.Sorted.{IsStrictlySortedBy}, Option.{option_to_list, option_copied, IfSome}, Ordering.{nat_cmp, is_gt}}
-use Rattle.std.specs.{Prelude.{nat_lt, nat_le, IsTrue, ◌⊎◌, ◌↔◌, unwrap_or, is_some}, declared.cmp.Ordering.TheVariants.{Less}}
+use Rattle.std.specs.{Prelude.{nat_lt, nat_le, IsTrue, ◌↔◌, unwrap_or, is_some}, declared.cmp.Ordering.TheVariants.{Less}}
 use Rattle.nntp_theory.proofs.Members.{In, any_in, all_from, all_both}
 use Rattle.nntp_numbers.specs.Inner.{NumberSets.{numbers_in, AreWithin, AreBetween, brought_between}, Part.{join_ends}, Summary.{has, PassSoMany}}
 use Rattle.nntp_numbers.specs.declared.{ends.Ends.{Ends}, shown.HowMany.TheVariants.{Single, Several}}
@@ -29,13 +29,10 @@ ascend_both : (xs ys : List ℕ) → IsStrictlySortedBy nat_cmp xs → IsStrictl
     → IsStrictlySortedBy nat_cmp (xs ++ ys)
 unfolding IsStrictlySortedBy
 ascend_both [] ys up more below = more
-ascend_both (x ∷ xs) ys up more below = (
-  all_both (λ y. nat_cmp x y ≡ Less) xs ys up.0 (all_from (λ y. nat_cmp x y ≡ Less) ys less),
-  ascend_both xs ys up.1 more (λ n m a b. below n m (or_right (is_at (nat_cmp n) x) (has xs n) a) b),
-)
-  where
-    less : (y : ℕ) → In y ys → nat_cmp x y ≡ Less
-    less y i = grind (arith, below x y (one_has (x ∷ xs) x (inl refl)) (one_has ys y i), nat_tests)
+ascend_both (x ∷ xs) ys up more below =
+    let less : (y : ℕ) → In y ys → nat_cmp x y ≡ Less = λ y i. grind (arith, below x y (one_has (x ∷ xs) x (inl refl)) (one_has ys y i), nat_tests) in
+    let rest = ascend_both xs ys up.1 more (λ n m a b. below n m (or_right (is_at (nat_cmp n) x) (has xs n) a) b) in
+    (all_both (λ y. nat_cmp x y ≡ Less) xs ys up.0 (all_from (λ y. nat_cmp x y ≡ Less) ys less), rest)
 
 -- ---- a set
 
@@ -47,10 +44,7 @@ pub record Keeps (e : Ends) (ks ns : List ℕ) : Type 0 where
 
 -- as a method finds it
 pub opened : (o : Option Ends) (ks ns : List ℕ) (e : Ends) → AreBetween o ks → numbers_in o ks ≡ ns → o ≡ Some e → Keeps e ks ns
-opened o ks ns e are view is =
-    let w : AreWithin (Some e) ks = subst (λ o. AreWithin o ks) is are.within in
-    subst (Keeps e ks) (ap (λ o. numbers_in o ks) (sym is) ∙ view)
-    (record { order = w.0; within = w.1; same = λ n. grind (arith, at_is, list_any-append, nat_tests) })
+opened o ks ns e are view is = grind (arith, at_is, list_any-append, nat_tests)
 
 -- its numbers ascend
 ascend : (ends : Option Ends) (ks : List ℕ) → AreBetween ends ks → IsStrictlySortedBy nat_cmp (numbers_in ends ks)
@@ -86,18 +80,13 @@ with_one o n = join_ends o (Some (record { low = n; high = n }))
 
 module _ (ks : List ℕ) (n : ℕ) (after : List ℕ) where
   within : (o : Option Ends) → AreWithin o ks → (k : Option ℕ) → brought_between o n ≡ k → Bring k ks after → AreWithin (with_one o n) after
-  within None are None t same = grind (arith, are)
-  within None are (Some k) t more = cc
-  within (Some e) are None t same = grind (arith, are.1)
-  within (Some e) are (Some k) t more = (omega (arith, are.0), λ m h. grind (arith, are.1 m, t, more m, at_is, nat_tests))
+  within o are k t more = grind (arith, at_is, nat_tests)
 
   -- it is found too
   found : (o : Option Ends) → AreWithin o ks → (k : Option ℕ) → brought_between o n ≡ k → Bring k ks after → (m : ℕ)
       → has (numbers_in (with_one o n) after) m ≡ (has (numbers_in o ks) m || n == m)
-  found None are None t same m = grind (arith, are, at_is, nat_tests)
-  found None are (Some k) t more m = cc
-  found (Some e) are None t same m = grind (arith, are, t, at_is, list_any-append, nat_tests)
-  found (Some e) are (Some k) t more m = grind (arith, are, t, more m, at_is, list_any-append, nat_tests)
+  found (Some e) are k t same m = grind (arith, are, t, at_is, list_any-append, nat_tests)
+  found o are k t more m = grind (arith, are, at_is, list_any-append, nat_tests)
 
 module _ (o : Option Ends) (ks ns : List ℕ) (n : ℕ) (are : AreBetween o ks) (after : List ℕ) (k : Option ℕ) (brought : k ≡ brought_between o n) (bring : Bring k ks after)
     (ends : Option Ends) (joined : ends ≡ with_one o n) where
@@ -105,8 +94,7 @@ module _ (o : Option Ends) (ks ns : List ℕ) (n : ℕ) (are : AreBetween o ks) 
   grown view m = ap (λ o. has (numbers_in o after) m) joined ∙ found ks n after o are.within k (sym brought) bring m ∙ ap (λ l. has l m || n == m) view
 
   pub grown_ascend : IsStrictlySortedBy nat_cmp after → IsStrictlySortedBy nat_cmp (numbers_in ends after)
-  grown_ascend up =
-      ascend ends after (record { ascend = up; within = subst (λ o. AreWithin o after) (sym joined) (within ks n after o are.within k (sym brought) bring) })
+  grown_ascend up = grind (arith, ascend, within)
 
 -- ---- how many there are
 
@@ -117,12 +105,8 @@ module _ (e : Ends) (ks ns : List ℕ) (is : Keeps e ks ns) where
   high_in : has ns e.high ≡ true
   high_in = grind (arith, is.same e.high, eq-eqb)
 
-  -- each is from one end to the other, and is an end or between them
-  placed : (n : ℕ) → has ns n ≡ true → (n ≡ e.low) ⊎ ((has ks n ≡ true) ⊎ (n ≡ e.high))
-  placed n t = grind (arith, is.same n, or_cases, eqb-true)
-
   bounded : (n : ℕ) → has ns n ≡ true → (e.low ≤ n) × (n ≤ e.high)
-  bounded n t = grind (arith, placed n t, is.within n, is.order)
+  bounded n t = grind (arith, is.within n, is.order)
 
   -- none is outside the marks exactly if the high end isn't, where the low end isn't below them
   pub outside_none : (low high : ℕ) → low ≤ e.low → IsTrue (nat_le e.high high) ↔ ((n : ℕ) → has ns n ≡ true → (nat_lt n low || nat_lt high n) ≡ false)
@@ -142,19 +126,9 @@ module _ (e : Ends) (ks ns : List ℕ) (is : Keeps e ks ns) where
     pub next : (n : ℕ) → has ns n ≡ true → n ≢ e.low → s ≤ n
     pub apart : e.low < e.high → e.low < s
 
-  -- it is the least one between the ends, or the high end
-  least_between : (first : Option (Bor ℕ)) → (0 < length ks → IsTrue (is_some first)) → IfSome first (λ s. has ks s.now ≡ true)
-      → IfSome first (λ s. (n : ℕ) → has ks n ≡ true → is_gt (nat_cmp s.now n) ≡ false) → IsSecond (unwrap_or (option_copied first) e.high)
-  least_between (Some s) some here least = record {
-    there = grind (arith, is.same s.now);
-    next = λ n t other. grind (arith, placed n t, le_from_not_gt s.now n, least n, is.within s.now here);
-    apart = λ _. (is.within s.now here).0;
-  }
-  least_between None some here least = record { there = high_in; next = λ n t other. grind (arith, placed n t, there_is); apart = λ l. l }
-
   pub second_is : (s : ℕ) (copied : Option ℕ) (first : Option (Bor ℕ)) → s ≡ unwrap_or copied e.high → copied ≡ option_copied first → (0 < length ks → IsTrue (is_some first))
       → IfSome first (λ s. has ks s.now ≡ true) → IfSome first (λ s. (n : ℕ) → has ks n ≡ true → is_gt (nat_cmp s.now n) ≡ false) → IsSecond s
-  second_is s copied first is_so same some here least = subst IsSecond (sym (is_so ∙ ap (λ o. unwrap_or o e.high) same)) (least_between first some here least)
+  second_is s copied first is_so same some here least = subst IsSecond (sym (is_so ∙ ap (λ o. unwrap_or o e.high) same)) (grind (arith, le_from_not_gt, high_in, there_is))
 
   module _ (s : ℕ) (second : IsSecond s) (k : ℕ) (below : e.low < k) where
     pub several_below : e.low < s → s < k → PassSoMany (λ n. has ns n && nat_lt n k) Several
@@ -169,8 +143,8 @@ module _ (e : Ends) (ks ns : List ℕ) (is : Keeps e ks ns) where
 pub listed_one : (o : Option Ends) (ks ns : List ℕ) (e : Ends) → AreBetween o ks → numbers_in o ks ≡ ns → o ≡ Some e → e.high ≤ e.low → ns ≡ e.low ∷ []
 listed_one o ks ns e are view is g =
     let kept = opened o ks ns e are view is in
-    let none = none_found ks (λ n t. let w = kept.within n t in absurd (omega arith)) in
-    sym view ∙ ap (λ o. numbers_in o ks) is ∙ (λ i. e.low ∷ (none i ++ option_to_list (cond (le-ltb e.low e.high g i) (Some e.high) None)))
+    let none = none_found ks (λ n t. grind (arith, kept.within n)) in
+    grind (arith, none, le-ltb e.low e.high g)
   where
     none_found : (ks : List ℕ) → ((n : ℕ) → has ks n ≡ true → ⊥) → ks ≡ []
     none_found [] none = refl

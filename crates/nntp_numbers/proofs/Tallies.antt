@@ -33,9 +33,6 @@ tally_there p m d w c there t = same_tally p (λ n. p n || m == n) (λ n. grind 
 pub or_assoc : (a b c : Bool) → ((a || b) || c) ≡ (a || (b || c))
 or_assoc a b c = grind arith
 
-pub or_none : (a : Bool) → a ≡ (a || false)
-or_none a = grind arith
-
 -- the numbers up to the one at i
 one_more_listed : (xs : List ℕ) (i : ℕ) → i < length xs → (n : ℕ) → (is_one_of (take i xs) n || get_or xs i 0 == n) ≡ is_one_of (take (i + 1) xs) n
 one_more_listed xs i l n = grind (arith, list_any_more (λ m. n == m) xs i 0 l, nat_tests)
@@ -49,7 +46,7 @@ shown_next before now after xs i l is more n = grind (arith, or_assoc, one_more_
 module _ (ns : List ℕ) (d : Demand) where
   -- before the first number of a list
   pub tally_start : (w : HowMany) → IsStrictlySortedBy nat_cmp ns → PassSoMany (λ n. has ns n && wants d n) w → IsTally (λ n. has ns n || is_one_of [] n) d w (length ns)
-  tally_start w up found = same_tally (has ns) _ (λ n. or_none (has ns n)) d w (length ns) (record { found = found; count = (map_of ns, in_map_of ns, len_map_of ns up) })
+  tally_start w up found = same_tally (has ns) _ (λ n. grind arith) d w (length ns) (record { found = found; count = (map_of ns, in_map_of ns, len_map_of ns up) })
 
   -- behind the number at i
   pub tally_step : (xs : List ℕ) (i : ℕ) (w : HowMany) (c : ℕ) → i < length xs

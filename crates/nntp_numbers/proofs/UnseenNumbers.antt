@@ -1,8 +1,7 @@
 -- The numbers that are given and aren't shown, by what is kept of the group.
 use Rattle.std.proofs.Common.{◌≡◌, ℕ, zero, suc, ◌+◌, ◌^◌, ◌<◌, ◌≤◌, Bool, true, false, not, cond, ◌&&◌, ◌||◌, ◌==◌, IsTrue, List, length, Option, None, Some}
-use Rattle.std.proofs.{Common.{inl, inr, refl, sym, ap, subst, ◌∙◌, arith, []}, lemmas.Bool.{true≢false, and_from, and_parts, or_right, or_cases, eq-eqb}}
-use Rattle.std.{proofs.lemmas.Bool.{eqb-true, false_from_ne_true, Decides.{nat_tests}}, specs.{List.{list_any}, Option.{IfSome}, Prelude.{MatchOption}}}
-use Rattle.std.specs.Prelude.{IsFalse}
+use Rattle.std.proofs.{Common.{inl, refl, sym, ◌∙◌, arith, []}, lemmas.Bool.{true≢false, and_from, and_parts, or_right, or_cases, eq-eqb, eqb-true}}
+use Rattle.std.{proofs.lemmas.Bool.{false_from_ne_true, Decides.{nat_tests}}, specs.{List.{list_any}, Option.{IfSome}, Prelude.{MatchOption, IsFalse}}}
 use Rattle.nntp_intervals.specs.Inner.Intervals.{holds, IsLeastFree, IsFullFrom}
 use Rattle.nntp_numbers.proofs.{HullOfMarks.{is_known_by, end_if, some_is, stands_by_hull, between_ends, ends_known}, MoreAsks.{one_found, found_some}}
 use Rattle.nntp_numbers.{proofs.{MoreAsks.{free_of_all}, NumberSets.{one_has}}, specs.Inner.{Part.{ends_of, is_end_of}, Summary.{Summary, IsSummary}}}
@@ -30,16 +29,11 @@ all_small = refl
 
 -- what is found is the first below 2^64, if there is one
 pub first_free : (denied : ℕ → Bool) → FirstFreeBelow denied (free denied all_numbers 1)
-first_free denied = by (free denied all_numbers 1) refl
-  where
-    by : (o : Option ℕ) → free denied all_numbers 1 ≡ o → FirstFreeBelow denied o
-    by None e = λ n one small. free_none denied all_numbers 1 e n one (subst (λ k. n < k) (sym all_small) small)
-    by (Some f) e = (subst (λ k. f < k) all_small (free_within denied all_numbers 1 f e), free_is denied all_numbers 1 f e)
+first_free denied = grind (arith, free_none denied all_numbers 1, all_small, free_within denied all_numbers 1, free_is denied all_numbers 1)
 
 -- which is one
 one_first : (denied : ℕ → Bool) (a b : Option ℕ) → FirstFreeBelow denied a → FirstFreeBelow denied b → a ≡ b
-one_first denied (Some a) (Some b) x y = ap Some (first_free_once denied 1 a b x.1 y.1)
-one_first denied a b x y = grind arith
+one_first denied a b x y = grind (arith, first_free_once)
 
 -- ---- what the demand wants of the numbers that are shown
 
@@ -63,16 +57,7 @@ module _ (s v : Summary) (view : v ≡ s) (w : HowMany) (found : PassSoMany (λ 
   pub first_wanted : w ≡ Absent → (o : Option ℕ) → MatchOption o (IsFullFrom v.denied 1) (IsLeastFree v.denied 1)
       → (first : Option ℕ) → o ≡ first → IfSome first (λ n. n < 2 ^ 64) → if_wanted v.demand first ≡ one_more_in s
   first_wanted none o least first is small =
-      ap (if_wanted v.demand) (one_first (holds v.denied) first _ (by first is small) (first_free (holds v.denied)))
-      ∙ ap (λ b. cond b None (if_wanted v.demand (free (holds v.denied) all_numbers 1))) (sym unwanted)
-      ∙ ap one_more_in view
-    where
-      unwanted : list_any (wants v.demand) v.shown ≡ false
-      unwanted = grind (arith, found, none, false_from_ne_true, found_in, true≢false, and_from, one_has)
-
-      by : (first : Option ℕ) → o ≡ first → IfSome first (λ n. n < 2 ^ 64) → FirstFreeBelow (holds v.denied) first
-      by None is small = subst (λ o. MatchOption o (IsFullFrom v.denied 1) (IsLeastFree v.denied 1)) is least
-      by (Some n) is small = (small, subst (λ o. MatchOption o (IsFullFrom v.denied 1) (IsLeastFree v.denied 1)) is least)
+      grind (arith, one_first (holds v.denied) first, first_free (holds v.denied), found, none, false_from_ne_true, found_in, true≢false, and_from, one_has)
 
 -- ---- what is read off
 
@@ -98,16 +83,12 @@ module _ (s : Summary) (asks : List Ask) (sum : IsSummary s asks) (bounded : Are
 
   -- none is known that is wanted, where what is known is shown, and none that is shown is wanted
   shown_unwanted : ((n : ℕ) → is_known asks n ≡ is_shown asks n) → list_any (wants s.demand) s.shown ≡ false → (n : ℕ) → IsTrue (is_known asks n) → IsFalse (wants (demand asks) n)
-  shown_unwanted same none n k =
-      false_from_ne_true _ (λ w. true≢false (sym (any_in (wants s.demand) n s.shown (has_one s.shown n (sum.shown n ∙ sym (same n) ∙ k)) (ap (λ d. wants d n) sum.demand ∙ w)) ∙ none))
+  shown_unwanted same none n k = grind (arith, false_from_ne_true, true≢false, any_in (wants s.demand) n s.shown, has_one s.shown n, sum.shown n, same n, sum.demand)
 
   -- whether it is said that there is a number
   some_kept : (not (length s.shown == 0) || is_demanding s.demand) ≡ list_any says_some asks
   some_kept =
-      some_is asks (not (length s.shown == 0) || is_demanding s.demand)
-      (grind (arith, one_found s.shown []))
-      (λ n t. grind (arith, found_some s.shown [] n, sum.shown n))
-      (λ d. or_right (not (length s.shown == 0)) (is_demanding s.demand) (ap is_demanding sum.demand ∙ d))
+      grind (arith, some_is asks (not (length s.shown == 0) || is_demanding s.demand), one_found s.shown [], found_some s.shown [], sum.shown, or_right)
 
   -- the strict marks that are kept, where there is a number
   pub ends_kept : (e : Ends) → known_ends_in s ≡ Some e → (list_any says_some asks ≡ true) × (ends_of asks ≡ Some e)
@@ -118,21 +99,9 @@ module _ (s : Summary) (asks : List Ask) (sum : IsSummary s asks) (bounded : Are
   hull_is n = grind (arith, end_if, some_kept)
 
   module _ (stand : AsksStand asks) where
-    -- so is what is known
-    known_is : (n : ℕ) → is_known asks n ≡ (is_shown asks n || is_end_of (known_ends_in s) n)
-    known_is n = stands_by_hull asks stand n ∙ hull_is n
-
-    -- ---- without strict marks
-
-    by_more : ((n : ℕ) → is_known asks n ≡ is_shown asks n) → (o : Option ℕ) → MatchOption o ((n : ℕ) → IsOneMore asks n → ⊥) (IsOneMore asks) → AreUnseen asks o None
-    by_more same o none = grind arith
-
     -- ---- with strict marks
 
     module _ (e : Ends) (is : known_ends_in s ≡ Some e) where
-      known_by_ends : (n : ℕ) → is_known asks n ≡ (is_shown asks n || (e.low == n || e.high == n))
-      known_by_ends n = known_is n ∙ ap (λ o. is_shown asks n || is_end_of o n) is
-
       are_known : IsTrue (is_known asks e.low) × IsTrue (is_known asks e.high)
       are_known = let kept = ends_kept e is in ends_known asks e kept.1 kept.0
 
@@ -142,15 +111,12 @@ module _ (s : Summary) (asks : List Ask) (sum : IsSummary s asks) (bounded : Are
 
       -- so each given number is known, and between them
       of_given : (n : ℕ) → IsGivenNumber asks n → IsTrue (is_known asks n) × (e.low ≤ n) × (n ≤ e.high)
-      of_given n g = let b = inside n (stand.not_denied n g) in (elim g [ inl k ↦ k | inr x ↦ absurd (no_more x) ], b.0, b.1)
-        where
-          no_more : IsOneMore asks n → ⊥
-          no_more x = true≢false (sym (wants_less (demand asks) n e.low (inside n x.first.1).0 x.wanted) ∙ x.needed e.low are_known.0)
+      of_given n g = grind (arith, inside n, stand.not_denied n, wants_less (demand asks) n e.low, are_known)
 
       -- the low one, where it isn't shown; and the high one, where it isn't shown, and isn't the low one
       by_ends : (a : Bool) → is_shown asks e.low ≡ a → (b : Bool) → (e.high == e.low) ≡ b → (c : Bool) → is_shown asks e.high ≡ c
           → AreUnseen asks (cond a None (Some e.low)) (cond b None (cond c None (Some e.high)))
-      by_ends a at b bt c ct = grind (arith, or_cases, known_by_ends, of_given, eqb-true, shown_known, are_known, true≢false, eq-eqb)
+      by_ends a at b bt c ct = grind (arith, or_cases, of_given, eqb-true, shown_known, are_known, true≢false, eq-eqb, stands_by_hull, hull_is)
 
     -- what is read off is what is given beside what is shown
     pub are_unseen : AreUnseen asks (unseen_in s) (unseen_high_in s)
@@ -158,6 +124,6 @@ module _ (s : Summary) (asks : List Ask) (sum : IsSummary s asks) (bounded : Are
       where
         by : (o : Option Ends) → known_ends_in s ≡ o → AreUnseen asks (unseen_beside o s) (unseen_high_beside o s.shown)
         by None is =
-            let same : (n : ℕ) → is_known asks n ≡ is_shown asks n = λ n. grind (arith, known_is n) in
-            by_more same (one_more_in s) (one_more_is (shown_unwanted same))
+            let same : (n : ℕ) → is_known asks n ≡ is_shown asks n = λ n. grind (arith, stands_by_hull asks stand n, hull_is n) in
+            grind (arith, one_more_is (shown_unwanted same))
         by (Some e) is = by_ends e is (has s.shown e.low) (sym (sum.shown e.low)) (e.high == e.low) refl (has s.shown e.high) (sym (sum.shown e.high))

@@ -16,7 +16,7 @@ use Rattle.nntp_theory.proofs.{Session.FittingFacts.{IsFitting, answer_fitting},
 use Rattle.nntp_theory.proofs.Members.{in_back, in_cases, in_map, found_in, to_flat, from_flat, contains_in, in_contains, all_part, all_parts, part_first}
 use Rattle.nntp_theory.proofs.Together.FactsOfASpoolStand.{stand}
 use Rattle.nntp_wire.specs.{Answer.{Asked, Response}, declared.marks.Marks.{Marks, TheVariants.{Lenient}}}
-use Rattle.nntp_article.specs.Session.{Spool.{Spool, IsSpool, IsGroup, IsNumber, numbers, Name}, Machine.{Visible, visible_after, start, fits}}
+use Rattle.nntp_article.specs.Session.{Spool.{Spool, IsSpool, IsGroup, numbers, Name}, Machine.{Visible, visible_after, start, fits}}
 use Rattle.nntp_article.specs.{Article.Fields.{words_in}, declared.session.profile.Profile.{Profile}}
 
 -- ---- what answers say, where each fits
@@ -50,16 +50,12 @@ pub record AreTold (profile : Profile) (facts : List Fact) : Type 0 where
 -- what each such answer's facts have, they have
 pub each_told : (profile : Profile) (facts : List Fact) (P : Fact → Type 0) → AreTold profile facts
     → ((a : Placed) → FitsThere profile a → AllByRecursion (Among facts) (told profile a) → AllByRecursion P (told profile a)) → AllByRecursion P facts
-each_told profile facts P t h =
-    all_from P facts (λ fact i. let s = t.source fact i in all_at P fact (told profile s.0) (h s.0 s.1 (all_from (Among facts) (told profile s.0) s.3)) s.2)
+each_told profile facts P t h = grind (arith, all_from, all_at)
 
 -- they fit, and are placed
 pub told_fit : (profile : Profile) (facts : List Fact) → AreTold profile facts
     → AllByRecursion (IsFitting profile) facts × AllByRecursion (IsPlaced Lenient facts) facts
-told_fit profile facts t = (
-  each_told profile facts (IsFitting profile) t (λ a f i. told_fitting profile a f),
-  each_told profile facts (IsPlaced Lenient facts) t (λ a f. told_placed profile facts a),
-)
+told_fit profile facts t = search (arith, each_told, told_fitting, told_placed)
 
 -- some spool has them exactly if they stand together
 pub told_together : (profile : Profile) (facts : List Fact) → AreTold profile facts → size facts < 2 ^ 210 → SomeHas profile facts ↔ Together facts
@@ -130,8 +126,7 @@ fewer_told own at xs ys fact sub i = grind (arith, in_cases fact own (flat_map a
 module _ (profile : Profile) (bad : Placed) (answers : List Placed) where
   -- fewer places
   pub fewer_places : (xs ys : List ℕ) → ((k : ℕ) → In k xs → In k ys) → SomeHas profile (told_with profile bad answers ys) → SomeHas profile (told_with profile bad answers xs)
-  fewer_places xs ys sub = fewer profile (told_with profile bad answers xs) (told_with profile bad answers ys)
-      (λ fact i. fewer_told (told profile bad) (told_at profile answers) xs ys fact sub i)
+  fewer_places xs ys sub = search (arith, fewer, fewer_told)
 
 -- what stands at places with the bad answer
 abbrev StandsWith : Profile → Placed → List Placed → List ℕ → Type 0
@@ -204,8 +199,7 @@ one_behind limit (suc p) one le = in_map suc p (below limit) (in_below p limit (
 -- that there is such a group says no more of a spool that has it
 pub group_holds : (profile : Profile) (S : Spool) (name : Name) → IsSpool profile.limit S → IsGroup S name → AllByRecursion (Holds S) (a_group profile name)
 group_holds profile S name spool group =
-    let in_limit : (n : ℕ) → IsNumber (numbers S name) n → (1 ≤ n) × (n ≤ profile.limit) = λ n i. spool.numbers_in_limit name n i in
-    let few = keys_among nat_cmp_total (numbers S name) (map suc (below profile.limit)) (λ q i. let l = in_limit q i in one_behind profile.limit q l.0 l.1) in
+    let few = keys_among nat_cmp_total (numbers S name) (map suc (below profile.limit)) (λ q i. grind (arith, spool.numbers_in_limit name q i, one_behind)) in
     grind (arith, len-entries, length-below)
 
 -- that there is the group of which facts speak says no more of a spool that has them

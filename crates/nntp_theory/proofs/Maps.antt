@@ -27,8 +27,7 @@ module _ {K X : Type 0} {R : K → K → Ordering} (o : IsTotalOrder R) where
 
   -- a map whose keys stand in a list has no more keys than the list
   pub keys_among : (m : FinMap R X) (xs : List K) → ((q : K) → IsSome (get m q) → In q xs) → length (entries m) ≤ length xs
-  keys_among m xs among =
-      grind (arith, length-le_from_is_member (eq_by_cmp_equiv o) (keys m) xs (distinct_keys m), eq_by_cmp_equiv o, any_in, contains_key-keys m, length-map)
+  keys_among m xs among = grind (arith, length-le_from_is_member (eq_by_cmp_equiv o) (keys m) xs (distinct_keys m), any_in, contains_key-keys m, length-map)
 
   -- and no more than a map that has them all
   pub len_le : {Y : Type 0} (m : FinMap R X) (n : FinMap R Y) → ((q : K) → IsSome (get m q) → IsSome (get n q)) → len m ≤ len n

@@ -13,7 +13,7 @@ use Rattle.std.proofs.Common.{◌≡◌, ℕ, ◌+◌, ◌<◌, ◌^◌, ◌⊎�
 use Rattle.std.{proofs.{Common.{arith, Bool}, lemmas.Bool.{true≢false, cases_Bool, cases_eq, eqb-true, false_from_ne_true, cases_lt}}, specs.Prelude.{IsFalse}}
 use Rattle.std.specs.{Prelude.{IfSome, not}, List.{AllByRecursion, list_any, flat_map}, Cmp.Lexicographic.{same_text}}
 use Rattle.nntp_wire.specs.{declared.marks.Marks.{Marks, TheVariants.{Lenient}}, Listing.{OverviewValue, Fields}}
-use Rattle.nntp_article.specs.{Article.{Parts.{Id, Line}, Fields.{Word, words_in}}, declared.article.field.Field.{Field, TheVariants.{Subject, From, Date}}}
+use Rattle.nntp_article.specs.{Article.{Parts.{Id}, Fields.{Word, words_in}}, declared.article.field.Field.{Field, TheVariants.{Subject, From, Date}}}
 use Rattle.nntp_article.specs.{declared.{article.field.Field.TheVariants.{References}, session.profile.Profile.{Profile}}, Session.Spool.{Name, Numbers}}
 use Rattle.nntp_article.specs.Session.{Spool.{numbers}, Machine.{is_same}}
 use Rattle.nntp_said.{proofs.FiniteMapsDecided.{Dec, dec_some, dec_texts, dec_lists, dec_all}, specs.{Asks.{Ask}, Facts.{Fact, IdAt, TextIs, FieldsAre}}}
@@ -45,9 +45,6 @@ article_keys fact = []
 abbrev each_field : Id → List (Id × Field)
 each_field id = (id, Subject) ∷ (id, From) ∷ (id, Date) ∷ (id, References) ∷ []
 
-in_fields : (id : Id) (field : Field) → In (id, field) (each_field id)
-in_fields id field = grind arith
-
 -- the headers of the articles that it shows
 abbrev field_keys : Fact → List (Id × Field)
 field_keys fact = flat_map each_field (article_keys fact)
@@ -77,19 +74,13 @@ place_keyed k (OverviewsAre g r os) n e =
     subst (λ key. In key (place_keys (OverviewsAre g r os))) (λ i. (o.same_group i, o.same_id i)) (in_map (λ (o : OverviewValue). (g, o.id)) o.overview os o.there)
 place_keyed k fact n e = grind (arith, same_or_not)
 
-head_keyed : (id : Id) (fact : Fact) (lines : List Line) → head_in id fact ≡ Some lines → In id (article_keys fact)
-head_keyed id fact lines e = grind (arith, same_or_not)
-
-body_keyed : (id : Id) (fact : Fact) (lines : List Line) → body_in id fact ≡ Some lines → In id (article_keys fact)
-body_keyed id fact lines e = grind (arith, same_or_not)
-
 fields_keyed : (id : Id) (fact : Fact) (fields : Fields) → fields_in id fact ≡ Some fields → In id (article_keys fact)
 fields_keyed id (FieldsAre os) fields e = grind (arith, told_by os id fields e, in_map (λ (o : OverviewValue). o.id))
 fields_keyed id (OverviewsAre name r os) fields e = grind (arith, told_by os id fields e, in_map (λ (o : OverviewValue). o.id))
 fields_keyed id fact fields e = grind (arith, same_or_not)
 
 words_keyed : (k : Id × Field) (fact : Fact) (words : List Word) → words_told k.0 k.1 fact ≡ Some words → In k (field_keys fact)
-words_keyed k fact words e = grind (arith, to_flat each_field k.0 k (article_keys fact), fields_keyed k.0 fact, in_fields k.0 k.1)
+words_keyed k fact words e = grind (arith, to_flat each_field k.0 k (article_keys fact), fields_keyed k.0 fact)
 
 article_keyed : (id : Id) (fact : Fact) → shows_article id fact ≡ true → In id (article_keys fact)
 article_keyed id fact t = grind (arith, same_or_not, found_in, in_map (λ (o : OverviewValue). o.id))
@@ -152,15 +143,11 @@ module _ (facts : List Fact) where
 
   module _ (how : Marks) (placed : AllByRecursion (IsPlaced how facts) facts)
       (given : (name : Name) → IsTrue (is_shown_group facts name) → (N : Numbers) × HasGivenNumbers (asks_of name facts) N) where
-    -- nothing is asked of the numbers of one that isn't
-    none_asked : (name : Name) → is_shown_group facts name ≡ false → asks_of name facts ≡ []
-    none_asked name hidden = grind (arith, flat_none, all_at, false_from_ne_true, true≢false, any_in)
-
     -- of what is asked of a group the one is so, or of each the other is
     each_asked : (C : Type 0) (P : List Ask → Type 0) → P [] → ((name : Name) → IsTrue (is_shown_group facts name) → C ⊎ P (asks_of name facts)) → C ⊎ ((name : Name) → P (asks_of name facts))
     each_asked C P nothing test = or_next (each_group C (λ name. P (asks_of name facts)) test) (λ all. inr (λ name. elim (cases_Bool (is_shown_group facts name)) [
       | inl t ↦ all name t
-      | inr f ↦ subst P (sym (none_asked name f)) nothing
+      | inr f ↦ subst P (sym (grind (arith, flat_none, all_at, false_from_ne_true, true≢false, any_in))) nothing
     ]))
 
     -- ---- the kinds, in their order
@@ -204,10 +191,10 @@ module _ (facts : List Fact) where
         [ inl h ↦ inl (Article id, refl, h) | inr free ↦ inr free ])
 
     heads : AtRank 8 ⊎ ((id : Id) → GiveOne (head_in id) facts)
-    heads = each_given article_keys head_in dec_lists head_keyed (AtRank 8) (λ id c. (HeadOf id, refl, c))
+    heads = each_given article_keys head_in dec_lists (λ id fact lines e. grind (arith, same_or_not)) (AtRank 8) (λ id c. (HeadOf id, refl, c))
 
     bodies : AtRank 9 ⊎ ((id : Id) → GiveOne (body_in id) facts)
-    bodies = each_given article_keys body_in dec_lists body_keyed (AtRank 9) (λ id c. (BodyOf id, refl, c))
+    bodies = each_given article_keys body_in dec_lists (λ id fact lines e. grind (arith, same_or_not)) (AtRank 9) (λ id c. (BodyOf id, refl, c))
 
     fields : AtRank 10 ⊎ ((k : Id × Field) → GiveOne (words_told k.0 k.1) facts)
     fields = each_given field_keys (λ k. words_told k.0 k.1) dec_lists words_keyed (AtRank 10) (λ k c. (FieldOf k.0 k.1, refl, c))

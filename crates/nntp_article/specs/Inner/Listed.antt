@@ -1,8 +1,8 @@
 -- What an answer lists, and what the values of src/session/listed.rt mean.
 use Rattle.std.specs.Prelude.{ℕ, List, [], map}
 use Rattle.nntp_wire.specs.{Answer.{Response}, Listing.{ActiveValue, OverviewValue}, Inner.View.{active_value}}
-use Rattle.nntp_article.specs.{Session.Machine.{overview_numbers}, Inner.Misfit.{numbers_of, groups_of, overviews_in}, declared.session.listed.Listed.{Listed, TheVariants.{Nothing, Numbers}}}
-use Rattle.nntp_article.specs.declared.session.listed.Listed.TheVariants.{Groups, Overviews}
+use Rattle.nntp_article.specs.{Session.Machine.{overview_numbers}, Inner.Misfit.{numbers_of, groups_of, overviews_in}, declared.session.listed.Listed.{Listed}}
+use Rattle.nntp_article.specs.declared.session.listed.Listed.TheVariants.{Nothing, Numbers, Groups, Overviews}
 
 -- what may be listed: numbers, by themselves or with overviews, groups and overviews (sections 6.1.2, 7.6.3 and 8.3)
 pub record Lists : Type 0 where

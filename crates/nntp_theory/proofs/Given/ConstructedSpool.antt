@@ -129,8 +129,7 @@ module _ (limit : ℕ) (B : ℕ) (facts : List Fact) where
   -- each group was made from some number on
   group_is : (name : Name) (N : Numbers) (k : ℕ) (gs : List Name) → In (name, N) (groups_from k gs) → (j : ℕ) × (N ≡ group_from name j)
   group_is name N k [] i = absurd i
-  group_is name N k (g ∷ gs) (inl e) = (k, sym (ap (λ e. e.1) e) ∙ ap (λ g. group_from g k) (ap (λ e. e.0) e))
-  group_is name N k (g ∷ gs) (inr i) = group_is name N (after_ids g k (keys (number_map g))) gs i
+  group_is name N k (g ∷ gs) i = grind (arith, group_is name N (after_ids g k (keys (number_map g))) gs)
 
   -- the numbers of a group are those that were made for it
   made_numbers : (name : Name) → IsGroup made name → (k : ℕ) × (numbers made name ≡ group_from name k)
@@ -161,12 +160,9 @@ module _ (limit : ℕ) (B : ℕ) (facts : List Fact) where
   -- ids that are shown stand at their numbers
   pub made_ids_shown : (name : Name) (n : ℕ) (id : Id) → IsNumber (numbers made name) n → id_shown facts name n ≡ Some id → get (numbers made name) n ≡ Some id
   made_ids_shown name n id i e =
-      let group = group_of_number made name n i in
-      let g = made_numbers name (ap is_some group.1) in
-      let listed = subst (In n) (keys_group name g.0)
-      (key_of nat_cmp_total nat_cmp-IsAntisymmetric (group_from name g.0) n (subst (λ N. IsNumber N n) g.1 i)) in
-      subst (λ N. get N n ≡ Some id) (sym g.1)
-      (in_get nat_cmp_total nat_cmp-IsAntisymmetric (group_from name g.0) n id (subst (In (n, id)) (sym (entries_group name g.0)) (shown_there name n id g.0 (keys (number_map name)) listed e)))
+      let g = made_numbers name (grind (arith, group_of_number made name n i)) in
+      let there = key_of nat_cmp_total nat_cmp-IsAntisymmetric (group_from name g.0) n in
+      grind (arith, g, there, keys_group name g.0, entries_group name g.0, shown_there name n id g.0, in_get nat_cmp_total nat_cmp-IsAntisymmetric (group_from name g.0) n id)
 
   -- ---- articles
 
@@ -277,8 +273,7 @@ module _ (limit : ℕ) (B : ℕ) (facts : List Fact) where
     -- the ids are invented in turn
     made_invented : length (mentioned facts) + length (unshown_ids facts made) < B → AreInvented facts 0 (unshown_ids facts made)
     unfolding made
-    made_invented few =
-        subst (λ gs. Goes 0 (unshown gs)) (sym entries_groups) (groups_invented (keys name_map) 0) [] (λ i l. absurd (omega arith)) (omega (arith, few))
+    made_invented few = grind (arith, entries_groups, groups_invented (keys name_map) 0)
 
     -- what is made is the given spool, where each group has a free number within the limit
     pub made_is_given : ((name : Name) → IsTrue (is_shown_group facts name) → (e : ℕ) → IsOneMore (asks_of name facts) e

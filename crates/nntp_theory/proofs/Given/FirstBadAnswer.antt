@@ -1,10 +1,8 @@
 -- Some spool permits a session, or exactly one answer is the first that none does.
 use Rattle.nntp_wire.specs.{declared.marks.Marks.{Marks}, Answer.{Asked, Response}}
-use Rattle.std.proofs.Common.{◌≡◌, ℕ, zero, suc, ◌+◌, ◌<◌, ◌≤◌, ◌^◌, ◌⊎◌, List, [], ◌∷◌, ◌++◌, length, take, Option, None, inl, inr, sym, ap, subst, ◌∙◌, arith}
-use Rattle.std.{proofs.{Math.Seq.{take-length}, lemmas.Bool.{true≢false}}, specs.{Prelude.{unwrap_or}, Ordering.{nat_cmp}, Cmp.Lexicographic.{slice_cmp}}}
-use Rattle.std.specs.FinMap.{get, empty, get-empty}
-use Rattle.nntp_article.specs.Session.{Spool.{Spool, Numbers, IsSpool, numbers, Name}, Machine.{State, Visible, Run, start, visible_after}}
-use Rattle.nntp_article.specs.declared.session.profile.Profile.{Profile}
+use Rattle.std.proofs.Common.{◌≡◌, ℕ, zero, suc, ◌+◌, ◌<◌, ◌≤◌, ◌^◌, ◌⊎◌, List, [], ◌∷◌, ◌++◌, length, take, inl, inr, sym, subst, arith}
+use Rattle.std.{proofs.{Math.Seq.{take-length}, lemmas.Bool.{true≢false}}, specs.FinMap.{empty, get-empty}}
+use Rattle.nntp_article.specs.{Session.{Spool.{Spool}, Machine.{State, Visible, Run, start, visible_after}}, declared.session.profile.Profile.{Profile}}
 use Rattle.nntp_said.specs.{Asks.{position_after}, declared.position.Position.{Position, TheVariants.{Nowhere}}, Facts.{Fact, facts_from}}
 use Rattle.nntp_theory.specs.{Given.{facts_of_session}, Inner.{Given.{size}, Permits.{SomePermits, IsFirstUnpermitted}}}
 use Rattle.nntp_theory.proofs.Given.GivenSpoolExists.{some_or_none}
@@ -38,17 +36,9 @@ size_fewer how v at ps answers n = grind arith
 abbrev no_spool : Spool
 no_spool = record { groups = empty; articles = empty }
 
--- it has no number
-no_number : (name : Name) (n : ℕ) → get (numbers no_spool name) n ≡ None
-no_number name n = ap (λ (o : Option Numbers). get (unwrap_or o empty) n) (get-empty (slice_cmp nat_cmp) name) ∙ get-empty nat_cmp n
-
--- nothing at all is a spool
-empty_is_spool : (profile : Profile) → IsSpool profile.limit no_spool
-empty_is_spool profile = grind (arith, true≢false, get-empty, no_number)
-
 -- some spool permits no answers
 pub none_permitted : (profile : Profile) (ps : List Asked) (answers : List Response) → SomePermits profile ps (take 0 answers)
-none_permitted profile ps answers = (no_spool, empty_is_spool profile, tt)
+none_permitted profile ps answers = (no_spool, grind (arith, true≢false, get-empty), tt)
 
 -- ---- the first bad answer
 

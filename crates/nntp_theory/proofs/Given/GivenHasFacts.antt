@@ -26,8 +26,7 @@ pub given_has : (profile : Profile) (how : Marks) (G : Spool) (facts : List Fact
     → Together facts → size facts < 2 ^ 210 → IsGiven facts G → IsSpool profile.limit G × AllByRecursion (Holds G) facts
 given_has profile how G facts fitting placed together small given =
     let few = few_enough facts (length (unshown_ids facts G)) small (unshown_ids_few facts G (λ name. (given.groups name).0) given.numbers_given) in
-    let s : Setting profile (10 ^ 64) G facts =
-    search (arith, number-invented, invented_is_id) in
+    let s : Setting profile (10 ^ 64) G facts = search (arith, number-invented, invented_is_id) in
     (given_is_spool profile (10 ^ 64) G facts s, all_hold profile (10 ^ 64) G facts s)
 
 -- a spool that has facts has what they show, and as many numbers as are given

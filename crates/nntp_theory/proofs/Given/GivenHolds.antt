@@ -1,6 +1,6 @@
 -- What stands together holds of the spool that is given for it.
-use Rattle.std.proofs.Common.{◌≡◌, ℕ, ◌+◌, ◌<◌, ◌⊎◌, true, false, IsTrue, List, [], ◌∷◌, ◌++◌, map, length, Option, None, Some, is_some, inl, inr, refl, sym}
-use Rattle.std.proofs.{Common.{ap, subst, ◌∙◌, arith}, lemmas.{Bool.{true≢false, false_from_ne_true, eqb-true}, List.Elements.{All-from_recursion}}}
+use Rattle.std.proofs.Common.{◌≡◌, ℕ, ◌+◌, ◌<◌, ◌⊎◌, true, false, IsTrue, List, [], ◌∷◌, ◌++◌, map, length, Option, None, Some, inl, inr, refl, sym, ap, subst}
+use Rattle.std.proofs.{Common.{◌∙◌, arith}, lemmas.{Bool.{true≢false, false_from_ne_true, eqb-true}, List.Elements.{All-from_recursion}}}
 use Rattle.std.specs.{Prelude.{IsFalse, IfSome, IsSome, unwrap_or}, List.{AllByRecursion, list_any}, FinMap.{get, empty, entries, get-entries, get-empty}}
 use Rattle.std.specs.FinMap.{nat_cmp-IsAntisymmetric, slice_cmp-IsAntisymmetric}
 use Rattle.nntp_article.specs.{Article.{Parts.{head_part, body_part, is_empty, Id, Line}, Fields.{fields_of_head, made_head}}, Session.Spool.{Spool, Text}}
@@ -13,12 +13,12 @@ use Rattle.nntp_said.specs.{Asks.{Meets, Bounds}, Facts.{Fact, Holds, ThereIs, T
 use Rattle.nntp_theory.specs.Given.{asks_in, asks_of, shows_group, id_in, id_shown, first_given, mentions, is_mentioned, gives_article, head_in}
 use Rattle.nntp_theory.specs.{Given.{fields_of_overview, fields_in, body_in, invented, unshown_in, unshown_ids, IsGiven}, Inner.Together.{IsProperOverview}}
 use Rattle.nntp_theory.specs.{Inner.Together.{IsWellFormed, TellsOwn, AgreesWithItself, Together}, Together.{denies_group, number_in, shows_article}}
-use Rattle.nntp_theory.{specs.Together.{denies_article, GiveOne}, proofs.Members.{if_some, at_some, In, all_at, all_part, all_from, any_in, found_in, in_map}}
-use Rattle.nntp_theory.proofs.{Members.{from_map, contains_in, in_contains, first_found}, GivenNumbers.LeastNumber.{not_number}}
-use Rattle.nntp_theory.proofs.{GivenNumbers.GivenNumbersMeet.{given_meet}, Together.{ListedOverviews.{overview_at}, FactsOfASpoolStand.{same_itself}}}
-use Rattle.nntp_theory.proofs.{Together.FactsOfASpoolStand.{in_listed, matching}, Session.NumbersOfShownGroups.{IsSelectable, Placed}}
-use Rattle.nntp_theory.proofs.{Session.FittingFacts.{IsFitting}, Ids.{InventedIds.{invented_number}, NumbersOfInventedIds.{Numbered, numbered, of_numbered}}}
-use Rattle.nntp_theory.proofs.{Ids.NumbersOfInventedIds.{part_numbered, unshown_there, unshown_apart, mentioned}, Maps.{entry_in}}
+use Rattle.nntp_theory.{specs.Together.{denies_article, GiveOne}, proofs.Members.{In, all_at, all_part, all_from, any_in, found_in, in_map, from_map}}
+use Rattle.nntp_theory.proofs.{Members.{contains_in, in_contains, first_found}, GivenNumbers.{LeastNumber.{not_number}, GivenNumbersMeet.{given_meet}}}
+use Rattle.nntp_theory.proofs.Together.{ListedOverviews.{overview_at}, FactsOfASpoolStand.{same_itself, in_listed, matching}}
+use Rattle.nntp_theory.proofs.{Session.{NumbersOfShownGroups.{IsSelectable, Placed}, FittingFacts.{IsFitting}}, Ids.InventedIds.{invented_number}}
+use Rattle.nntp_theory.proofs.Ids.NumbersOfInventedIds.{Numbered, numbered, of_numbered, part_numbered, unshown_there, unshown_apart, mentioned}
+use Rattle.nntp_theory.proofs.Maps.{entry_in}
 
 -- an id at a number is one of the entries
 pub entry_of_number : (N : Numbers) (n : ℕ) (id : Id) → get N n ≡ Some id → In (n, id) (entries N)
@@ -80,21 +80,11 @@ module _ (profile : Profile) (B : ℕ) (G : Spool) (facts : List Fact) (s : Sett
 
   -- an id that isn't shown is an invented one
   pub unshown_is : (name : Name) (n : ℕ) (id : Id) → get (numbers G name) n ≡ Some id → id_shown facts name n ≡ None → (j : ℕ) × (j < B) × (id ≡ invented j) × IsFalse (is_mentioned facts id)
-  unshown_is name n id e none =
-      let g = group_of_number G name n (ap is_some e) in
-      let p = part_of name g.0 g.1 in
-      let i = entry_of_number g.0 n id (subst (λ N. get N n ≡ Some id) g.2 e) in
-      let r = of_numbered B s.small facts p.0 (unshown_in facts name (entries g.0)) id p.1 (unshown_there B s.small facts name n id (entries g.0) i none) in
-      (r.0, r.2, r.3, r.4)
+  unshown_is name n id e none = grind (arith, group_of_number, part_of, entry_of_number, of_numbered B s.small facts, unshown_there B s.small facts name n id)
 
   -- and stands at one number of a group
   pub unshown_once : (name : Name) (n m : ℕ) (id : Id) → get (numbers G name) n ≡ Some id → get (numbers G name) m ≡ Some id → id_shown facts name n ≡ None → id_shown facts name m ≡ None → n ≡ m
-  unshown_once name n m id e f none none' =
-      let g = group_of_number G name n (ap is_some e) in
-      let p = part_of name g.0 g.1 in
-      unshown_apart B s.small facts name p.0 n m id (entries g.0) p.1
-      (entry_of_number g.0 n id (subst (λ N. get N n ≡ Some id) g.2 e))
-      (entry_of_number g.0 m id (subst (λ N. get N m ≡ Some id) g.2 f)) none none'
+  unshown_once name n m id e f none none' = grind (arith, group_of_number, part_of, entry_of_number, unshown_apart B s.small facts name)
 
   -- an id at a number of G is shown, or an invented one that isn't mentioned
   pub id_cases : (name : Name) (n : ℕ) (id : Id) → get (numbers G name) n ≡ Some id
@@ -103,23 +93,7 @@ module _ (profile : Profile) (B : ℕ) (G : Spool) (facts : List Fact) (s : Sett
 
   -- an id that is shown is that of one of the facts
   pub shown_at : (name : Name) (n : ℕ) (id : Id) → id_shown facts name n ≡ Some id → ShownAt facts name n id
-  shown_at name n id e = let f = first_found (id_in name n) facts id e in by f.0 f.1 f.2
-    where
-      by : (fact : Fact) → In fact facts → id_in name n fact ≡ Some id → ShownAt facts name n id
-      by (OverviewsAre g r os) i e =
-          let o = overview_at g name r os n id e in
-          let own = all_at _ o.overview os (all_at AgreesWithItself (OverviewsAre g r os) facts s.together.lists i) o.there in
-          let has = any_in (λ o. is_same o.id id) o.overview os o.there in
-          let formed : AllByRecursion IsProperOverview os → IsMessageId o.overview.id = λ h. (all_at IsProperOverview o.overview os h o.there).0 in
-          record {
-            fact = OverviewsAre g r os;
-            there = i;
-            number = grind (arith, own, same_itself);
-            article = grind (arith, has, same_itself);
-            mentioned = grind (arith, has, same_itself);
-            formed = λ h. grind (arith, formed h);
-          }
-      by fact i e = grind (arith, same_itself, eqb-true)
+  shown_at name n id e = grind (arith, first_found, overview_at, all_at, any_in, same_itself, eqb-true)
 
   -- what is told of an id, the head of its article in G tells
   fields_are : (id : Id) (u : Text) (fields : Fields) → get G.articles id ≡ Some u → first_given (fields_in id) facts ≡ Some fields → AreWords fields → fields_of_head u.head ≡ fields
@@ -177,33 +151,23 @@ module _ (profile : Profile) (B : ℕ) (G : Spool) (facts : List Fact) (s : Sett
   overview_tells : (os : List OverviewValue) (fact : Fact) → In fact facts → ((id : Id) → fields_in id fact ≡ first_given (fields_of_overview id) os) → AllByRecursion (TellsOwn os) os
       → AllByRecursion IsProperOverview os → (o : OverviewValue) → In o os → IsSome (get G.articles o.id) → HasOverview G o
   overview_tells os fact i is own proper o j there =
-      let t = some_is (get G.articles o.id) there in
-      let tells = if_some o.told (λ fields. fields_of_head t.0.head ≡ fields) (λ fields e.
-      let own = at_some (λ fields. first_given (fields_of_overview o.id) os ≡ Some fields) o.told fields e (all_at (TellsOwn os) o os own j) in
-      let told = one_given (fields_in o.id) facts (s.together.fields o.id) fact i fields (is o.id ∙ own) in
-      fields_are o.id t.0 fields t.1 told (at_some AreWords o.told fields e (all_at IsProperOverview o os proper j).1)) in
-      grind (arith, t.1, tells)
+      grind (arith, some_is, all_at (TellsOwn os) o os, all_at IsProperOverview o os, one_given (fields_in o.id) facts (s.together.fields o.id) fact i, is o.id, fields_are o.id)
 
   -- an overview that was sent is G's, where its number is one
   overview_holds : (name : Name) (r : Range) (os : List OverviewValue) → In (OverviewsAre name r os) facts → Lists (numbers G name) r (overview_numbers os)
       → (o : OverviewValue) → In o os → get (numbers G name) o.number ≡ Some o.id
   overview_holds name r os i met o j =
       let own = all_at _ o os (all_at AgreesWithItself (OverviewsAre name r os) facts s.together.lists i) j in
-      let given : id_in name o.number (OverviewsAre name r os) ≡ Some o.id = grind (arith, own, same_itself name) in
-      let there = contains_in o.number (overview_numbers os) (in_map (λ (o : OverviewValue). o.number) o os j) in
-      s.given.ids_shown name o.number o.id ((met o.number).0 there).0
-      (one_given (id_in name o.number) facts (s.together.ids name o.number) (OverviewsAre name r os) i o.id given)
+      let one = one_given (id_in name o.number) facts (s.together.ids name o.number) (OverviewsAre name r os) i in
+      grind (arith, own, contains_in, in_map (λ (o : OverviewValue). o.number) o os j, s.given.ids_shown name, one, same_itself)
 
   -- what was said holds of G
   fact_holds : (fact : Fact) → In fact facts → IsFitting profile fact → Placed s.how facts fact → Holds G fact
-  fact_holds (ThereIs name) i f p = (s.given.groups name).1 (any_in (shows_group name) (ThereIs name) facts i (same_itself name))
   fact_holds (ThereIsNo name) i f p = none_of (get G.groups name) (λ g. true≢false (sym (same_itself name) ∙ not_denied_group name (ThereIsNo name) i g))
   fact_holds (Asks name ask) i f p = grind (arith, asked name (Asks name ask) i (group_there name p), same_itself name)
   fact_holds (IdAt name n id) i f p =
-      let first = one_given (id_in name n) facts (s.together.ids name n) (IdAt name n id) i id in
-      grind (arith, asked name (IdAt name n id) i (group_there name p), s.given.ids_shown name n id, first, same_itself)
+      grind (arith, asked name (IdAt name n id) i (group_there name p), s.given.ids_shown name n id, one_given (id_in name n) facts (s.together.ids name n) _ i id, same_itself)
   fact_holds (FieldsAre os) i f p = grind (arith, all_from, overview_tells os (FieldsAre os) i, all_at, any_in, same_itself)
-  fact_holds (TextIs what id lines) i f p = grind (arith, some_is, any_in, same_itself, text_is)
   fact_holds (NoArticle id) i f p = none_of (get G.articles id) (λ g.
       elim ((s.given.articles id).0 g) [
         | inl used ↦ grind (arith, id_cases, shown_at used.0 used.1 id, not_denied, any_in (mentions id) (NoArticle id) facts i (same_itself id))
@@ -220,8 +184,8 @@ module _ (profile : Profile) (B : ℕ) (G : Spool) (facts : List Fact) (s : Sett
               ((s.given.articles o.id).1 (inl (name, o.number, overview_holds name r os i met o j))),
         )),
       )
-  fact_holds (GroupsAre p lines) i f g = lines_hold p lines i f
+  fact_holds fact i f p = grind (arith, some_is, any_in, same_itself, text_is, lines_hold, s.given.groups)
 
   -- all that is said holds of G
   pub all_hold : AllByRecursion (Holds G) facts
-  all_hold = all_from (Holds G) facts (λ fact i. fact_holds fact i (all_at (IsFitting profile) fact facts s.fitting i) (all_at (Placed s.how facts) fact facts s.placed i))
+  all_hold = grind (arith, all_from, fact_holds, all_at)

@@ -1,16 +1,15 @@
 -- The spool that is given is a spool.
-use Rattle.nntp_said.specs.{Asks.{Ask}, Facts.{Fact, TextIs, FieldsAre, OverviewsAre}}
+use Rattle.nntp_said.specs.Facts.{Fact, TextIs, FieldsAre, OverviewsAre}
 use Rattle.nntp_theory.proofs.Members.{if_some, at_some, In, all_at, all_both, any_in, found_in, first_found, none_there}
 use Rattle.nntp_theory.proofs.{GivenNumbers.MetNumbersStand.{some_counted}, Together.{FewEnough.{within_one}, ListedOverviews.{told_by}}}
 use Rattle.nntp_theory.proofs.Given.{ShownNames.{shown_named}, GivenHolds.{Setting, one_given, group_of_number, id_cases, shown_at, unshown_once}}
 use Rattle.nntp_theory.proofs.{Ids.MadeHead.{made_says_id, made_head_is_head, made_is_clean}, Session.FittingFacts.{IsFitting}}
 use Rattle.nntp_theory.{proofs.Session.NumbersWithinLimit.{free_in_limit, shown_in_limit, end_in_limit}, specs.Given.{mentions, is_mentioned, gives_article}}
-use Rattle.nntp_theory.specs.{Given.{id_shown, first_given, head_in, fields_in, asks_of}, Inner.Together.{IsProperOverview, IsWellFormed}, Together.{number_in}}
-use Rattle.nntp_theory.specs.Together.{IsFewFor}
-use Rattle.std.specs.{Prelude.{option_map, unwrap_or}, List.{AllByRecursion}, Option.{option_map_or}, FinMap.{get, len}, Cmp.Lexicographic.{same_text}}
-use Rattle.std.proofs.Common.{◌≡◌, ℕ, ◌≤◌, true, IsTrue, List, ◌∷◌, ◌++◌, ◌∙◌, Option, None, Some, is_some, IsSome, inl, inr, refl, sym, ap, subst, arith}
+use Rattle.nntp_theory.specs.{Given.{id_shown, first_given, head_in, fields_in}, Inner.Together.{IsProperOverview, IsWellFormed}, Together.{number_in}}
+use Rattle.std.specs.{Prelude.{unwrap_or}, List.{AllByRecursion}, Option.{option_map_or}, FinMap.{get, len}, Cmp.Lexicographic.{same_text}}
+use Rattle.std.proofs.Common.{◌≡◌, ℕ, ◌≤◌, true, IsTrue, List, ◌∷◌, ◌++◌, Option, None, Some, is_some, IsSome, inl, inr, refl, sym, ap, subst, arith}
 use Rattle.std.proofs.lemmas.{Bool.{true≢false, and_parts, or_cases}, List.Elements.{All-from_recursion}}
-use Rattle.nntp_article.specs.{Article.{Parts.{is_head, said_id, head_part, body_part, Id, Line}, Fields.{fields_of_head, made_head}}, Inner.Fields.{AreWords}}
+use Rattle.nntp_article.specs.{Article.{Parts.{is_head, said_id, head_part, body_part, Id, Line}, Fields.{made_head}}, Inner.Fields.{AreWords}}
 use Rattle.nntp_article.specs.Session.{Spool.{Spool, Text, IsNumber, numbers, IsSpool, Name, is_line}, Machine.{is_same, says_own_id}}
 use Rattle.nntp_article.specs.declared.session.profile.Profile.{Profile}
 use Rattle.nntp_wire.specs.{Listing.{Fields}, Name.{IsMessageId}}
@@ -46,12 +45,11 @@ module _ (profile : Profile) (B : ℕ) (G : Spool) (facts : List Fact) (s : Sett
       let g = group_of_number G name n i in
       let given = s.given.numbers_given name (ap is_some g.1) in
       let stand = s.together.numbers name in
-      let few = λ (ask : Ask) (i : In ask (asks_of name facts)). within_one (numbers G name) ask
-      (all_at (IsFewFor (numbers G name)) ask (asks_of name facts) (stand.few (numbers G name) given) i) in
+      let few = within_one (numbers G name) in
       let ends = end_in_limit profile facts s.how s.fitting s.placed name n (len (numbers G name)) in
       let shown = shown_in_limit profile facts s.how s.fitting s.placed name n in
       let free = free_in_limit profile facts s.how s.fitting s.placed name ((s.given.groups name).0 (ap is_some g.1)) n in
-      grind (arith, given n, or_cases, and_parts, shown, ends, few, some_counted (numbers G name) n i, stand.not_denied n, free)
+      grind (arith, given n, or_cases, and_parts, shown, ends, few, stand.few (numbers G name) given, all_at, some_counted (numbers G name) n i, stand.not_denied n, free)
 
   -- an id that is shown is mentioned
   shown_mentioned : (name : Name) (n : ℕ) (id : Id) → id_shown facts name n ≡ Some id → IsTrue (is_mentioned facts id)
@@ -60,18 +58,11 @@ module _ (profile : Profile) (B : ℕ) (G : Spool) (facts : List Fact) (s : Sett
   -- within a group an id has one number
   one_number : (name : Name) (n m : ℕ) (id : Id) → get (numbers G name) n ≡ Some id → get (numbers G name) m ≡ Some id → n ≡ m
   one_number name n m id e f =
-      grind (
-        arith,
-        one_given (number_in name id) facts (s.together.ids_once name id),
-        id_cases profile B G facts s name n id e,
-        id_cases profile B G facts s name m id f,
-        shown_at profile B G facts s name n id,
-        shown_at profile B G facts s name m id,
-        shown_mentioned name n id,
-        shown_mentioned name m id,
-        unshown_once profile B G facts s name n m id e f,
-        true≢false,
-      )
+      let once = one_given (number_in name id) facts (s.together.ids_once name id) in
+      let cases = id_cases profile B G facts s name in
+      let shown = shown_at profile B G facts s name in
+      let apart = unshown_once profile B G facts s name n m id e f in
+      grind (arith, once, cases n id e, cases m id f, shown n id, shown m id, shown_mentioned name n id, shown_mentioned name m id, apart, true≢false)
 
   -- ids of articles are message ids
   is_id : (id : Id) → IsSome (get G.articles id) → IsMessageId id
@@ -95,9 +86,9 @@ module _ (profile : Profile) (B : ℕ) (G : Spool) (facts : List Fact) (s : Sett
 
   -- what is told of an id, if no head is sent, are words
   told_words : (id : Id) (fact : Fact) (fields : Fields) → IsWellFormed fact → head_in id fact ≡ None → fields_in id fact ≡ Some fields → AreWords fields
-  told_words id (FieldsAre os) fields h none e = let f = told_by os id fields e in at_some AreWords f.overview.told fields f.told (all_at IsProperOverview f.overview os h f.there).1
-  told_words id (OverviewsAre name r os) fields h none e = let f = told_by os id fields e in at_some AreWords f.overview.told fields f.told (all_at IsProperOverview f.overview os h f.there).1
-  told_words id fact fields h none e = let nothing : None ≡ Some fields = sym (ap (option_map fields_of_head) none) ∙ e in cc
+  told_words id (FieldsAre os) fields h none e = grind (arith, told_by os id fields e, all_at IsProperOverview, at_some AreWords)
+  told_words id (OverviewsAre name r os) fields h none e = grind (arith, told_by os id fields e, all_at IsProperOverview, at_some AreWords)
+  told_words id fact fields h none e = grind arith
 
   -- a head that is made is one
   made_is : (id : Id) → IsMessageId id → first_given (head_in id) facts ≡ None → IsHeadOf id (made_head id (first_given (fields_in id) facts))
@@ -106,11 +97,7 @@ module _ (profile : Profile) (B : ℕ) (G : Spool) (facts : List Fact) (s : Sett
       let words = if_some told AreWords (λ fields e.
       let f = first_found (fields_in id) facts fields e in
       told_words id f.0 fields (formed f.0 f.1) (none_there (head_in id) facts f.0 f.1 none) f.2) in
-      record {
-        is_a_head = made_head_is_head id told words;
-        is_clean = made_is_clean id told is words;
-        own = λ said e. (let same : Some said ≡ Some id = sym e ∙ made_says_id id told is words in cc);
-      }
+      grind (arith, made_head_is_head id told words, made_is_clean id told is words, made_says_id id told is words)
 
   -- the head of an id is one
   head_is : (id : Id) (t : Text) → get G.articles id ≡ Some t → IsHeadOf id t.head

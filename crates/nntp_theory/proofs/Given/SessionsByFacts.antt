@@ -3,8 +3,8 @@ use Rattle.std.{proofs.Common.{◌<◌, ◌^◌, ◌⊎◌, ◌↔◌, List, [],
 use Rattle.nntp_article.specs.{Session.{Spool.{Spool, IsSpool}, Machine.{start}}, declared.session.profile.Profile.{Profile}}
 use Rattle.nntp_said.{proofs.{FiniteMapsDecided.{Dec, dec_both}, PermittingDecided.{dec_run}}, specs.Facts.{Fact, Holds}}
 use Rattle.nntp_theory.specs.{Given.{IsGiven, HasAtLeast}, Inner.{Given.{size}, Permits.{SomePermits}, Together.{Together}, Answered.{FitEach}}}
-use Rattle.nntp_theory.{specs.Answered.{Answered, PermitsEach, SomePermitsEach, facts_in, facts_of_all}, proofs.Members.{all_from, all_both, all_front}}
-use Rattle.nntp_theory.proofs.{Members.{all_back}, Session.{FittingFacts.{IsFitting, session_fitting}, NumbersOfShownGroups.{Among, Placed, placed_among}}}
+use Rattle.nntp_theory.{specs.Answered.{Answered, PermitsEach, SomePermitsEach, facts_of_all}, proofs.Members.{all_from, all_both, all_front, all_back}}
+use Rattle.nntp_theory.proofs.Session.{FittingFacts.{IsFitting, session_fitting}, NumbersOfShownGroups.{Among, Placed, placed_among}}
 use Rattle.nntp_theory.proofs.{Together.FactsOfASpoolStand.{stand}, Given.{GivenHasFacts.{given_of_facts, given_has, least_of_facts}, GivenPermits.{said}}}
 use Rattle.nntp_theory.proofs.Given.{GivenPermits.{permits}, ConstructedSpool.{made}, SpoolsDecided.{dec_spool}}
 
@@ -33,9 +33,7 @@ all_fitting profile (s ∷ more) f = grind (arith, all_both, session_fitting, al
 among_placed : (profile : Profile) (all : List Fact) (sessions : List Answered) → FitEach profile sessions
     → AllByRecursion (Among all) (facts_of_all profile.marks sessions) → AllByRecursion (Placed profile.marks all) (facts_of_all profile.marks sessions)
 among_placed profile all [] f h = tt
-among_placed profile all (s ∷ more) f h =
-    let later = all_back (Among all) (facts_in profile.marks s) (facts_of_all profile.marks more) h in
-    search (all_both, placed_among, all_front, among_placed profile all more f.1 later)
+among_placed profile all (s ∷ more) f h = search (all_both, placed_among, all_front, all_back, among_placed profile all more f.1)
 
 pub all_placed : (profile : Profile) (sessions : List Answered) → FitEach profile sessions
     → AllByRecursion (Placed profile.marks (facts_of_all profile.marks sessions)) (facts_of_all profile.marks sessions)

@@ -6,8 +6,8 @@ use Rattle.nntp_article.specs.{declared.session.profile.Profile.{Profile}, Sessi
 use Rattle.nntp_pair.specs.Pairing.{Paired}
 use Rattle.nntp_said.specs.{declared.position.Position.TheVariants.{Nowhere}, Facts.{Fact, facts_of}, Inner.Facts.{FitsAll}}
 use Rattle.nntp_theory.specs.{Classes.{visible_from, position_from, asked_next}, Given.{facts_of_session}, Inner.{Given.{size}, Permits.{SomePermits}}}
-use Rattle.nntp_theory.specs.{Inner.{Together.{Together, Join}, Exchanged.{said_by, AreFew}}, Permitted.{exchanged}, Answered.{Answered, SomePermitsEach}}
-use Rattle.nntp_theory.{specs.Answered.{facts_in, facts_of_all}, proofs.{Members.{all_both, all_front, all_back}, Given.FirstBadAnswer.{size-append}}}
+use Rattle.nntp_theory.specs.{Inner.{Together.{Together, Join}, Exchanged.{AreFew}}, Permitted.{exchanged}, Answered.{Answered, SomePermitsEach, facts_in}}
+use Rattle.nntp_theory.{specs.Answered.{facts_of_all}, proofs.{Members.{all_both, all_front, all_back}, Given.FirstBadAnswer.{size-append}}}
 use Rattle.nntp_theory.proofs.{Given.SessionsByFacts.{stand_each, permitted_together_of_all, permits_alone}, Ids.SizeOfASession.{session_size, pairs_weight}}
 use Rattle.nntp_theory.proofs.{Session.OneMoreAnswer.{facts_grow, fitting_grows}, Together.FactsJoin.{together_more, answer_agrees}}
 
@@ -72,19 +72,15 @@ permitted_more profile ps answers asked response comes small h =
     let more = permitted_more_behind profile [] ps answers asked response comes (subst (λ facts. size facts < 2 ^ 210) (sym whole) small) (before.1 h) in
     (λ g. more.0 (after.1 g), λ j. after.0 (more.1 j))
 
--- few exchanges say little
-few_size : (how : Marks) (pairs : List Paired) → AreFew pairs → size (said_by how pairs) ≤ 2 ^ 129
-few_size how pairs f = grind (arith, session_size, pairs_weight)
-
--- and those of sessions say little for each
+-- what few exchanges of each of some sessions say
 few_sizes : (how : Marks) (earlier : List (List Paired)) → AllByRecursion AreFew earlier → size (facts_of_all how (map exchanged earlier)) ≤ 2 ^ 129 * length earlier
 few_sizes how [] f = omega arith
-few_sizes how (pairs ∷ earlier) f = grind (arith, size-append, few_size, few_sizes how earlier f.1)
+few_sizes how (pairs ∷ earlier) f = grind (arith, size-append, session_size, pairs_weight, few_sizes how earlier f.1)
 
 -- what few sessions say is small, and there is room for more
 pub room_behind : (how : Marks) (earlier : List (List Paired)) (past : List Paired) → length earlier < 2 ^ 64 → AllByRecursion AreFew earlier → AreFew past
     → size (facts_of_all how (map exchanged earlier ++ exchanged past ∷ [])) < 2 ^ 209
-room_behind how earlier past count f g = grind (arith, facts_behind, size-append, few_size, few_sizes)
+room_behind how earlier past count f g = grind (arith, facts_behind, size-append, session_size, pairs_weight, few_sizes)
 
 pub small_behind : (how : Marks) (earlier : List (List Paired)) (past : List Paired) → length earlier < 2 ^ 64 → AllByRecursion AreFew earlier → AreFew past
     → size (facts_of_all how (map exchanged earlier ++ exchanged past ∷ [])) < 2 ^ 210

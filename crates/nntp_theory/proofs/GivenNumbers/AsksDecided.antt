@@ -4,9 +4,9 @@ use Rattle.std.{proofs.lemmas.Bool.{le-leb, or_cases, or_left, or_right, cases_l
 use Rattle.std.specs.{Cmp.{nat_cmp_total}, FinMap.{get, keys, contains_key-keys, nat_cmp-IsAntisymmetric}}
 use Rattle.nntp_article.specs.Session.Spool.{Numbers, IsNumber}
 use Rattle.nntp_said.{proofs.FiniteMapsDecided.{Dec, dec_true, dec_by, dec_all, each_key, passes, fails}, specs.Asks.{Ask}}
-use Rattle.nntp_theory.specs.{declared.demand.Demand.{Demand, TheVariants.{NoDemand, NotEmpty, OnlyOne, SecondIs, Impossible}}, Given.{demand, is_known}}
-use Rattle.nntp_theory.specs.{Given.{is_denied, IsGivenNumber, HasGivenNumbers}, Together.{MeetsDemand, IsFewFor}, Conflict.{AreTooMany}}
-use Rattle.nntp_theory.proofs.{Members.{all_at, all_from}, GivenNumbers.{LeastNumber.{Empty, Begins, firsts}, CountOfGivenNumbers.{as_many_given}}}
+use Rattle.nntp_theory.specs.{declared.demand.Demand.{Demand, TheVariants.{NoDemand, NotEmpty, OnlyOne, SecondIs}}, Given.{demand, is_known, is_denied}}
+use Rattle.nntp_theory.{specs.{Given.{IsGivenNumber, HasGivenNumbers}, Together.{MeetsDemand, IsFewFor}, Conflict.{AreTooMany}}, proofs.Members.{all_at}}
+use Rattle.nntp_theory.proofs.{Members.{all_from}, GivenNumbers.{LeastNumber.{Empty, Begins, firsts}, CountOfGivenNumbers.{as_many_given}}}
 
 -- whether the numbers meet a demand
 dec_demand : (N : Numbers) (d : Demand) → Dec (MeetsDemand d (IsNumber N))
@@ -30,7 +30,7 @@ dec_demand N (SecondIs k) = elim (firsts N) [
     ]
   ]
 ]
-dec_demand N Impossible = inr (λ h. h)
+dec_demand N d = grind arith
 
 -- ---- each part of what is asked
 

@@ -1,5 +1,5 @@
 -- The given numbers meet what is asked of them, if that stands together.
-use Rattle.nntp_wire.specs.declared.marks.Marks.TheVariants.{Lenient, Strict}
+use Rattle.nntp_wire.specs.declared.marks.Marks.TheVariants.{Strict}
 use Rattle.std.proofs.{Common.{◌≡◌, ℕ, true, false, IsTrue, List, [], ◌∷◌, inl, refl, arith}, lemmas.Bool.{true≢false, false_from_ne_true, eqb-true, ltb-false}}
 use Rattle.std.proofs.lemmas.Bool.{eq-eqb, or_cases, or_left, or_right, and_parts, and_from, cases_Bool, or_parts, Decides.{nat_tests}}
 use Rattle.std.specs.{Prelude.{IsFalse}, List.{AllByRecursion, list_any}}
@@ -52,23 +52,15 @@ module _ (asks : List Ask) (G : Numbers) (stand : AsksStand asks) (given : HasGi
   demand_in_G ask i = demand_of_one (IsNumber G) ask asks i (same_demand (IsGivenNumber asks) (IsNumber G) (λ n. (given n).1) (λ n. (given n).0) (demand asks) stand.demand_met)
 
   meets_in_G : (ask : Ask) → In ask asks → IsTrue (is_possible ask) → IsFewFor G ask → Meets G ask
-  meets_in_G (Estimates Lenient m) i p few = (few, λ n j. let f = not_denied_in_G (Estimates Lenient m) i n j in grind (arith, nat_tests), tt)
   meets_in_G (Estimates Strict m) i p few =
       (few, λ n j. let f = not_denied_in_G (Estimates Strict m) i n j in grind (arith, nat_tests), search (arith, end_in_G, or_left, eq-eqb, or_right))
-  meets_in_G (ListsIn r ns) i p few = λ n. grind (
-    arith,
-    shown_in_G (ListsIn r ns) i n,
-    not_denied_in_G (ListsIn r ns) i n,
-    finds ns n,
-    listed_in ns n,
-    in_range r n,
-    in_range_back r n,
-    each_of (is_in_range r) ns n p,
-    in_contains n ns,
-  )
+  meets_in_G (ListsIn r ns) i p few = λ n.
+      (let shown = shown_in_G (ListsIn r ns) i n in
+      let free = not_denied_in_G (ListsIn r ns) i n in
+      grind (arith, shown, free, finds ns n, listed_in ns n, in_range r n, in_range_back r n, each_of (is_in_range r) ns n p, in_contains n ns))
   meets_in_G (StandsAt First m) i p few = least_is G m (shown_in_G (StandsAt First m) i m (eq-eqb m m refl)) (λ n j. ltb-false n m (not_denied_in_G (StandsAt First m) i n j))
   meets_in_G ask i p few = grind (arith, nat_tests, eqb-true, eq-eqb, not_denied_in_G ask i, shown_in_G ask i, demand_in_G ask i, firsts G)
 
   -- the given numbers meet what is asked of them
   pub given_meet : AllByRecursion (Meets G) asks
-  given_meet = all_from (Meets G) asks (λ ask i. meets_in_G ask i (all_at (λ ask. IsTrue (is_possible ask)) ask asks stand.possible i) (all_at (IsFewFor G) ask asks (stand.few G given) i))
+  given_meet = grind (arith, all_from, meets_in_G, all_at, stand.few G given)

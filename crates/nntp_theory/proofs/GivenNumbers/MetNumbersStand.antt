@@ -1,18 +1,17 @@
 -- What numbers meet stands together.
-use Rattle.std.proofs.Common.{◌⊎◌, ◌≡◌, ℕ, ◌≤◌, Bool, true, false, ◌==◌, not, IsTrue, List, [], ◌∷◌, is_some, MatchOption, inl, inr, refl, sym, subst, ◌∙◌}
-use Rattle.std.proofs.{Common.{arith, ◌&&◌}, lemmas.Bool.{true≢false, or_left, or_right, or_cases, and_parts, eqb-true, ltb-true, cases_Bool, not-true}}
-use Rattle.std.proofs.lemmas.{Bool.{cases_eq, cases_order, eq-eqb, and_from, le-leb, lt-ltb, Decides.{nat_tests}}, Map.Views.{Contains-from_any}}
-use Rattle.std.{proofs.lemmas.Map.{Views.{list_any-from_Contains, tells_apart}, Lookups.{exact_unsigned}}, specs.Prelude.{IsFalse, Contains}}
-use Rattle.std.specs.{List.{AllByRecursion, list_any}, Cmp.{nat_cmp_total, nat_eq_equiv, eq_by_cmp_equiv}, FinMap.{get, len, keys, insert, remove, get-insert}}
-use Rattle.std.specs.FinMap.{get-remove, len-insert, len-remove, empty_of_len, get-empty, contains_key-keys}
+use Rattle.std.proofs.Common.{◌⊎◌, ◌≡◌, ℕ, ◌≤◌, Bool, true, ◌==◌, not, IsTrue, List, [], ◌∷◌, MatchOption, inl, inr, refl, sym, subst, ◌∙◌, arith, ◌&&◌}
+use Rattle.std.proofs.lemmas.Bool.{true≢false, or_left, or_right, or_cases, and_parts, eqb-true, ltb-true, cases_Bool, not-true, cases_eq, cases_order, eq-eqb}
+use Rattle.std.proofs.lemmas.{Bool.{and_from, le-leb, lt-ltb, Decides.{nat_tests}}, Map.Views.{Contains-from_any, list_any-from_Contains, tells_apart}}
+use Rattle.std.{proofs.lemmas.Map.Lookups.{exact_unsigned}, specs.{Prelude.{IsFalse, Contains}, List.{AllByRecursion, list_any}, Cmp.{nat_cmp_total}}}
+use Rattle.std.specs.{Cmp.{nat_eq_equiv, eq_by_cmp_equiv}, FinMap.{len, keys, insert, remove, get-insert, get-remove, len-insert, len-remove, empty_of_len}}
+use Rattle.std.specs.FinMap.{get-empty, contains_key-keys}
 use Rattle.nntp_wire.specs.declared.range.Range.{Range}
 use Rattle.nntp_article.specs.Session.{Spool.{Numbers, IsNumber, least, IsInRange}, Machine.{is_in_range}}
 use Rattle.nntp_said.specs.Asks.{Ask, Meets, ListsIn}
-use Rattle.nntp_theory.specs.Given.{shows, denies, is_shown, is_denied, demand_in, demand, wants, IsOneMore, IsGivenNumber, HasGivenNumbers, says_some}
-use Rattle.nntp_theory.specs.{Given.{is_known}, declared.demand.Demand.{Demand, TheVariants.{SecondIs}}, Together.{is_possible, MeetsDemand}}
-use Rattle.nntp_theory.{specs.Inner.Together.{AsksStand}, proofs.GivenNumbers.{FirstFreeNumber.{first_free_once, first_free}, LeastNumber.{firsts, not_number}}}
-use Rattle.nntp_theory.proofs.{GivenNumbers.LeastNumber.{Empty, Begins}, Members.{In, all_at, all_from, any_in, found_in, contains_in, in_contains, every}}
-use Rattle.nntp_theory.proofs.Maps.{len_le}
+use Rattle.nntp_theory.specs.Given.{shows, is_shown, is_denied, demand, wants, IsOneMore, IsGivenNumber, HasGivenNumbers, says_some, is_known}
+use Rattle.nntp_theory.specs.{declared.demand.Demand.{Demand, TheVariants.{SecondIs}}, Together.{is_possible, MeetsDemand}, Inner.Together.{AsksStand}}
+use Rattle.nntp_theory.proofs.{GivenNumbers.{FirstFreeNumber.{first_free_once, first_free}, LeastNumber.{firsts, not_number, Empty, Begins}}, Members.{In}}
+use Rattle.nntp_theory.proofs.{Members.{all_at, all_from, any_in, found_in, contains_in, in_contains, every}, Maps.{len_le}}
 
 pub first_there : (N : Numbers) (Q : ℕ → Type 0) → MatchOption (least N) ⊥ Q → (c : ℕ) × IsNumber N c × ((m : ℕ) → IsNumber N m → c ≤ m) × Q c
 first_there N Q h = grind (arith, firsts)
@@ -34,9 +33,6 @@ in_range_back r n h = grind (arith, and_from, le-leb)
 shown_is_number : (N : Numbers) (ask : Ask) (n : ℕ) → Meets N ask → IsTrue (shows ask n) → IsNumber N n
 shown_is_number N ask n h i = grind (arith, listed_in, eqb-true, firsts)
 
-number_not_denied : (N : Numbers) (ask : Ask) (n : ℕ) → Meets N ask → IsNumber N n → IsTrue (denies ask n) → ⊥
-number_not_denied N ask n h i j = grind (arith, nat_tests, and_parts, true≢false, finds, in_range, not-true, eqb-true, firsts, ltb-true)
-
 -- ---- of all that is asked
 
 pub shown_are_numbers : (N : Numbers) (asks : List Ask) (n : ℕ) → AllByRecursion (Meets N) asks → IsTrue (is_shown asks n) → IsNumber N n
@@ -44,14 +40,10 @@ shown_are_numbers N asks n met s = grind (arith, found_in, all_at, shown_is_numb
 
 -- ---- the demand
 
--- numbers that meet an ask meet its demand
-meets_demand_in : (N : Numbers) (ask : Ask) → Meets N ask → MeetsDemand (demand_in ask) (IsNumber N)
-meets_demand_in N ask h = grind (arith, first_there, cases_order, not_number)
-
 -- numbers that meet what is asked meet the demand
 demand_of : (N : Numbers) (asks : List Ask) → AllByRecursion (Meets N) asks → MeetsDemand (demand asks) (IsNumber N)
 demand_of N [] met = tt
-demand_of N (ask ∷ asks) met = grind (arith, meets_demand_in N ask met.0, demand_of N asks met.1)
+demand_of N (ask ∷ asks) met = grind (arith, first_there, cases_order, not_number, demand_of N asks met.1)
 
 -- a second number is shown
 pub second_shown : (asks : List Ask) (k : ℕ) → demand asks ≡ SecondIs k → IsTrue (is_shown asks k)
@@ -89,9 +81,7 @@ some_counted N n i = grind (arith, cases_eq (len N) 0, empty_of_len N, get-empty
 -- to put a number in the place of another leaves how many there are
 len_replaced : (G : Numbers) (d c : ℕ) → IsNumber G d → (IsNumber G c → c ≡ d) → len (insert (remove G d) c []) ≡ len G
 len_replaced G d c there only =
-    let gone : is_some (get (remove G d) c) ≡ false = grind (arith, get-remove nat_cmp_total G d c) in
-    let some = some_counted G d there in
-    grind (arith, len-insert nat_cmp_total (remove G d) c [], len-remove nat_cmp_total G d)
+    grind (arith, get-remove nat_cmp_total G d c, some_counted G d there, len-insert nat_cmp_total (remove G d) c [], len-remove nat_cmp_total G d)
 
 -- ---- numbers that are known
 
@@ -107,13 +97,9 @@ some_there N ask h t = elim (firsts N) [ Empty e none ↦ absurd (grind (arith, 
 -- each number is known, or one of them is the one more
 pub known_or_more : (asks : List Ask) (G : Numbers) → HasGivenNumbers asks G
     → ((n : ℕ) → IsNumber G n → IsTrue (is_known asks n)) ⊎ ((e : ℕ) × IsNumber G e × IsOneMore asks e)
-known_or_more asks G given = elim (cases_Bool (list_any (λ n. not (is_known asks n)) (keys G))) [
-  | inr none ↦ inl (λ n i. grind (arith, cases_Bool (is_known asks n), true≢false, any_in (λ n. not (is_known asks n)) n (keys G) (key_in G n i)))
-  | inl some ↦
-      let f = found_in (λ n. not (is_known asks n)) (keys G) some in
-      let there = key_is G f.0 f.1 in
-      inr (f.0, there, elim ((given f.0).0 there) [ inl t ↦ absurd (true≢false (sym t ∙ not-true _ f.2)) | inr x ↦ x ])
-]
+known_or_more asks G given =
+    let unknown = λ (n : ℕ). not (is_known asks n) in
+    grind (arith, cases_Bool (list_any unknown (keys G)), any_in unknown, found_in unknown, key_in G, key_is G, given, not-true, true≢false)
 
 -- there is one more number at most
 pub one_more_once : (asks : List Ask) (e d : ℕ) → IsOneMore asks e → IsOneMore asks d → e ≡ d
@@ -126,7 +112,8 @@ module _ (asks : List Ask) (N : Numbers) (met : AllByRecursion (Meets N) asks) (
   known_in_N n s = grind (arith, or_cases, shown_are_numbers, and_parts, found_in, some_there, all_at)
 
   free_in_N : (n : ℕ) → IsNumber N n → IsFalse (is_denied asks n)
-  free_in_N n i = grind (arith, cases_Bool (is_denied asks n), found_in, all_at, number_not_denied)
+  free_in_N n i =
+      grind (arith, cases_Bool (is_denied asks n), found_in, all_at, nat_tests, and_parts, true≢false, finds, in_range, not-true, eqb-true, firsts, ltb-true)
 
   -- the demand wants a number that is known
   abbrev is_wanted : ℕ → Bool

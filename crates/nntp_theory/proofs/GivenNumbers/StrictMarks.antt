@@ -1,6 +1,6 @@
 -- Where marks are strict, no number is given beside those that are known.
-use Rattle.std.proofs.{Common.{◌≡◌, ℕ, true, cond, IsTrue, List, [], ◌∷◌, inl, inr, refl, sym, subst, arith}, lemmas.Bool.{true≢false, and_from, or_left}}
-use Rattle.std.{proofs.lemmas.Bool.{or_right, cases_lt, eq-eqb, lt-ltb}, specs.List.{AllByRecursion, list_any}}
+use Rattle.std.proofs.{Common.{◌≡◌, ℕ, true, IsTrue, List, inr, arith}, lemmas.Bool.{true≢false, and_from, or_left, or_right, cases_lt, eq-eqb, lt-ltb}}
+use Rattle.std.specs.List.{AllByRecursion, list_any}
 use Rattle.nntp_wire.specs.declared.{water_marks.WaterMarks.{WaterMarks}, marks.Marks.TheVariants.{Strict}}
 use Rattle.nntp_article.specs.Session.{Spool.{Name}, Machine.{is_same}}
 use Rattle.nntp_said.specs.{Asks.{Estimates}, Facts.{Fact, Asks}}
@@ -10,9 +10,7 @@ use Rattle.nntp_theory.proofs.{GivenNumbers.{MetNumbersStand.{wants_less}, Given
 module _ (facts : List Fact) (placed : AllByRecursion (Placed Strict facts) facts) where
   -- a group that a 211 selected has strict marks
   selected : (name g : Name) → is_same g name ≡ true → IsSelectable Strict facts g → (m : WaterMarks) × In (Estimates Strict m) (asks_of name facts)
-  selected name g same s =
-      let ask = Estimates Strict s.marks in
-      (s.marks, to_flat (asks_in name) (Asks g ask) ask facts s.estimated (subst (λ b. In ask (cond b (ask ∷ []) [])) (sym same) (inl refl)))
+  selected name g same s = grind (arith, to_flat (asks_in name) (Asks g (Estimates Strict s.marks)) (Estimates Strict s.marks) facts s.estimated)
 
   -- and so has each of which it is said that there is a number
   marked : (name : Name) → list_any says_some (asks_of name facts) ≡ true → (m : WaterMarks) × In (Estimates Strict m) (asks_of name facts)

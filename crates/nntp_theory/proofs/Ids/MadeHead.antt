@@ -1,19 +1,14 @@
 -- A head that says an id, and what is told of four headers.
 use Rattle.std.proofs.Common.{◌≡◌, ℕ, true, ◌&&◌, IsTrue, List, [], ◌∷◌, ◌++◌, length, Option, Some, None, refl, ap, ◌∙◌, arith, append-nil}
 use Rattle.std.{proofs.lemmas.Bool.{and_from, and_parts}, specs.{Prelude.{nat_le, codes, nat_lt, IfSome}, List.{list_all, AllByRecursion}}}
-use Rattle.nntp_article.specs.Article.{Parts.{Header, is_head, only_id, said_id, skip_blanks, skip_last_blanks, content_of, Id}, Fields.{made_head}}
-use Rattle.nntp_article.{specs.{Session.Spool.{is_line}, Inner.Fields.{AreWords}}, proofs.ArticleLemmas.FieldLemmas.{made_says, made_is_head}}
-use Rattle.nntp_article.proofs.ArticleLemmas.FieldLemmas.{field_lines_are_lines}
+use Rattle.nntp_article.specs.{Article.{Parts.{is_head, said_id, skip_blanks, skip_last_blanks, content_of, Id}, Fields.{made_head}}, Session.Spool.{is_line}}
+use Rattle.nntp_article.{specs.Inner.Fields.{AreWords}, proofs.ArticleLemmas.FieldLemmas.{made_says, made_is_head, field_lines_are_lines}}
 use Rattle.nntp_wire.{specs.{Listing.{Fields}, Decided.{is_id_octet, begins_id}, Name.{IsMessageId}, Octets.{is_clean}}, proofs.DecidedLemmas.{message_id-iff}}
 
 -- octets of an id make a line
 all_clean : (cs : List ℕ) → list_all is_id_octet cs ≡ true → (is_clean cs ≡ true) × (list_all (λ c. nat_lt c 256) cs ≡ true)
 all_clean [] h = (refl, refl)
 all_clean (c ∷ cs) h = grind (arith, all_clean cs (and_parts (is_id_octet c) _ h).1)
-
--- the line of an id
-id_line : (cs : List ℕ) → list_all is_id_octet cs ≡ true → is_line (codes "Message-ID: " ++ cs) ≡ true
-id_line cs h = let both = all_clean cs h in and_from (is_clean (codes "Message-ID: " ++ cs)) (list_all (λ c. nat_lt c 256) (codes "Message-ID: " ++ cs)) both.0 both.1
 
 -- an id has no blanks at its end
 no_last_blanks : (cs : List ℕ) → list_all is_id_octet cs ≡ true → skip_last_blanks cs ≡ cs
@@ -33,14 +28,10 @@ octets id h = (and_parts (nat_le 3 (length id) && nat_le (length id) 250) _ (and
 content : (id : Id) → list_all is_id_octet id ≡ true → content_of ((codes "Message-ID: " ++ id) ∷ []) ≡ id
 content id h = ap (λ cs. skip_last_blanks (skip_blanks cs)) (append-nil id) ∙ ap skip_last_blanks (no_blanks id h) ∙ no_last_blanks id h
 
--- of one header the id is that of its content
-id_of_one : (id : Id) (headers : List Header) → IsMessageId id → headers ≡ ((codes "Message-ID: " ++ id) ∷ []) ∷ [] → only_id headers ≡ Some id
-id_of_one id headers h e = grind (arith, e, content, octets, message_id-iff)
-
 -- the head says the id
 pub made_says_id : (id : Id) (told : Option Fields) → IsMessageId id → IfSome told AreWords → said_id (made_head id told) ≡ Some id
-made_says_id id None h words = id_of_one id _ h refl
-made_says_id id (Some fields) h words = id_of_one id _ h (made_says fields words id)
+made_says_id id None h words = grind (arith, content, octets, message_id-iff)
+made_says_id id (Some fields) h words = grind (arith, made_says fields words id, content, octets, message_id-iff)
 
 -- it is a head
 pub made_head_is_head : (id : Id) (told : Option Fields) → IfSome told AreWords → IsTrue (is_head (made_head id told))
@@ -48,4 +39,4 @@ made_head_is_head id told words = grind (arith, made_is_head)
 
 -- and no line of it holds NUL, CR or LF
 pub made_is_clean : (id : Id) (told : Option Fields) → IsMessageId id → IfSome told AreWords → AllByRecursion (λ line. IsTrue (is_line line)) (made_head id told)
-made_is_clean id told h words = grind (arith, id_line, octets, field_lines_are_lines)
+made_is_clean id told h words = grind (arith, octets, field_lines_are_lines, all_clean, and_from)

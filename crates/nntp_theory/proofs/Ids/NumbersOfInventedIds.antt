@@ -1,12 +1,11 @@
 -- The numbers of invented ids: they are small, rise, and aren't those of ids that are mentioned.
-use Rattle.std.proofs.Common.{◌≡◌, ℕ, ◌+◌, ◌<◌, ◌≤◌, true, cond, eqb, List, [], ◌∷◌, ◌++◌, length, map, None, is_some, inl, inr, sym, ap, subst, ◌∙◌, arith}
+use Rattle.std.proofs.Common.{◌≡◌, ℕ, ◌+◌, ◌<◌, ◌≤◌, true, cond, eqb, List, [], ◌∷◌, ◌++◌, length, map, None, is_some, inl, inr, sym, ap, ◌∙◌, arith}
 use Rattle.std.proofs.{Common.{length-append}, lemmas.{Bool.{cases_lt, or_cases, or_left, or_right, eq-eqb}, Map.Steps.{le-length_from_below}}}
 use Rattle.std.{proofs.lemmas.List.Folds.{list_any-append}, specs.{Prelude.{IsFalse, ⊤}, List.{list_any, flat_map}, Cmp.Lexicographic.{same_text}}}
 use Rattle.nntp_article.specs.{Session.{Machine.{is_same}, Spool.{Name}}, Article.Parts.{Id}}
-use Rattle.nntp_wire.specs.Listing.{OverviewValue}
 use Rattle.nntp_said.specs.Facts.{Fact, IdAt, TextIs, NoArticle, FieldsAre, OverviewsAre}
-use Rattle.nntp_theory.specs.Given.{has_overview_of, mentions, is_mentioned, invented, AreInvented, id_shown, unshown_in}
-use Rattle.nntp_theory.proofs.{Ids.InventedIds.{invented_number}, Members.{In, in_back, in_map, any_in, any_back, found_in}}
+use Rattle.nntp_theory.{specs.Given.{is_mentioned, invented, AreInvented, id_shown, unshown_in}, proofs.{Ids.InventedIds.{invented_number}, Members.{In}}}
+use Rattle.nntp_theory.proofs.Members.{in_back, in_map, any_in, any_back, found_in}
 
 -- the numbers of the ids that a fact mentions, as if they were invented ones
 abbrev pub mentioned_number : Fact → List ℕ
@@ -31,18 +30,10 @@ module _ (B : ℕ) (small : (i : ℕ) → i < B → invented_number (invented i)
   same_number : (i : ℕ) (id : Id) → i < B → is_same id (invented i) ≡ true → eqb i (invented_number id) ≡ true
   same_number i id l e = eq-eqb i (invented_number id) (sym (small i l) ∙ ap invented_number (sym (same_text id (invented i) (sym e))))
 
-  -- so has one that overviews have
-  counted_of : (i : ℕ) (os : List OverviewValue) → i < B → has_overview_of (invented i) os ≡ true → list_any (eqb i) (map (λ o. invented_number o.id) os) ≡ true
-  counted_of i os l t = grind (arith, found_in, any_in, in_map, same_number)
-
-  -- and so one that a fact mentions
-  counted_one : (i : ℕ) (fact : Fact) → i < B → mentions (invented i) fact ≡ true → list_any (eqb i) (mentioned_number fact) ≡ true
-  counted_one i fact l t = grind (arith, counted_of, or_left, same_number)
-
-  -- and one of the facts
+  -- and so has one that one of the facts mentions
   pub counted : (i : ℕ) (facts : List Fact) → i < B → is_mentioned facts (invented i) ≡ true → list_any (eqb i) (mentioned facts) ≡ true
   counted i [] l e = cc
-  counted i (fact ∷ facts) l e = grind (arith, or_cases, list_any-append, or_left, counted_one, any_back, counted i facts l)
+  counted i (fact ∷ facts) l e = grind (arith, or_cases, list_any-append, or_left, same_number, any_back, counted i facts l, found_in, any_in, in_map)
 
   -- the numbers from k on, behind those that were invented before
   numbered_from : (ids : List Id) (k : ℕ) (done : List ℕ) → ((i : ℕ) → i < k → list_any (eqb i) (done ++ mentioned facts) ≡ true)
@@ -83,8 +74,7 @@ module _ (B : ℕ) (small : (i : ℕ) → i < B → invented_number (invented i)
   -- and those of each part
   pub part_numbered : {A : Type 0} (f : A → List Id) (k : ℕ) (x : A) (xs : List A) → Numbered k (flat_map f xs) → In x xs → (j : ℕ) × Numbered j (f x)
   part_numbered f k x [] h i = absurd i
-  part_numbered f k x (y ∷ ys) h (inl e) = subst (λ y. (j : ℕ) × Numbered j (f y)) e (k, front_numbered k (f y) (flat_map f ys) h)
-  part_numbered f k x (y ∷ ys) h (inr i) = let r = back_numbered k (f y) (flat_map f ys) h in part_numbered f r.0 x ys r.1 i
+  part_numbered f k x (y ∷ ys) h i = let r = back_numbered k (f y) (flat_map f ys) h in grind (arith, front_numbered k (f y) (flat_map f ys) h, part_numbered f r.0 x ys r.1)
 
   -- the id at a number for which none is shown is among the invented ones
   pub unshown_there : (name : Name) (n : ℕ) (id : Id) (es : List (ℕ × Id)) → In (n, id) es → id_shown facts name n ≡ None → In id (unshown_in facts name es)
@@ -100,9 +90,6 @@ module _ (B : ℕ) (small : (i : ℕ) → i < B → invented_number (invented i)
   pub unshown_apart : (name : Name) (k n m : ℕ) (id : Id) (es : List (ℕ × Id)) → Numbered k (unshown_in facts name es)
       → In (n, id) es → In (m, id) es → id_shown facts name n ≡ None → id_shown facts name m ≡ None → n ≡ m
   unshown_apart name k n m id [] h i j none none' = absurd i
-  unshown_apart name k n m id (e ∷ es) h (inl s) (inl t) none none' = ap (λ e. e.0) (sym s ∙ t)
-  unshown_apart name k n m id (e ∷ es) h (inl s) (inr j) none none' = absurd (once name k n m id e es h s j none none')
-  unshown_apart name k n m id (e ∷ es) h (inr i) (inl t) none none' = absurd (once name k m n id e es h t i none' none)
-  unshown_apart name k n m id (e ∷ es) h (inr i) (inr j) none none' =
+  unshown_apart name k n m id (e ∷ es) h i j none none' =
       let r = back_numbered k (cond (is_some (id_shown facts name e.0)) [] (e.1 ∷ [])) (unshown_in facts name es) h in
-      unshown_apart name r.0 n m id es r.1 i j none none'
+      grind (arith, once name k n m id e es h, once name k m n id e es h, unshown_apart name r.0 n m id es r.1)

@@ -1,6 +1,6 @@
 -- An id that is shown at a number has this number.
 use Rattle.nntp_wire.{proofs.OptionLemmas.{some_is}, specs.Listing.{OverviewValue}}
-use Rattle.std.{proofs.{Common.{◌≡◌, ℕ, ◌==◌, IsTrue, List, Some, IsSome, arith}, lemmas.Bool.{eqb-true}}, specs.List.{AllByRecursion}}
+use Rattle.std.{proofs.{Common.{◌≡◌, ℕ, IsTrue, List, Some, IsSome, arith}, lemmas.Bool.{eqb-true}}, specs.List.{AllByRecursion}}
 use Rattle.nntp_article.specs.{Article.Parts.{Id}, Session.{Spool.{Name}, Machine.{overview_numbers}}}
 use Rattle.nntp_said.specs.{Asks.{ListsIn, Has}, Facts.{Fact, OverviewsAre}}
 use Rattle.nntp_theory.specs.{Given.{is_shown, asks_in, asks_of, first_given, id_in}, Together.{number_in, GiveOne}, Inner.Together.{AgreesWithItself}}
@@ -24,8 +24,7 @@ shown_with_id facts name n t =
     by : (fact : Fact) (id : Id) → In fact facts → id_in name n fact ≡ Some id → IsTrue (is_shown (asks_of name facts) n)
     by (OverviewsAre g r os) id i e =
         let o = overview_at g name r os n id e in
-        let listed = any_in (λ m. o.overview.number == m) o.overview.number (overview_numbers os) (in_map (λ (o : OverviewValue). o.number) o.overview os o.there) in
-        grind (arith, any_in, to_flat (asks_in name) (OverviewsAre g r os) (ListsIn r (overview_numbers os)) facts i)
+        grind (arith, o, any_in, in_map (λ (o : OverviewValue). o.number), to_flat (asks_in name) (OverviewsAre g r os) (ListsIn r (overview_numbers os)) facts i)
     by fact id i e = grind (arith, any_in, to_flat (asks_in name) fact (Has n) facts i)
 
 -- facts that stand together agree

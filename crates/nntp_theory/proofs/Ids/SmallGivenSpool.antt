@@ -1,7 +1,7 @@
 -- A session that says little is given a small spool.
 use Rattle.nntp_theory.proofs.{GivenNumbers.MetNumbersStand.{known_or_more, one_more_once}, Members.{In, any_in, found_in, to_flat, from_flat, parts_few}}
 use Rattle.nntp_theory.proofs.{Ids.NumbersOfInventedIds.{mentioned}, Maps.{sorted_keys, keys_among, in_get}, Together.FactsOfASpoolStand.{same_itself, listed}}
-use Rattle.nntp_theory.{proofs.Together.FactsOfASpoolStand.{in_listed}, specs.Given.{shows, HasGivenNumbers, asks_in, asks_of, shows_group, is_shown_group}}
+use Rattle.nntp_theory.{proofs.Together.FactsOfASpoolStand.{in_listed}, specs.Given.{HasGivenNumbers, asks_in, asks_of, shows_group, is_shown_group}}
 use Rattle.nntp_theory.specs.{Given.{unshown_in, unshown_ids, is_known}, Inner.Given.{size_in, size}}
 use Rattle.nntp_wire.specs.{declared.marks.Marks.TheVariants.{Strict}, Listing.{ActiveValue, OverviewValue}}
 use Rattle.std.proofs.Common.{◌≡◌, ℕ, ◌+◌, ◌<◌, ◌≤◌, ◌^◌, true, false, cond, IsTrue, List, [], ◌∷◌, ◌++◌, map, length, inl, inr, refl, sym, ap, arith}
@@ -43,31 +43,19 @@ numbers_in name fact = flat_map named_by (asks_in name fact)
 abbrev pub shown_numbers : Name → List Fact → List ℕ
 shown_numbers name facts = flat_map (numbers_in name) facts
 
--- a group that a fact shows is one of its names
-names_shown : (name : Name) (fact : Fact) → shows_group name fact ≡ true → In name (names_in fact)
-names_shown name fact t = grind (arith, same_text, in_listed)
-
 -- a group that is shown is one of the names
 pub shown_name : (facts : List Fact) (name : Name) → IsTrue (is_shown_group facts name) → In name (names_of facts)
 unfolding names_of
-shown_name facts name t = let f = found_in (shows_group name) facts t in to_flat names_in f.0 name facts f.1 (names_shown name f.0 f.2)
-
--- and back
-names_back : (name : Name) (fact : Fact) → In name (names_in fact) → shows_group name fact ≡ true
-names_back name fact i = grind (arith, same_itself, listed)
+shown_name facts name t = let f = found_in (shows_group name) facts t in to_flat names_in f.0 name facts f.1 (grind (arith, same_text, in_listed, f.2))
 
 -- one of the names is shown
 pub name_shown : (facts : List Fact) (name : Name) → In name (names_of facts) → IsTrue (is_shown_group facts name)
 unfolding names_of
-name_shown facts name i = grind (arith, from_flat, any_in, names_back)
-
--- a number that is shown is one of the ask's
-pub one_shown : (ask : Ask) (n : ℕ) → shows ask n ≡ true → In n (named_by ask)
-one_shown ask n h = grind (arith, found_in, eqb-true)
+name_shown facts name i = grind (arith, from_flat, any_in, same_itself, listed)
 
 -- a number that is known is one of an ask's
 pub known_named : (asks : List Ask) (n : ℕ) → IsTrue (is_known asks n) → (ask : Ask) × In ask asks × In n (named_by ask)
-known_named asks n t = grind (arith, or_cases, found_in, one_shown, and_parts)
+known_named asks n t = grind (arith, or_cases, found_in, and_parts, eqb-true)
 
 -- and of the numbers
 pub known_number : (name : Name) (facts : List Fact) (n : ℕ) → IsTrue (is_known (asks_of name facts) n) → In n (shown_numbers name facts)

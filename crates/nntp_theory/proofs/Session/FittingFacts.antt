@@ -1,9 +1,8 @@
 -- What the visible condition says of the facts of an answer.
 use Rattle.std.{proofs.{Common.{◌≡◌, ℕ, IsTrue, List, ◌∷◌, arith, ◌≤◌}, lemmas.Bool.{and_parts}}, specs.{Prelude.{⊤}, List.{AllByRecursion}}}
-use Rattle.nntp_article.specs.Session.{Spool.{Name}, Machine.{Visible, visible_after, start, fits, marks_fit, is_article_number, head_fits, active_fits}}
-use Rattle.nntp_article.specs.{Session.Machine.{overview_numbers}, declared.session.profile.Profile.{Profile}}
+use Rattle.nntp_article.specs.Session.Machine.{Visible, visible_after, start, fits, is_article_number, head_fits, active_fits, overview_numbers}
+use Rattle.nntp_article.specs.declared.session.profile.Profile.{Profile}
 use Rattle.nntp_wire.specs.{Answer.{Asked, Response}, Listing.{listed_numbers, active_groups, overviews_of}, declared.range.Range.{Range}}
-use Rattle.nntp_wire.specs.declared.water_marks.WaterMarks.{WaterMarks}
 use Rattle.nntp_said.specs.{Asks.{position_after, Estimates, ListsIn, Has, StandsAt, StepsUp, StepsDown}, declared.position.Position.{Position}}
 use Rattle.nntp_said.specs.{declared.position.Position.TheVariants.{Nowhere}, Facts.{Fact, Asks, IdAt, TextIs, FieldsAre, OverviewsAre, GroupsAre, here}}
 use Rattle.nntp_said.{specs.{Facts.{facts_of, facts_from}, Inner.Facts.{FitsAll}}, proofs.Rows.{Row, AreListed, row, within, marks, listing, up, down, text}}
@@ -26,10 +25,6 @@ IsFitting profile (OverviewsAre name r os) = AllByRecursion (λ n. IsTrue (is_ar
 IsFitting profile (GroupsAre p lines) = AllByRecursion (λ line. IsTrue (active_fits profile p line)) lines
 IsFitting profile fact = ⊤
 
--- marks fit
-marks_fitting : (profile : Profile) (v : Visible) (name : Name) (m : WaterMarks) → IsTrue (marks_fit profile v name m) → IsFitting profile (Asks name (Estimates profile.marks m))
-marks_fitting profile v name m f = grind arith
-
 -- listed numbers are article numbers
 listed_fitting : (profile : Profile) (range : Range) (ns : List ℕ) → AreListed profile range ns → AllByRecursion (λ n. IsTrue (is_article_number profile.limit n)) ns
 listed_fitting profile range ns f = grind (arith, all_from, and_parts, each_of)
@@ -38,8 +33,8 @@ listed_fitting profile range ns f = grind (arith, all_from, and_parts, each_of)
 row_fitting : {profile : Profile} {v : Visible} {at : Position} {Fits : Type 0} {a : Response} {facts : List Fact} → Row profile v at Fits a facts → Fits → AllByRecursion (IsFitting profile) facts
 row_fitting {profile} {v} (within range lines known) f =
     ((listed_fitting profile range (overview_numbers (overviews_of lines)) (known f).1, apart_agree (here v) range (overviews_of lines) (known f).1.0 (known f).2), tt)
-row_fitting {profile} {v} (marks m name known) f = (tt, (marks_fitting profile v name m (known f), tt))
-row_fitting {profile} {v} (listing m name range lines known) f = (tt, (marks_fitting profile v name m (known f).0, (listed_fitting profile range (listed_numbers lines) (known f).1, tt)))
+row_fitting (marks m name known) f = (tt, (grind (arith, known f), tt))
+row_fitting {profile} {v} (listing m name range lines known) f = (tt, (grind (arith, (known f).0), (listed_fitting profile range (listed_numbers lines) (known f).1, tt)))
 row_fitting (up s known) f = ((known f).1, ((known f).1, tt))
 row_fitting (down s known) f = ((known f).1, ((known f).1, tt))
 row_fitting (text what s known) f = (known f, tt)
@@ -58,8 +53,7 @@ answer_fitting profile v at p a = row_fitting (row profile v at p a)
 -- what answers that fit say, from any state on
 from_fitting : (profile : Profile) (v : Visible) (at : Position) (ps : List Asked) (answers : List Response)
     → FitsAll profile v ps answers → AllByRecursion (IsFitting profile) (facts_from profile.marks v at ps answers)
-from_fitting profile v at (p ∷ ps) (a ∷ more) f =
-    all_both (IsFitting profile) (facts_of profile.marks v at p a) _ (answer_fitting profile v at p a f.1) (from_fitting profile (visible_after v p a) (position_after at p a) ps more f.2)
+from_fitting profile v at (p ∷ ps) (a ∷ more) f = grind (arith, all_both, answer_fitting, from_fitting profile (visible_after v p a) (position_after at p a) ps more f.2)
 from_fitting profile v at ps answers f = tt
 
 -- what a session that fits says

@@ -68,9 +68,9 @@ all_placed : (profile : Profile) (all : List Fact) (v : Visible) (at : Position)
     → AllByRecursion (Among all) (facts_from profile.marks v at ps answers)
     → AllByRecursion (Placed profile.marks all) (facts_from profile.marks v at ps answers)
 all_placed profile all v at (p ∷ ps) (a ∷ more) stands f h =
-    let front = all_front (Among all) (facts_of profile.marks v at p a) (facts_from profile.marks (visible_after v p a) (position_after at p a) ps more) h in
-    all_both (Placed profile.marks all) (facts_of profile.marks v at p a) _ (row_placed all (row profile v at p a) f.1 stands front)
-    (all_placed profile all (visible_after v p a) (position_after at p a) ps more (still_stands profile all v at p a stands f.1 front) f.2 (all_back (Among all) (facts_of profile.marks v at p a) _ h))
+    let first = row_placed all (row profile v at p a) f.1 stands in
+    let later = all_placed profile all (visible_after v p a) (position_after at p a) ps more in
+    grind (arith, all_front, all_back, all_both, first, still_stands profile all v at p a stands f.1, later)
 all_placed profile all v at ps answers stands f h = tt
 
 -- in a session that fits, what is said of numbers is said of groups that a 211 selected, whatever else is said

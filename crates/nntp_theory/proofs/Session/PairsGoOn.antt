@@ -29,9 +29,8 @@ pub permitted_next : (profile : Profile) (earlier : List Answered) (ps : List As
     ↔ MayFollow profile (visible_from start.visible ps answers) (position_from Nowhere ps answers) (facts_of_all profile.marks earlier ++ facts_of_session profile.marks ps answers) asked response
 permitted_next profile earlier ps answers asked response e small h =
     let qs = ps ++ asked ∷ [] in
-    let front = all_front (Runs profile h.0) earlier (of_these ps answers ∷ []) h.2 in
-    let own = run_longer profile h.0 start ps (asked ∷ []) answers (all_back (Runs profile h.0) earlier (of_these ps answers ∷ []) h.2).0 in
-    let g : SomePermitsEach profile (earlier ++ of_these qs answers ∷ []) = (h.0, h.1, all_both (Runs profile h.0) earlier (of_these qs answers ∷ []) front (own, tt)) in
+    let own = run_longer profile h.0 start ps (asked ∷ []) answers in
+    let g : SomePermitsEach profile (earlier ++ of_these qs answers ∷ []) = (h.0, h.1, grind (arith, all_front (Runs profile h.0), all_back (Runs profile h.0), all_both (Runs profile h.0), own)) in
     let more = permitted_more_behind profile earlier qs answers asked response (next_behind ps [] asked answers e) small g in
     grind (arith, visible_longer, position_longer, facts_longer)
 
@@ -40,8 +39,7 @@ pub facts_next : (how : Marks) (ps : List Asked) (answers : List Response) (aske
     → facts_of_session how (ps ++ asked ∷ []) (answers ++ response ∷ []) ≡ facts_of_session how ps answers ++ facts_of how
     (visible_from start.visible ps answers) (position_from Nowhere ps answers) asked response
 facts_next how ps answers asked response e =
-    let grows = facts_grow how start.visible Nowhere (ps ++ asked ∷ []) answers asked response (next_behind ps [] asked answers e) in
-    grind (arith, grows, facts_longer, visible_longer, position_longer)
+    grind (arith, facts_grow how start.visible Nowhere (ps ++ asked ∷ []) answers asked response, next_behind, facts_longer, visible_longer, position_longer)
 
 -- what is visible then
 pub visible_next : (ps : List Asked) (answers : List Response) (asked : Asked) (response : Response) → length ps ≡ length answers

@@ -117,13 +117,8 @@ module _ (P : Spool → Type 0) (profile : Profile) (client : ClientStream) (ser
   first_read : (n : ℕ) → n ≤ length r.answers → (front : List ℕ) × (rest : List ℕ) × Spelled (prompts_of client) (take n r.answers) front × (server ≡ front ++ rest)
       × (n < length r.answers → rest ≢ [])
   first_read n le =
-      let f = first_spelled (prompts_of client) r.answers r.spelled n r.is le in (
-        f.0,
-        f.1 ++ r.rest,
-        f.2,
-        r.whole ∙ ap (λ s. s ++ r.rest) f.3 ∙ append_assoc f.0 f.1 r.rest,
-        λ l e. omega (arith, f.4 l, ap length e, length-append f.1 r.rest),
-      )
+      let f = first_spelled (prompts_of client) r.answers r.spelled n r.is le in
+      (f.0, f.1 ++ r.rest, f.2, grind (arith, r.whole, f.3, append_assoc), λ l e. omega (arith, f.4 l, ap length e, length-append f.1 r.rest))
 
   -- whoever explains answer k permits the first of them
   explained_permits : (T : Spool) (k : ℕ) → k < length r.answers → (y : ExplainsFirst profile T client server k) → Run profile T start (prompts_of client) (take (k + 1) r.answers)
@@ -138,9 +133,7 @@ module _ (P : Spool → Type 0) (profile : Profile) (client : ClientStream) (ser
 
       by : (rest : List ℕ) → r.rest ≡ rest → ((S : Spool) × (n : ℕ) × P S × Explains profile S client server n) ⊎ ((k : ℕ) × BadAmong P profile client server k)
       by [] e = inl (S, length r.answers, p, subst (ExplainsUpTo profile S client server (length r.answers)) e up_to)
-      by (c ∷ cs) e =
-          let few = λ (T : Spool) (x : ExplainsFirst profile T client server (length r.answers)). r.longest x.1.answers x.1.octets x.0 x.1.spelled x.1.whole in
-          inr (length r.answers, ((S, r.rest, p, up_to, λ none. cc), λ T q x. omega (arith, x.1.count, few T x)))
+      by (c ∷ cs) e = inr (length r.answers, ((S, r.rest, p, up_to, λ none. cc), λ T q x. grind (arith, r.longest x.1.answers x.1.octets x.0 x.1.spelled x.1.whole)))
 
   -- one of them explains both streams, or an answer is bad
   pub explained_or_bad_among : SomeRuns [] → IsDecided → ((S : Spool) × (n : ℕ) × P S × Explains profile S client server n) ⊎ ((k : ℕ) × BadAmong P profile client server k)

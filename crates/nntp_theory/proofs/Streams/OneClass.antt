@@ -1,7 +1,7 @@
 -- The class of a bad answer: there is one, and octets that follow leave it where it is settled.
 use Rattle.std.proofs.Common.{◌≡◌, ℕ, ◌+◌, Bool, true, false, IsTrue, List, [], ◌∷◌, ◌++◌, length, Option, Some, inl, inr, refl, sym, ap, subst, ◌∙◌, arith}
 use Rattle.std.proofs.{Common.{append_assoc}, lemmas.{List.{append_cancel_left, append-nil}, Bool.{cases_Bool, true≢false}}}
-use Rattle.nntp_wire.specs.{Answer.{Asked, Response, Spells}, Frame.{HasFrame, frame_octets}, Session.{prompts_of, Spelled, ClientStream, further}}
+use Rattle.nntp_wire.specs.{Answer.{Asked, Response, Spells}, Frame.{frame_octets}, Session.{prompts_of, Spelled, ClientStream, further}}
 use Rattle.nntp_wire.proofs.{SpellLemmas.{spelling-frame, one-frame}, SpellsDecided.{one-spelling, dec_spelling}, FramesDecided.{dec_frame, frame-longer}}
 use Rattle.nntp_article.specs.Session.{Spool.{Spool}, Machine.{Visible, State, Run, start, fits}, Explains.{ExplainsUpTo, ExplainsFirst, BadAmong}}
 use Rattle.nntp_article.specs.declared.session.profile.Profile.{Profile}
@@ -86,8 +86,7 @@ not_cut profile v asked octets b none a = grind (arith, spelling-frame asked a.r
 pub not_malformed : (profile : Profile) (v : Visible) (asked : Asked) (octets : List ℕ) (b : Bool) → IsMalformed asked octets → BeginsWithAnswer profile v asked octets b → ⊥
 not_malformed profile v asked octets b m a =
     let f = spelling-frame asked a.response a.front a.rest a.spells in
-    let same = one-frame asked octets f.0 m.initial f.1 m.block a.rest m.rest (subst (λ o. HasFrame asked o f.0 f.1 a.rest) (sym a.whole) f.3) m.frame in
-    m.nothing a.response (subst (Spells asked a.response) (sym f.2 ∙ (λ i. frame_octets (same.0 i) (same.1 i))) a.spells)
+    grind (arith, f, one-frame asked octets f.0 m.initial f.1 m.block a.rest m.rest, m.nothing a.response)
 
 -- one answer fits, or it doesn't
 one_fitting : (profile : Profile) (v : Visible) (asked : Asked) (octets : List ℕ) → BeginsWithAnswer profile v asked octets true → BeginsWithAnswer profile v asked octets false → ⊥
@@ -151,9 +150,7 @@ before_longer client server more_client more_server k b = grind (arith, prompts_
 visible_stays : (client : ClientStream) (server more_client : List ℕ) (k : ℕ) (b : AnswersFirst client server k)
     → visible_from start.visible (prompts_of (further client more_client)) b.answers ≡ left_visible client server k b
 visible_stays client server more_client k b =
-    let q = prompts_joined client more_client in
-    let few = spelled_count (prompts_of client) b.answers b.octets b.spelled in
-    ap (λ ps. visible_from start.visible ps b.answers) q.1 ∙ visible_longer start.visible (prompts_of client) q.0 b.answers few
+    grind (arith, prompts_joined client more_client, spelled_count (prompts_of client) b.answers b.octets b.spelled, visible_longer start.visible (prompts_of client))
 
 malformed_longer : (asked : Asked) (octets more : List ℕ) → IsMalformed asked octets → IsMalformed asked (octets ++ more)
 malformed_longer asked octets more m = grind (arith, frame-longer, true≢false, cases_Bool, append_assoc)
@@ -201,8 +198,7 @@ module _ (profile : Profile) (client : ClientStream) (server more_client more_se
       let q = prompts_joined client more_client in
       let v = left_visible client server k b in
       let there = class_longer v.closed profile v (prompts_of client) q.0 b.answers b.rest more_server class (settled_by profile client server k class h s) h.is_class in
-      let same = visible_stays client server more_client k b in
-      record { before = before_longer client server more_client more_server k b; is_class = grind (arith, same, q.1, there) }
+      record { before = before_longer client server more_client more_server k b; is_class = grind (arith, visible_stays client server more_client k b, q.1, there) }
 
   -- who explains one answer more of the longer streams explains it of the shorter ones
   explains_shorter : (T : Spool) → (ExplainsFirst profile T client server k → ⊥) → ExplainsFirst profile T (further client more_client) (server ++ more_server) k → ⊥
@@ -235,39 +231,19 @@ module _ (profile : Profile) (client : ClientStream) (server more_client more_se
           let few = asked_count (prompts_of client) b.answers asked e in
           let count = y.count in
           let kept = b.count in
-          none (
-            a.rest,
-            record {
-              is_spool = y.is_spool;
-              answers = y.answers;
-              octets = b.octets ++ a.front;
-              count = y.count;
-              run = run_shorter profile T start (prompts_of client) q.0 y.answers (omega arith) (subst (λ ps. Run profile T start ps y.answers) q.1 y.run);
-              spelled = subst (λ answers. Spelled (prompts_of client) answers (b.octets ++ a.front)) (sym answers)
-                  (spelled_snoc (prompts_of client) b.answers b.octets a.front asked a.response b.spelled e a.spells);
-              whole = b.whole ∙ ap (λ o. b.octets ++ o) a.whole ∙ sym (append_assoc b.octets a.front a.rest);
-            },
-          )
+          let run = run_shorter profile T start (prompts_of client) q.0 y.answers (omega arith) (subst (λ ps. Run profile T start ps y.answers) q.1 y.run) in
+          let spelled = spelled_snoc (prompts_of client) b.answers b.octets a.front asked a.response b.spelled e a.spells in
+          let explained : ExplainsUpTo profile T client server (k + 1) a.rest =
+          search (arith, run, subst (λ answers. Spelled (prompts_of client) answers (b.octets ++ a.front)) (sym answers) spelled, y.is_spool, y.count, b.whole, a.whole, append_assoc) in
+          none (a.rest, explained)
       by closed next e c = grind arith
 
   -- the answer is still bad among the same spools
   pub bad_stays : (P : Spool → Type 0) → BadAmong P profile client server k → BadAmong P profile (further client more_client) (server ++ more_server) k
   bad_stays P ((S, rest, p, x, some), none) =
-      let q = prompts_joined client more_client in (
-        (
-          S,
-          rest ++ more_server,
-          p,
-          record {
-            is_spool = x.is_spool;
-            answers = x.answers;
-            octets = x.octets;
-            count = x.count;
-            run = subst (λ ps. Run profile S start ps x.answers) (sym q.1) (run_longer profile S start (prompts_of client) q.0 x.answers x.run);
-            spelled = subst (λ ps. Spelled ps x.answers x.octets) (sym q.1) (spelled_longer (prompts_of client) q.0 x.answers x.octets x.spelled);
-            whole = ap (λ o. o ++ more_server) x.whole ∙ append_assoc x.octets rest more_server;
-          },
-          some-stay rest more_server some,
-        ),
-        λ T p. explains_shorter T (none T p),
-      )
+      let q = prompts_joined client more_client in
+      let run = run_longer profile S start (prompts_of client) q.0 x.answers x.run in
+      let spelled = spelled_longer (prompts_of client) q.0 x.answers x.octets x.spelled in
+      let longer : ExplainsUpTo profile S (further client more_client) (server ++ more_server) k (rest ++ more_server) =
+      search (arith, q.1, run, spelled, x.is_spool, x.count, x.whole, append_assoc) in
+      ((S, rest ++ more_server, p, longer, some-stay rest more_server some), λ T p. explains_shorter T (none T p))

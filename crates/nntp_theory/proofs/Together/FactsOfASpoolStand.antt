@@ -5,12 +5,12 @@ use Rattle.nntp_theory.{proofs.GivenNumbers.{MetNumbersStand.{asks_stand}, Asked
 use Rattle.nntp_theory.specs.Given.{first_given, id_of_overview, id_in, id_shown, has_overview_of, head_in, fields_of_overview, fields_in, body_in}
 use Rattle.nntp_theory.specs.{Inner.Together.{IsProperOverview, IsWellFormed, TellsOwn, AgreesWithItself, Together}, Together.{denies_group}}
 use Rattle.nntp_theory.specs.Together.{number_of_overview, number_in, shows_article, denies_article, GiveOne}
-use Rattle.std.proofs.Common.{◌≡◌, ℕ, ◌↔◌, Bool, true, cond, IsTrue, List, [], ◌∷◌, ◌++◌, map, Option, None, Some, is_some, IsSome, refl, sym, ap, subst, ◌∙◌}
-use Rattle.std.proofs.{Common.{arith}, lemmas.Bool.{true≢false, and_parts, eqb-true, eq-eqb, false_from_ne_true, not-true}}
-use Rattle.std.{proofs.lemmas.List.Elements.{recursion_from_All}, specs.{Prelude.{IfSome, option_map}, List.{AllByRecursion, list_any}, Option.{option_map_or}}}
-use Rattle.std.specs.{Cmp.Lexicographic.{same_text, nat_list_eq_equiv}, FinMap.{get}}
-use Rattle.nntp_article.specs.{Article.{Parts.{Line, Id, head_part, body_part}, Fields.{fields_of_head}}, Session.Spool.{Spool, Text, IsGroup, numbers}}
-use Rattle.nntp_article.specs.{Session.{Spool.{IsSpool, HasText, text_of, is_line, Name}, Machine.{is_same, HasOverview}}, Inner.Fields.{AreWords}}
+use Rattle.std.proofs.Common.{◌≡◌, ℕ, ◌↔◌, Bool, true, cond, IsTrue, List, ◌++◌, map, Option, None, Some, is_some, IsSome, refl, sym, ap, subst, ◌∙◌, arith}
+use Rattle.std.proofs.lemmas.{Bool.{true≢false, and_parts, eqb-true, eq-eqb, false_from_ne_true, not-true}, List.Elements.{recursion_from_All}}
+use Rattle.std.specs.{Prelude.{IfSome, option_map}, List.{AllByRecursion, list_any}, Option.{option_map_or}, Cmp.Lexicographic.{same_text, nat_list_eq_equiv}}
+use Rattle.std.specs.FinMap.{get}
+use Rattle.nntp_article.specs.{Article.{Parts.{Line, Id, body_part}, Fields.{fields_of_head}}, Session.Spool.{Spool, Text, IsGroup, numbers, IsSpool, HasText}}
+use Rattle.nntp_article.specs.{Session.{Spool.{text_of, is_line, Name}, Machine.{is_same, HasOverview}}, Inner.Fields.{AreWords}}
 use Rattle.nntp_article.proofs.ArticleLemmas.{HeadHasNoEmptyLine.{parts}, WordsOfLines.{head_has_words}}
 use Rattle.nntp_wire.specs.{Listing.{Fields, ActiveValue, OverviewValue}, Wildmat.{MatchesName}, Decided.{matches_name}, Name.{IsGroupName}}
 use Rattle.nntp_wire.{specs.declared.command.What.{What, TheVariants.{Article}}, proofs.DecidedLemmas.{matches_name-iff}}
@@ -92,18 +92,12 @@ module _ (limit : ℕ) (S : Spool) (facts : List Fact) (spool : IsSpool limit S)
   article_by_one : (id : Id) (fact : Fact) → Holds S fact → shows_article id fact ≡ true → IsSome (get S.articles id)
   article_by_one id (IdAt name n other) h t = grind (arith, same_text other id, spool.ids_have_articles name n other h)
   article_by_one id (TextIs what other lines) h t = grind (arith, same_text other id, article_of what other lines h)
-  article_by_one id (FieldsAre os) h t = overview_has id os h t
-  article_by_one id (OverviewsAre name r os) h t = overview_has id os (all_from (HasOverview S) os (λ o i. (all_at _ o os h.1 i).1)) t
-  article_by_one id fact h t = cc
+  article_by_one id fact h t = grind (arith, overview_has, all_from, all_at)
 
   -- and isn't denied
   article_denied : (id : Id) (fact : Fact) → Holds S fact → IsSome (get S.articles id) → denies_article id fact ≡ true → ⊥
   article_denied id (NoArticle other) h there t = grind (arith, same_text other id)
   article_denied id fact h there t = cc
-
-  -- the parts of an article that is sent
-  parts_of : (id : Id) (t : Text) (lines : List Line) → get S.articles id ≡ Some t → Some (t.head ++ [] ∷ t.body) ≡ Some lines → (t.head ≡ head_part lines) × (t.body ≡ body_part lines)
-  parts_of id t lines e same = grind (arith, parts t.head t.body (spool.heads id t e).0)
 
   -- S has an article of the id, with a part that is these lines
   HasPart : (Text → List Line) → Id → List Line → Type 0
@@ -117,14 +111,14 @@ module _ (limit : ℕ) (S : Spool) (facts : List Fact) (spool : IsSpool limit S)
 
   -- a head that one fact gives is S's
   head_by_one : (id : Id) (lines : List Line) (fact : Fact) → Holds S fact → head_in id fact ≡ Some lines → HasPart (λ t. t.head) id lines
-  head_by_one id lines (TextIs Article other (Some ls)) h e = grind (arith, article_of, has_part, parts_of)
+  head_by_one id lines (TextIs Article other (Some ls)) h e = grind (arith, article_of, has_part, parts)
   head_by_one id lines fact h e = grind (arith, article_of, has_part)
 
   -- and a body
   body_by_one : (id : Id) (lines : List Line) (fact : Fact) → Holds S fact → body_in id fact ≡ Some lines → HasPart (λ t. t.body) id lines
   body_by_one id lines (TextIs Article other (Some ls)) h e =
       let a = article_of Article other (Some ls) h in
-      has_part (λ t. t.body) id other a.0 (body_part ls) lines a.1 (parts_of other a.0 ls a.1 a.2).1 (is_same other id) refl e
+      has_part (λ t. t.body) id other a.0 (body_part ls) lines a.1 (grind (arith, a, parts a.0.head a.0.body)) (is_same other id) refl e
   body_by_one id lines fact h e = grind (arith, article_of, has_part)
 
   -- S has an article of the id, whose head tells this
@@ -140,7 +134,7 @@ module _ (limit : ℕ) (S : Spool) (facts : List Fact) (spool : IsSpool limit S)
   fields_by_one : (id : Id) (fields : Fields) (fact : Fact) → Holds S fact → fields_in id fact ≡ Some fields → HasFields id fields
   unfolding HasPart HasFields
   fields_by_one id fields (FieldsAre os) h e = fields_by_overviews id fields os h e
-  fields_by_one id fields (OverviewsAre name r os) h e = fields_by_overviews id fields os (all_from (HasOverview S) os (λ o i. (all_at _ o os h.1 i).1)) e
+  fields_by_one id fields (OverviewsAre name r os) h e = grind (arith, fields_by_overviews id fields os, all_from, all_at)
   fields_by_one id fields fact h e = by_head (head_in id fact) refl e
     where
       some_same : {x y : Fields} → Some x ≡ Some y → x ≡ y
@@ -179,8 +173,7 @@ module _ (limit : ℕ) (S : Spool) (facts : List Fact) (spool : IsSpool limit S)
   sent_lines : (what : What) (id : Id) (t : Text) (lines : Option (List Line)) → get S.articles id ≡ Some t
       → text_of what t ≡ lines → IfSome lines (λ lines. AllByRecursion (λ line. IsTrue (is_line line)) lines)
   sent_lines what id t lines e same =
-      let whole = recursion_from_All (λ line. IsTrue (is_line line)) (t.head ++ t.body) (spool.heads id t e).1 in
-      grind (arith, whole, all_front, all_back, all_both)
+      grind (arith, recursion_from_All (λ line. IsTrue (is_line line)) (t.head ++ t.body) (spool.heads id t e).1, all_front, all_back, all_both)
 
   -- the id and the words of an overview are S's
   proper : (o : OverviewValue) → HasOverview S o → IsProperOverview o
@@ -196,18 +189,14 @@ module _ (limit : ℕ) (S : Spool) (facts : List Fact) (spool : IsSpool limit S)
       all_from (λ line. IsGroupName line.name) lines
       (λ line i. spool.names line.name ((h.0 line.name).0
       (contains_in line.name (map (λ line. line.name) lines) (in_map (λ line. line.name) line lines i))).0)
-  well_formed (FieldsAre os) h = all_from IsProperOverview os (λ o i. proper o (all_at (HasOverview S) o os h i))
-  well_formed (OverviewsAre name r os) h = all_from IsProperOverview os (λ o i. proper o (all_at _ o os h.1 i).1)
-  well_formed fact h = grind (arith, article_of, sent_lines)
+  well_formed fact h = grind (arith, all_from, proper, all_at, article_of, sent_lines)
 
   -- overviews tell of an id what its article tells
   fields_given : (os : List OverviewValue) → AllByRecursion (HasOverview S) os → (o : OverviewValue) → In o os → TellsOwn os o
   unfolding HasFields
-  fields_given os h o i = if_some o.told _ (λ fields e.
-      let z = first_there (fields_of_overview o.id) os o fields i (grind (arith, same_itself)) in
-      let t = overview_text o (all_at (HasOverview S) o os h i) in
-      let tells = at_some (λ fields. fields_of_head t.0.head ≡ fields) o.told fields e t.2 in
-      z.1 ∙ ap Some (fields_once o.id z.0 fields (fields_by_overviews o.id z.0 os h z.1) (t.0, t.1, tells)))
+  fields_given os h o i =
+      let first = first_there (fields_of_overview o.id) os o in
+      grind (arith, first, same_itself, overview_text o, all_at (HasOverview S) o os h i, fields_once o.id, fields_by_overviews)
 
   -- overviews agree with one another, as S has one id at a number, and one number for an id
   agrees_with_itself : (fact : Fact) → Holds S fact → AgreesWithItself fact

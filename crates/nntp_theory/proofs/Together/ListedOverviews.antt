@@ -1,6 +1,6 @@
 -- What overviews of a range give: an id at a number, a number for an id.
-use Rattle.std.proofs.{Common.{◌≡◌, ℕ, true, cond, IsTrue, List, [], ◌∷◌, Option, Some, None, inl, inr, refl, arith}, lemmas.Bool.{and_parts, eqb-true}}
-use Rattle.std.{proofs.lemmas.Bool.{not-true}, specs.Cmp.Lexicographic.{same_text, nat_list_eq_equiv}}
+use Rattle.std.proofs.{Common.{◌≡◌, ℕ, cond, IsTrue, List, [], ◌∷◌, Option, Some, None, inl, refl, arith}, lemmas.Bool.{and_parts, eqb-true, not-true}}
+use Rattle.std.specs.Cmp.Lexicographic.{same_text, nat_list_eq_equiv}
 use Rattle.nntp_wire.specs.{Listing.{OverviewValue, Fields}, declared.range.Range.{Range}}
 use Rattle.nntp_article.specs.{Article.Parts.{Id}, Session.{Spool.{Name}, Machine.{is_same, is_ascending, all_differ, overview_numbers, overview_ids}}}
 use Rattle.nntp_said.specs.Facts.{FieldsAre, OverviewsAre}
@@ -40,15 +40,13 @@ told_by os id fields e = grind (arith, first_found, same_text)
 -- where numbers ascend, the first overview at the number of one is that one
 id_there : (os : List OverviewValue) (o : OverviewValue) → IsTrue (is_ascending (overview_numbers os)) → In o os → first_given (id_of_overview o.number) os ≡ Some o.id
 id_there [] o up i = absurd i
-id_there (p ∷ os) o up (inl e) = grind arith
-id_there (p ∷ os) o up (inr i) = grind (arith, and_parts, each_of, in_map, id_there os o)
+id_there (p ∷ os) o up i = grind (arith, and_parts, each_of, in_map, id_there os o)
 
 -- where ids differ, the first overview with the id of one is that one
 own_there : {A : Type 0} (says : OverviewValue → Option A) (os : List OverviewValue) (o : OverviewValue) (x : A) → says o ≡ Some x → IsTrue (all_differ (overview_ids os))
     → In o os → first_given (λ p. cond (is_same p.id o.id) (says p) None) os ≡ Some x
 own_there says [] o x is differ i = absurd i
-own_there says (p ∷ os) o x is differ (inl e) = let same : is_same o.id o.id ≡ true = nat_list_eq_equiv.refl o.id in grind (arith, same)
-own_there says (p ∷ os) o x is differ (inr i) = grind (arith, and_parts, each_of, in_map, not-true, own_there says os o x is)
+own_there says (p ∷ os) o x is differ i = grind (arith, nat_list_eq_equiv.refl o.id, and_parts, each_of, in_map, not-true, own_there says os o x is)
 
 own_fields : (os : List OverviewValue) (o : OverviewValue) → IsTrue (all_differ (overview_ids os)) → In o os → TellsOwn os o
 own_fields os o differ i = if_some o.told _ (λ fields e. own_there (λ o. o.told) os o fields e differ i)

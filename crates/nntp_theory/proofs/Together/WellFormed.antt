@@ -1,11 +1,11 @@
 -- What octets spell is well formed.
 use Rattle.nntp_wire.specs.{declared.marks.Marks.{Marks}, Octets.{crlf}, Inner.Octets.{are_octets}, Name.{IsGroupName, IsMessageId}, Block.{stuffed, sent}}
-use Rattle.nntp_wire.specs.{Block.{AreClean}, Listing.{OverviewValue, active_groups, overviews_of}, Answer.{Asked, Response, group_is, numbers_are, sends}}
-use Rattle.nntp_wire.specs.Answer.{active_are, plain, Spells, SaysByLines, SaysGroup, SaysNumbers, SaysArticle, SaysActive, SaysOverviews, SaysIds}
-use Rattle.nntp_wire.{specs.Answer.{SaysCapabilities, SaysCode, block_octets, IsCleanBlock, overviews_are}, proofs.AnswerLemmas.{says-ways}}
-use Rattle.nntp_wire.proofs.{OctetLemmas.{octets-parts}, ListingLemmas.{active_groups-named, overviews_of-named}}
-use Rattle.std.{proofs.Common.{◌≡◌, ℕ, true, IsTrue, List, [], ◌∷◌, ◌++◌, ◌⊎◌, Option, Some, arith}, specs.{Prelude.{IfSome, ⊤}, List.{AllByRecursion}}}
-use Rattle.nntp_article.specs.{Session.{Spool.{is_line}, Machine.{Visible, only}}, declared.session.profile.Profile.{Profile}}
+use Rattle.nntp_wire.specs.{Block.{AreClean}, Listing.{active_groups, overviews_of}, Answer.{Asked, Response, group_is, numbers_are, sends, active_are, plain}}
+use Rattle.nntp_wire.specs.Answer.{Spells, SaysByLines, SaysGroup, SaysNumbers, SaysArticle, SaysActive, SaysOverviews, SaysIds, SaysCapabilities, SaysCode}
+use Rattle.nntp_wire.{specs.Answer.{overviews_are}, proofs.{AnswerLemmas.{says-ways}, OctetLemmas.{octets-parts}, ListingLemmas.{active_groups-named}}}
+use Rattle.nntp_wire.proofs.ListingLemmas.{overviews_of-named}
+use Rattle.std.{proofs.Common.{◌≡◌, ℕ, true, IsTrue, List, [], ◌∷◌, ◌++◌, ◌⊎◌, Option, arith}, specs.{Prelude.{IfSome, ⊤}, List.{AllByRecursion}}}
+use Rattle.nntp_article.specs.{Session.{Spool.{is_line}, Machine.{Visible}}, declared.session.profile.Profile.{Profile}}
 use Rattle.nntp_article.proofs.ArticleLemmas.WordsOfLines.{overview_has_words}
 use Rattle.nntp_said.{specs.{declared.position.Position.{Position}, Facts.{Fact, facts_of}}, proofs.Rows.{Row, row}}
 use Rattle.nntp_theory.{specs.Inner.Together.{IsProperOverview, IsWellFormed}, proofs.Members.{all_at, all_from}}
@@ -14,10 +14,6 @@ use Rattle.nntp_theory.{specs.Inner.Together.{IsProperOverview, IsWellFormed}, p
 sent_lines : (lines : List (List ℕ)) → AreClean lines → are_octets (sent lines) ≡ true → AllByRecursion (λ line. IsTrue (is_line line)) lines
 sent_lines [] clean h = tt
 sent_lines (line ∷ lines) clean h = grind (arith, octets-parts, sent_lines lines clean.1 (octets-parts (stuffed line ++ crlf) (sent lines) h).1)
-
--- and so those of a block
-block_lines : (block : Option (List (List ℕ))) → IsCleanBlock block → are_octets (block_octets block) ≡ true → IfSome block (λ lines. AllByRecursion (λ line. IsTrue (is_line line)) lines)
-block_lines block clean h = grind (arith, sent_lines, octets-parts)
 
 -- names, ids and lines of the response are such
 abbrev IsProper : Response → Type 0
@@ -28,10 +24,6 @@ IsProper (active_are lines) = AllByRecursion (λ line. IsGroupName line.name) (a
 IsProper (overviews_are lines) = AllByRecursion IsProperOverview (overviews_of lines)
 IsProper (plain code) = ⊤
 
--- overviews of lines have proper ids and words
-proper_overviews : (lines : List (List ℕ)) → AllByRecursion (λ line. IsTrue (is_line line)) lines → AllByRecursion IsProperOverview (overviews_of lines)
-proper_overviews lines h = grind (arith, all_from, all_at, overviews_of-named, overview_has_words)
-
 -- so are those of one that octets and a block say, in whatever way
 said_proper : (code : ℕ) (bytes : List ℕ) (block : Option (List (List ℕ))) (response : Response) → IfSome block (λ lines. AllByRecursion (λ line. IsTrue (is_line line)) lines)
     → SaysGroup bytes response ⊎ (SaysByLines (SaysNumbers bytes) block response
@@ -40,19 +32,15 @@ said_proper : (code : ℕ) (bytes : List ℕ) (block : Option (List (List ℕ)))
     ⊎ (SaysByLines SaysOverviews block response ⊎ (SaysByLines SaysIds block response
     ⊎ (SaysByLines (SaysCapabilities code) block response ⊎ SaysCode code response))))))
     → IsProper response
-said_proper code bytes block response lines h = grind (arith, active_groups-named, proper_overviews)
+said_proper code bytes block response lines h = grind (arith, active_groups-named, all_from, all_at, overviews_of-named, overview_has_words)
 
 -- and of one that they spell
 spelled_proper : (asked : Asked) (response : Response) (bytes : List ℕ) → Spells asked response bytes → are_octets bytes ≡ true → IsProper response
-spelled_proper asked response bytes s h = grind (arith, said_proper, block_lines, octets-parts, says-ways)
-
--- the only one is among them
-only_proper : (os : List OverviewValue) (o : OverviewValue) → only os ≡ Some o → AllByRecursion IsProperOverview os → IsProperOverview o
-only_proper os o e proper = grind arith
+spelled_proper asked response bytes s h = grind (arith, said_proper, octets-parts, says-ways, sent_lines)
 
 -- a row of such a response is well formed
 row_formed : {profile : Profile} {v : Visible} {at : Position} {Fits : Type 0} {a : Response} {facts : List Fact} → Row profile v at Fits a facts → IsProper a → AllByRecursion IsWellFormed facts
-row_formed r h = grind (arith, only_proper)
+row_formed r h = grind arith
 
 -- what octets spell says well-formed facts
 pub spelled_formed : (how : Marks) (v : Visible) (at : Position) (asked : Asked) (response : Response) (bytes : List ℕ)

@@ -2,8 +2,8 @@ use Rattle.std.{proofs.{Common.{[], ◌∷◌, Some, sym, ap, subst, ◌∙◌},
 use Rattle.nntp_article.specs.Inner.{Listed.{lists}, Fields.{TellsWords}}
 use Rattle.nntp_said.specs.Facts.{GroupsAre}
 use Rattle.nntp_theory.specs.Inner.Together.{IsWellFormed}
-use Rattle.nntp_facts.specs.Inner.{ListedGroups.{MayList}, Kept.{AreAdded}, KeptSaying.{MayListOf}, Saying.{overviews_facts}, SayingView.{active_said, of_group, saying_of}}
-use Rattle.nntp_facts.proofs.Keeping.NotedParts.{list_added, lists_none, overviews_added}
+use Rattle.nntp_facts.specs.Inner.{ListedGroups.{MayList}, Kept.{AreAdded}, KeptSaying.{MayListOf}, Saying.{overviews_facts}, SayingView.{active_said}}
+use Rattle.nntp_facts.{specs.Inner.SayingView.{of_group, saying_of}, proofs.Keeping.NotedParts.{list_added, lists_none, overviews_added}}
 use Rattle.nntp_facts.proofs.kept.Kept.note.Goals as goal
 
 pub returns-in-None-None : goal.returns-in-None-None
