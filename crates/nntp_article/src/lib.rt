@@ -10,4 +10,6 @@ pub use article::{
     Control, Field, FieldWords, Fields, Head, Header, Headers, Missing, Parts, ToldFields, content,
     control, lines_say, made_head, missing,
 };
-pub use session::{Listed, ListedOverviews, Misfit, Profile, Visible, is_article_number, is_generic_failure};
+pub use session::{
+    Listed, ListedOverviews, Misfit, Profile, Visible, is_article_number, is_generic_failure,
+};

@@ -5,7 +5,6 @@ pub mod CountedGroups
 pub mod FactsOfOneGroup
 pub mod FactsOfParts
 pub mod FactsSaid
-pub mod FittingAnswers
 pub mod GroupReaders
 pub mod HeldAnswers
 pub mod HeldIds
@@ -13,7 +12,6 @@ pub mod KeptArticles
 pub mod KeptGroups
 pub mod KeptIds
 pub mod KeptNames
-pub mod KeptNamesAndGroups
 pub mod ListedGroups
 pub mod ListedNames
 pub mod ListedOverviews

@@ -6,5 +6,4 @@ pub mod NumbersBeside
 pub mod ArticlesBeside
 pub mod FieldsBeside
 pub mod IdsBeside
-pub mod ListedBeside
 pub mod PointsChained

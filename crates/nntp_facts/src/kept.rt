@@ -95,7 +95,7 @@ impl<A: Allocator + Copy> Kept<A> {
             → (facts more : List Fact) → IsKept facts self.old → Together facts → AllByRecursion IsWellFormed more
             → Tells facts (saying_of saying.now) more → AreAdded facts more self.old self.new does) }
     {
-        match (&saying.groups, saying.listing()) {
+        match (&saying.groups, saying.group_of_overviews()) {
             (Some(list), _) => self.note_groups(list.wildmat, listed.groups()),
             (None, Some(group)) => self.note_overviews(group, listed.overviews()),
             (None, None) => self.note_parts(saying),

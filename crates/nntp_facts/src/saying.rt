@@ -10,8 +10,8 @@ ghost use Rattle.nntp_article.specs.Inner.Misfit.{numbers_of};
 ghost use Rattle.nntp_article.specs.Inner.Listed.{Lists, lists_of};
 ghost use Rattle.nntp_said.specs.Facts.{Fact as FactValue, Asks, FieldsAre, IdAt as IdIs, OverviewsAre, here, facts_of, group_of};
 ghost use Rattle.nntp_said.specs.Inner.FactView.{ask_of, fact_of};
-ghost use Rattle.nntp_facts.specs.Inner.Saying.{AreListed, IsSelectedShown, TellsHere, TellsThere, begun, listing, nothing, numbers_shown, saying_by};
-ghost use Rattle.nntp_facts.specs.Inner.Saying.{saying_with, with_ask};
+ghost use Rattle.nntp_facts.specs.Inner.Saying.{AreListed, IsSelectedShown, TellsHere, TellsThere, begun, group_of_overviews, nothing};
+ghost use Rattle.nntp_facts.specs.Inner.Saying.{numbers_shown, saying_by, saying_with, with_ask};
 ghost use Rattle.nntp_said.specs.Asks.{Bounds, Has};
 ghost use Rattle.nntp_numbers.specs.Inner.Part.{Says};
 ghost use Rattle.nntp_numbers.specs.Inner.PartView.{said};
@@ -287,8 +287,8 @@ impl<'s> Saying<'s> {
     }
 
     /// Returns the group of whose numbers overviews are said, if any are.
-    pub(crate) fn listing(&self) -> Option<&GroupPart<'s>>
-        ensures { option_map (λ group. of_group group.now) result ≡ listing (saying_of self.now) }
+    pub(crate) fn group_of_overviews(&self) -> Option<&GroupPart<'s>>
+        ensures { option_map (λ group. of_group group.now) result ≡ group_of_overviews (saying_of self.now) }
     {
         match (&self.overviews, &self.group) {
             (Some(_), Some(group)) => Some(group),

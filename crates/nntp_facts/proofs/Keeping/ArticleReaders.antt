@@ -1,8 +1,7 @@
 -- What is shown of the articles that are kept.
-use Rattle.std.proofs.Common.{◌≡◌, Bool, not, cond, IsTrue, List, [], ◌∷◌, map, Option, None, Some, refl, sym, ap, subst, ◌∙◌, arith}
-use Rattle.std.{proofs.lemmas.Bool.{true≢false}, specs.{List.{list_any, filter, AllByRecursion, Sorted.{IsStrictlySortedBy}}, declared.cmp.Ordering.{Ordering}}}
-use Rattle.std.specs.{declared.cmp.Ordering.TheVariants.{Less}, Ordering.{nat_cmp}, Cmp.{both_ways, Lexicographic.{slice_cmp, same_text}}, FinMap.{FinMap, get}}
-use Rattle.std.specs.FinMap.{entries, entries_sorted}
+use Rattle.std.proofs.{Common.{◌≡◌, Bool, not, IsTrue, List, [], ◌∷◌, map, Option, None, Some, refl, sym, ap, subst, ◌∙◌, arith}, lemmas.Bool.{true≢false}}
+use Rattle.std.specs.{List.{list_any, filter, AllByRecursion, Sorted.{IsStrictlySortedBy}}, declared.cmp.Ordering.{Ordering, TheVariants.{Less}}}
+use Rattle.std.specs.{Ordering.{nat_cmp}, Cmp.{both_ways, Lexicographic.{slice_cmp, same_text}}, FinMap.{FinMap, get, entries, entries_sorted}}
 use Rattle.nntp_article.specs.{Article.Parts.{Id}, Session.Machine.{is_same}}
 use Rattle.nntp_said.specs.Facts.{Fact}
 use Rattle.nntp_theory.{specs.{Together.{shows_article}, Inner.Together.{said_of}}, proofs.{Maps.{sorted_keys}, Members.{in_map, from_map, any_in, found_in}}}
@@ -17,19 +16,13 @@ module _ {K X : Type 0} (R : K → K → Ordering) (p : K × X → Bool) where
   -- what is below all keys is below those that are left
   below_left : (k : K) (es : List (K × X)) → AllByRecursion (λ y. R k y ≡ Less) (map (λ e. e.0) es) → AllByRecursion (λ y. R k y ≡ Less) (map (λ e. e.0) (filter p es))
   below_left k [] h = tt
-  below_left k (e ∷ es) h = by (p e) (below_left k es h.1)
-    where
-      by : (b : Bool) → AllByRecursion (λ y. R k y ≡ Less) (map (λ e. e.0) (filter p es)) → AllByRecursion (λ y. R k y ≡ Less) (map (λ e. e.0) (cond b (e ∷ filter p es) (filter p es)))
-      by b rest = grind arith
+  below_left k (e ∷ es) h = grind (arith, below_left k es h.1)
 
   -- keys that are left are in order
   sorted_left : (es : List (K × X)) → IsStrictlySortedBy R (map (λ e. e.0) es) → IsStrictlySortedBy R (map (λ e. e.0) (filter p es))
   unfolding IsStrictlySortedBy
   sorted_left [] h = tt
-  sorted_left (e ∷ es) h = by (p e) (sorted_left es h.1)
-    where
-      by : (b : Bool) → IsStrictlySortedBy R (map (λ e. e.0) (filter p es)) → IsStrictlySortedBy R (map (λ e. e.0) (cond b (e ∷ filter p es) (filter p es)))
-      by b rest = grind (arith, below_left)
+  sorted_left (e ∷ es) h = grind (arith, below_left e.0 es h.0, sorted_left es h.1)
 
 -- ---- the articles
 

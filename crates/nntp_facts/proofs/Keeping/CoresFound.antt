@@ -3,10 +3,10 @@ use Rattle.std.proofs.Common.{arith, zero, suc, ◌+◌, ◌^◌, ◌<◌, ◌�
 use Rattle.std.proofs.{Common.{List, [], ◌∷◌, ◌++◌, length, length-append, append-nil, append_assoc, take, get_or}, lemmas.Bool.{and_from, cases_lt}}
 use Rattle.std.{proofs.lemmas.List.{take_more}, specs.{Prelude.{MatchOption}, Bool.{then_some}, List.{AllByRecursion}}}
 use Rattle.nntp_article.specs.{Session.Machine.{is_ascending}, declared.session.profile.Profile.{Profile}}
-use Rattle.nntp_theory.specs.{Inner.{Given.{size}, Together.{Together}, Conflict.{FitsThere, AreFound, IsPartOfCore}}, Conflict.{Placed, told, told_with}}
-use Rattle.nntp_theory.{specs.Conflict.{SomeHas, below, IsFound}, proofs.Members.{In, all_at, all_from, in_front, in_back, in_cases, contains_in, in_contains}}
-use Rattle.nntp_theory.proofs.{Members.{every}, Given.FirstBadAnswer.{none_permitted}, Together.FactsOfASpoolStand.{stand}, Conflicts.{with_told}}
-use Rattle.nntp_theory.proofs.Conflicts.{told_together, fewer_places, core_step, core_done, found_in_each}
+use Rattle.nntp_theory.specs.{Inner.{Together.{Together}, Conflict.{FitsThere, AreFound, IsPartOfCore}}, Conflict.{Placed, told, told_with, SomeHas, below}}
+use Rattle.nntp_theory.{specs.Conflict.{IsFound}, proofs.Members.{In, all_at, all_from, in_front, in_back, in_cases, contains_in, in_contains, every}}
+use Rattle.nntp_theory.proofs.{Given.FirstBadAnswer.{none_permitted}, Together.FactsOfASpoolStand.{stand}, Conflicts.{with_told, told_together, fewer_places}}
+use Rattle.nntp_theory.proofs.Conflicts.{core_step, core_done, found_in_each}
 use Rattle.nntp_facts.specs.Inner.{Kept.{Kept}, Told.{AreTold, AreToldWith, PlacesTold}}
 
 -- ---- places
@@ -42,11 +42,7 @@ found_ascend Stand bound (j ∷ places) f = grind (arith, and_from, every, found
 -- so they are few
 found_few : (Stand : List ℕ → Type 0) (bound n : ℕ) (places : List ℕ) → bound ≤ n → AreFound Stand bound places → AllByRecursion (λ k. k < n) places → length places + bound ≤ n
 found_few Stand bound n [] le f there = omega (arith, le)
-found_few Stand bound n (j ∷ places) le f there =
-    let low = f.0 in
-    let high = there.0 in
-    let rest = found_few Stand (j + 1) n places (omega (arith, high)) f.2 there.1 in
-    omega (arith, low, rest)
+found_few Stand bound n (j ∷ places) le f there = omega (arith, f.0, found_few Stand (j + 1) n places (omega (arith, there.0)) f.2 there.1)
 
 -- ---- what is told
 
@@ -99,9 +95,7 @@ module _ (profile : Profile) (bad : Placed) (answers : List Placed) where
     -- what is told stands: some spool has it
     pub had : (places : List ℕ) (k : Kept) → length places < 2 ^ 66 → AreToldWith profile bad answers places k → SomeHas profile (told_with profile bad answers places)
     had places k few t =
-        let le = t.small in
-        let small : size (told_with profile bad answers places) < 2 ^ 210 = omega (arith, le, few) in
-        (told_together profile (told_with profile bad answers places) (with_told profile bad answers places fit fits) small).1 t.together
+        (told_together profile (told_with profile bad answers places) (with_told profile bad answers places fit fits) (omega (arith, t.small, few))).1 t.together
 
     module _ (bound : ℕ) (places : List ℕ) (within : bound ≤ length answers) (short : length answers < 2 ^ 64) (p : IsPartOfCore profile bad answers bound places) where
       -- those that are found are few

@@ -1,5 +1,5 @@
 -- How many groups that are listed are shown already: as many as are shown and match exactly if none is missing.
-use Rattle.std.proofs.Common.{◌≡◌, ℕ, Bool, true, ◌||◌, ◌&&◌, not, IsTrue, is_some, List, [], ◌∷◌, ◌++◌, length, Option, refl, sym, ap, subst, ◌∙◌, arith}
+use Rattle.std.proofs.Common.{◌≡◌, ℕ, Bool, true, ◌&&◌, not, IsTrue, is_some, List, [], ◌∷◌, ◌++◌, length, Option, refl, sym, ap, subst, ◌∙◌, arith}
 use Rattle.std.{proofs.lemmas.{Bool.{true≢false, and_parts, and_from}, Map.Views.{any-filter_same}}, specs.{Prelude.{◌↔◌, IsFalse}, List.{AllByRecursion}}}
 use Rattle.std.specs.{List.{list_any, list_all, filter}, Option.{option_map_or}, FinMap.{get}, Cmp.Lexicographic.{same_text, nat_list_eq_equiv}}
 use Rattle.nntp_wire.{specs.{Decided.{is_group_name, matches_name}, Inner.Decided.{is_asked}, Listing.{ActiveValue}}, proofs.DecidedLemmas.{group_name-iff}}
@@ -32,8 +32,7 @@ still_differ test (line ∷ lines) e =
 
 -- the names of the lines are compared the other way round
 listed_by : (lines : List ActiveValue) (name : Name) → list_any (λ line. is_same name line.name) lines ≡ is_listed lines name
-listed_by [] name = refl
-listed_by (line ∷ lines) name = λ i. nat_list_eq_equiv.symm name line.name i || listed_by lines name i
+listed_by lines name = λ i. list_any (λ line. nat_list_eq_equiv.symm name line.name i) lines
 
 -- ---- what was listed
 
@@ -41,10 +40,6 @@ module _ (facts : List Fact) (p : Option (List ℕ)) (t : Together facts) (befor
   -- a name that matches and isn't denied was listed
   was_listed : (name : Name) → option_map_or (λ w. matches_name w name) p true ≡ true → IsFalse (list_any (denies_group name) facts) → is_listed before name ≡ true
   was_listed name matching free = grind (arith, and_from, true≢false, any_in)
-
-  -- a group that was listed is shown
-  was_shown : (name : Name) → is_listed before name ≡ true → is_shown_group facts name ≡ true
-  was_shown name there = any_in (shows_group name) (GroupsAre p before) facts said there
 
 -- a name that is listed matches, if each line does
 listed_matches : (p : Option (List ℕ)) (lines : List ActiveValue) → AllByRecursion (λ line. IsTrue (option_map_or (λ w. matches_name w line.name) p true)) lines
@@ -86,7 +81,8 @@ module _ (facts : List Fact) (groups : Groups) (kept : AreKeptGroups facts group
   were_asked count were =
       let said = in_contains (GroupsAre p were.lines) facts were.said in
       sym were.counted
-      ∙ sym (as_many_listed were.lines were.may.differ (λ name there. (was_shown facts p t were.lines said name there, listed_matches p were.lines were.may.matching name there))
+      ∙ sym (as_many_listed were.lines were.may.differ
+      (λ name there. (any_in (shows_group name) (GroupsAre p were.lines) facts said there, listed_matches p were.lines were.may.matching name there))
       (λ name shown matching. was_listed facts p t were.lines said name matching (t.groups name shown)))
 
   -- as many that are listed are shown, exactly if none is missing

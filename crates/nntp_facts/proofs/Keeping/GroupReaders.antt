@@ -1,7 +1,8 @@
 -- What is shown of the groups that are kept.
-use Rattle.std.{proofs.Common.{◌≡◌, Bool, ◌==◌, ◌||◌, List, [], ◌∷◌, map, Some, refl, sym, ap, subst, ◌∙◌, arith}, specs.List.{list_any, AllByRecursion}}
-use Rattle.std.specs.{List.Sorted.{IsStrictlySortedBy}, BTreeMap.{is_at}, Ordering.{nat_cmp, eq_by_cmp}, Cmp.Lexicographic.{slice_cmp, nat_list_cmp_total}}
-use Rattle.std.specs.FinMap.{FinMap, get, entries, entries_sorted, contains_key-keys, IsAntisymmetric, slice_cmp-IsAntisymmetric, nat_cmp-IsAntisymmetric}
+use Rattle.std.proofs.{Common.{◌≡◌, Bool, ◌==◌, ◌||◌, List, [], ◌∷◌, map, Some, refl, sym, ap, subst, ◌∙◌, arith}, lemmas.List.{map-id}}
+use Rattle.std.specs.{List.{list_any, AllByRecursion, Sorted.{IsStrictlySortedBy}}, BTreeMap.{is_at}, Ordering.{nat_cmp, eq_by_cmp}}
+use Rattle.std.specs.{Cmp.Lexicographic.{slice_cmp, nat_list_cmp_total}, FinMap.{FinMap, get, entries, entries_sorted, contains_key-keys}}
+use Rattle.std.specs.FinMap.{slice_cmp-IsAntisymmetric, nat_cmp-IsAntisymmetric}
 use Rattle.nntp_article.specs.Session.{Spool.{Name}, Machine.{is_same}}
 use Rattle.nntp_said.specs.Facts.{Fact}
 use Rattle.nntp_theory.{specs.{Given.{asks_of}, Inner.Together.{AsksStand}}, proofs.{Maps.{sorted_keys, in_get}, Members.{In, all_from, from_map}}}
@@ -26,20 +27,15 @@ any_along f h p q (x ∷ xs) same = λ i. same x i || any_along f h p q xs same 
 pub all_along : {A C : Type 0} (P : A → Type 0) (f : C → A) (xs : List C) → ((x : C) → In x xs → P (f x)) → AllByRecursion P (map f xs)
 all_along P f xs each = all_from P (map f xs) (λ y i. let g = from_map f y xs i in subst P g.2 (each g.0 g.1))
 
--- a list as it is
-map_same : {A : Type 0} (xs : List A) → map (λ x. x) xs ≡ xs
-map_same [] = refl
-map_same (x ∷ xs) = ap (λ ys. x ∷ ys) (map_same xs)
-
 -- ---- one group
 
 module _ (facts : List Fact) (name : Name) (g : KeptGroup) (stand : AsksStand (asks_of name facts)) (kept : IsKeptGroup (told facts name) g) where
   -- its numbers, each with its id
   shown_numbers : AreShownNumbers facts name (with_ids g g.numbers.shown)
   shown_numbers = record {
-    ascending = subst (IsStrictlySortedBy nat_cmp) (sym (read_off (λ n. (n, get g.ids n)) (λ e. e.0) (λ n. n) g.numbers.shown (λ n. refl) ∙ map_same g.numbers.shown)) kept.numbers.ascends;
+    ascending = subst (IsStrictlySortedBy nat_cmp) (sym (read_off (λ n. (n, get g.ids n)) (λ e. e.0) (λ n. n) g.numbers.shown (λ n. refl) ∙ map-id g.numbers.shown)) kept.numbers.ascends;
     all = λ n. any_along (λ m. (m, get g.ids m)) (λ m. m) (λ e. e.0 == n) (is_at (nat_cmp n)) g.numbers.shown (λ m. sym (flip_number n m))
-        ∙ ap (list_any (is_at (nat_cmp n))) (map_same g.numbers.shown) ∙ kept.numbers.shown n;
+        ∙ ap (list_any (is_at (nat_cmp n))) (map-id g.numbers.shown) ∙ kept.numbers.shown n;
     ids = all_along (λ e. e.1 ≡ (told facts name).ids e.0) (λ n. (n, get g.ids n)) g.numbers.shown (λ n i. kept.ids n);
   }
 
@@ -57,11 +53,9 @@ groups_shown facts groups stand kept = record {
   all = λ name. any_along one (λ e. e.0) (λ g. is_same g.name name) (eq_by_cmp (slice_cmp nat_cmp) name) (entries groups) (λ e. sym (flip_text name e.0))
       ∙ sym (contains_key-keys groups name) ∙ shown_kept (told facts) groups name kept;
   each = all_along (HasShownNumbers facts) one (entries groups) (λ e i.
-      has_shown facts e.0 e.1 (stand e.0) (kept_of (told facts) groups e.0 (Some e.1) (in_get nat_list_cmp_total same groups e.0 e.1 i) kept));
+      let at = in_get nat_list_cmp_total (slice_cmp-IsAntisymmetric nat_cmp-IsAntisymmetric) groups e.0 e.1 i in
+      has_shown facts e.0 e.1 (stand e.0) (kept_of (told facts) groups e.0 (Some e.1) at kept));
 }
   where
     one : Name × KeptGroup → ShownGroup
     one e = shown_group e.0 e.1
-
-    same : IsAntisymmetric (slice_cmp nat_cmp)
-    same = slice_cmp-IsAntisymmetric nat_cmp-IsAntisymmetric

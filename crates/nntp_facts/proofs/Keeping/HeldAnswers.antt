@@ -1,12 +1,12 @@
 -- What is held of answers that conflict: all but the last of them stand together.
-use Rattle.std.proofs.Common.{◌≡◌, ℕ, ◌<◌, ◌≤◌, ◌^◌, List, [], ◌∷◌, ◌++◌, Option, None, Some, length, slice_get, Bool, IsTrue, true, arith, refl, sym, ap}
-use Rattle.std.{proofs.{Common.{subst, append-nil, inl, inr}, lemmas.Bool.{and_parts, Decides.{nat_tests}}}, specs.Prelude.{⊤, MatchOption, nat_lt}}
+use Rattle.std.proofs.Common.{◌≡◌, ℕ, ◌<◌, ◌≤◌, ◌^◌, List, [], ◌∷◌, ◌++◌, Option, None, Some, length, slice_get, Bool, IsTrue, arith, refl, sym, ap, subst}
+use Rattle.std.{proofs.{Common.{append-nil, length-append, inl, inr}, lemmas.Bool.{and_parts, Decides.{nat_tests}}}, specs.Prelude.{⊤, MatchOption, nat_lt}}
 use Rattle.std.specs.{List.{AllByRecursion, list_all}, Option.{option_map_or}}
 use Rattle.nntp_article.specs.{Session.Machine.{is_ascending}, declared.session.profile.Profile.{Profile}}
 use Rattle.nntp_pair.specs.Inner.Pairing.{lines_in}
 use Rattle.nntp_theory.specs.{Conflict.{Placed, SomeHas, IsCore, IsEndOfCore, IsFound, Core, places_of, below, told, told_with}, Inner.Conflict.{FitsThere}}
 use Rattle.nntp_theory.{specs.Inner.{Conflict.{HasLast}, Given.{size}, Together.{Together}}, proofs.Conflicts.{told_together, with_told, from_below}}
-use Rattle.nntp_theory.proofs.{Given.FirstBadAnswer.{size-append}, Members.{In, all_at, in_front, in_back, in_cases, in_contains, contains_in}}
+use Rattle.nntp_theory.proofs.{Given.FirstBadAnswer.{size-append}, Members.{In, all_at, each_of, in_front, in_back, in_cases, in_contains, contains_in}}
 use Rattle.nntp_facts.specs.Inner.{Kept.{Kept, IsKept}, Points.{Answers, AreHeld, with_numbers}, Told.{AreToldWith, PlacesTold}}
 use Rattle.nntp_facts.proofs.{Keeping.{CoresFound.{nothing_together}, ToldAnswers.{told_size, with_place, fits_at}}, PointsFound.PointsChained.{none_at_all}}
 
@@ -21,11 +21,7 @@ no_places (k ∷ places) e = absurd (omega (arith, e))
 last_of : (xs ys front : List ℕ) (k : ℕ) → 0 < length ys → xs ++ ys ≡ front ++ k ∷ [] → (ps : List ℕ) × (ys ≡ ps ++ k ∷ []) × (front ≡ xs ++ ps)
 last_of [] ys front k some e = (front, e, refl)
 last_of (x ∷ xs) [] front k some e = absurd (omega (arith, some))
-last_of (x ∷ xs) (y ∷ ys) [] k some e = absurd (none xs (cc))
-  where
-    none : (zs : List ℕ) → zs ++ y ∷ ys ≡ [] → ⊥
-    none [] e = cc
-    none (z ∷ zs) e = cc
+last_of (x ∷ xs) (y ∷ ys) [] k some e = absurd (omega (arith, ap length e, length-append xs (y ∷ ys)))
 last_of (x ∷ xs) (y ∷ ys) (f ∷ front) k some e =
     let rest : xs ++ y ∷ ys ≡ front ++ k ∷ [] = cc in
     grind (arith, last_of xs (y ∷ ys) front k some rest)
@@ -36,13 +32,9 @@ not_before [] k up i = absurd i
 not_before (j ∷ ps) k up i =
     let parts = and_parts (list_all (λ m. nat_lt j m) (ps ++ k ∷ [])) (is_ascending (ps ++ k ∷ [])) up in
     elim i [
-      | inl e ↦ (let l = below_last ps parts.0 in omega (arith, l, e))
+      | inl e ↦ (let l = each_of (λ m. nat_lt j m) (ps ++ k ∷ []) k parts.0 (in_back k ps (k ∷ []) (inl refl)) in grind (arith, nat_tests, l, e))
       | inr more ↦ not_before ps k parts.1 more
     ]
-  where
-    below_last : (ps : List ℕ) → IsTrue (list_all (λ m. nat_lt j m) (ps ++ k ∷ [])) → j < k
-    below_last [] up = let p = and_parts (nat_lt j k) true up in let l = p.0 in grind (arith, nat_tests, l)
-    below_last (q ∷ ps) up = below_last ps (and_parts (nat_lt j q) (list_all (λ m. nat_lt j m) (ps ++ k ∷ [])) up).1
 
 module _ (profile : Profile) (bad : Placed) (answers : List Placed) where
   -- what was found of a core, whole or cut short
@@ -111,11 +103,8 @@ module _ (profile : Profile) (bad : Placed) (answers : List Placed) (fits : AllB
     kept = kept;
     together = nothing_together profile;
     whole = sym (append-nil (told profile bad));
-    conflict = λ formed none. conflict (had [] small (none_at_all profile bad answers [] fits formed none));
+    conflict = λ formed none. conflict (had [] (grind (arith, told_size, append-nil)) (none_at_all profile bad answers [] fits formed none));
   }
-    where
-      small : size (told_with profile bad answers []) < 2 ^ 210
-      small = grind (arith, told_size, append-nil)
 
   -- of one that conflicts with others
   pub held_behind : (front : List ℕ) (k : ℕ) → (SomeHas profile (told_with profile bad answers (front ++ k ∷ [])) → ⊥) → (last : Placed) → slice_get answers k ≡ Some last
@@ -137,8 +126,4 @@ module _ (profile : Profile) (bad : Placed) (answers : List Placed) (fits : AllB
       whole = with_place profile bad answers front k (told profile last) (ap (λ o. option_map_or (told profile) o []) at)
 
       small : size (told_with profile bad answers (front ++ k ∷ [])) < 2 ^ 210
-      small = let one = told_size profile last few in
-          let both = size-append (told_with profile bad answers front) (told profile last) in
-          let others = told_front.small in
-          let le : size (told_with profile bad answers front ++ told profile last) < 2 ^ 210 = omega (arith, one, both, others, short) in
-          subst (λ facts. size facts < 2 ^ 210) whole le
+      small = grind (arith, told_size profile last few, size-append (told_with profile bad answers front) (told profile last), told_front.small, whole)

@@ -1,29 +1,24 @@
 -- What is kept of articles, and what once something is said of an id.
 use Rattle.std.proofs.Common.{◌≡◌, ◌↔◌, Bool, true, false, cond, ◌||◌, not, IsTrue, List, [], ◌∷◌, Option, None, Some, is_some, refl, sym, ap, subst, ◌∙◌}
-use Rattle.std.{proofs.{Common.{arith}, lemmas.Bool.{true≢false, false_from_ne_true}}, specs.{Prelude.{MatchOption, ⊤, unwrap_or}, List.{list_any, filter}}}
-use Rattle.std.specs.{Option.{option_or, option_map_or}, Cmp.{eq_by_cmp_equiv, Lexicographic.{slice_cmp, same_text, nat_list_cmp_total}}, Ordering.{nat_cmp}}
-use Rattle.std.specs.{Ordering.{eq_by_cmp}, FinMap.{FinMap, get, entries, IsAntisymmetric, insert, get-insert, slice_cmp-IsAntisymmetric}}
-use Rattle.std.specs.FinMap.{nat_cmp-IsAntisymmetric}
-use Rattle.nntp_wire.proofs.ShownMaps.{equal_is}
+use Rattle.std.{proofs.{Common.{arith}, lemmas.Bool.{true≢false}}, specs.{Prelude.{MatchOption, ⊤, unwrap_or}, List.{list_any, filter}, Option.{option_or}}}
+use Rattle.std.specs.{Option.{option_map_or}, Cmp.{eq_by_cmp_equiv, Lexicographic.{slice_cmp, same_text, nat_list_cmp_total}}, Ordering.{nat_cmp}}
+use Rattle.std.specs.FinMap.{FinMap, get, entries, IsAntisymmetric, insert, get-insert, slice_cmp-IsAntisymmetric, nat_cmp-IsAntisymmetric}
 use Rattle.nntp_article.specs.{Article.Parts.{Id}, Session.Machine.{is_same}}
 use Rattle.nntp_said.specs.Facts.{Fact}
 use Rattle.nntp_theory.specs.{Given.{is_mentioned}, Together.{shows_article, denies_article}, Inner.Together.{said_of, said_nothing, join_said, AreSame}}
 use Rattle.nntp_theory.{specs.Inner.Together.{JoinArticle}, proofs.{Maps.{get_in, in_get}, Members.{In}, Together.FactsOfASpoolStand.{same_itself}}}
 use Rattle.nntp_facts.specs.Inner.{Kept.{KeptArticle, said_kept, AreKeptArticles}, Articles.{is_there, with_new, articles_in}, KeptSaying.{said_alone}}
 use Rattle.nntp_facts.{specs.Inner.KeptSaying.{SaidJoins, IsSaidKept}, proofs.Keeping.SaidOfArticles.{nothing_more, nothing_joins}}
+use Rattle.nntp_facts.proofs.Keeping.FactsOfOneGroup.{flip_text}
 
 abbrev pub Articles : Type 0
 Articles = FinMap (slice_cmp nat_cmp) KeptArticle
 
 -- ---- the map
 
--- ids that differ have places of their own
-apart : (id q : Id) → is_same id q ≡ false → eq_by_cmp (slice_cmp nat_cmp) q id ≡ false
-apart id q e = grind (arith, false_from_ne_true, slice_cmp-IsAntisymmetric, nat_cmp-IsAntisymmetric, equal_is, true≢false, same_itself)
-
 -- what is found elsewhere, after an id is put in
 pub get_elsewhere : (articles : Articles) (id q : Id) (a : KeptArticle) → is_same id q ≡ false → get (insert articles id a) q ≡ get articles q
-get_elsewhere articles id q a e = get-insert nat_list_cmp_total articles id a q ∙ ap (λ b. cond b (Some a) (get articles q)) (apart id q e)
+get_elsewhere articles id q a e = grind (arith, get-insert nat_list_cmp_total articles id a q, flip_text q id)
 
 -- and at its place
 pub get_there : (articles : Articles) (id : Id) (a : KeptArticle) → get (insert articles id a) id ≡ Some a
@@ -68,13 +63,10 @@ module _ (facts : List Fact) (old : Articles) (id : Id) (more : KeptArticle) (ke
   -- what is said of the id alone joins exactly if it may be kept
   pub article_joins : SaidJoins facts (said_alone id more) ↔ MayKeep (get old id) more
   article_joins = (
-    λ j. (kept_joins (get old id) more).0 (subst (λ s. JoinArticle s (said_kept (Some more))) (kept id) (here (j id))),
+    λ j. let here = j id in grind (arith, here, kept id, same_itself id, kept_joins (get old id) more),
     λ h q. by q (is_same id q) refl (subst (λ s. JoinArticle s (said_kept (Some more))) (sym (kept id)) ((kept_joins (get old id) more).1 h)),
   )
     where
-      here : JoinArticle (said_of facts id) (cond (is_same id id) (said_kept (Some more)) said_nothing) → JoinArticle (said_of facts id) (said_kept (Some more))
-      here = subst (λ b. JoinArticle (said_of facts id) (cond b (said_kept (Some more)) said_nothing)) (same_itself id)
-
       by : (q : Id) (b : Bool) → is_same id q ≡ b → JoinArticle (said_of facts id) (said_kept (Some more))
           → JoinArticle (said_of facts q) (cond b (said_kept (Some more)) said_nothing)
       by q true e h = subst (λ q. JoinArticle (said_of facts q) (said_kept (Some more))) (same_text id q (sym e)) h
@@ -83,11 +75,8 @@ module _ (facts : List Fact) (old : Articles) (id : Id) (more : KeptArticle) (ke
   -- and is kept with the others
   pub article_kept : (new : Articles) → MayKeep (get old id) more → get new id ≡ Some (kept_with (get old id) more)
       → ((q : Id) → is_same id q ≡ false → get new q ≡ get old q) → IsSaidKept facts (said_alone id more) new
-  article_kept new may here others q = ap (λ s. join_said s (cond (is_same id q) (said_kept (Some more)) said_nothing)) (kept q) ∙ by (is_same id q) refl
-    where
-      by : (b : Bool) → is_same id q ≡ b → join_said (said_kept (get old q)) (cond b (said_kept (Some more)) said_nothing) ≡ said_kept (get new q)
-      by true e = grind (arith, same_text id q (sym e), kept_said (get old id) more may)
-      by false e = nothing_more (said_kept (get old q)) ∙ ap said_kept (sym (others q e))
+  article_kept new may here others q =
+      grind (arith, kept q, here, others q, same_text id q, kept_said (get old id) more may, nothing_more (said_kept (get old q)))
 
 -- ---- what is said of an id, read off what is kept
 
@@ -106,24 +95,12 @@ module _ (facts : List Fact) (articles : Articles) (id : Id) (kept : AreKeptArti
 -- what passes a test, of a list
 in_filter : {A : Type 0} (p : A → Bool) (x : A) (xs : List A) → In x (filter p xs) ↔ (In x xs × IsTrue (p x))
 in_filter p x [] = (λ i. absurd i, λ h. absurd h.0)
-in_filter {A} p x (y ∷ ys) = by (p y) refl (in_filter p x ys)
-  where
-    by : (b : Bool) → p y ≡ b → In x (filter p ys) ↔ (In x ys × IsTrue (p x)) → In x (cond b (y ∷ filter p ys) (filter p ys)) ↔ (In x (y ∷ ys) × IsTrue (p x))
-    by b e h = grind (arith, true≢false)
+in_filter p x (y ∷ ys) = grind (arith, in_filter p x ys, true≢false)
 
 -- the ids that are listed are those that have articles, each with what is kept of it
 pub listed : (facts : List Fact) (articles : Articles) (id : Id) (a : KeptArticle) → AreKeptArticles facts articles
     → In (id, a) (articles_in (entries articles)) ↔ ((get articles id ≡ Some a) × IsTrue (list_any (shows_article id) facts))
-listed facts articles id a kept = (
-  λ i. let f = listing.0 i in let e = in_get nat_list_cmp_total same articles id a f.0 in (e, shown e ∙ f.1),
-  λ h. listing.1 (get_in nat_list_cmp_total same articles id a h.0, sym (shown h.0) ∙ h.1),
-)
-  where
-    same : IsAntisymmetric (slice_cmp nat_cmp)
-    same = slice_cmp-IsAntisymmetric nat_cmp-IsAntisymmetric
-
-    shown : get articles id ≡ Some a → list_any (shows_article id) facts ≡ not a.is_denied
-    shown e = shown_kept facts articles id kept ∙ ap is_there e
-
-    listing : In (id, a) (articles_in (entries articles)) ↔ (In (id, a) (entries articles) × IsTrue (not a.is_denied))
-    listing = in_filter (λ e. not e.1.is_denied) (id, a) (entries articles)
+listed facts articles id a kept =
+    let passes = in_filter (λ e. not e.1.is_denied) (id, a) (entries articles) in
+    let same : IsAntisymmetric (slice_cmp nat_cmp) = slice_cmp-IsAntisymmetric nat_cmp-IsAntisymmetric in
+    grind (arith, passes, in_get nat_list_cmp_total same articles id a, get_in nat_list_cmp_total same articles id a, shown_kept facts articles id kept)

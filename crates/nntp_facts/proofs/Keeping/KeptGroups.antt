@@ -1,11 +1,10 @@
 -- What is kept of groups, once more is told of one.
-use Rattle.std.proofs.Common.{◌≡◌, ℕ, Bool, true, ◌==◌, cond, List, ◌++◌, Option, None, Some, is_some, MatchOption, refl, sym, ap, subst, ◌∙◌, arith}
+use Rattle.std.proofs.Common.{◌≡◌, ℕ, Bool, true, List, ◌++◌, Option, None, Some, is_some, MatchOption, refl, sym, ap, subst, ◌∙◌, arith}
 use Rattle.std.{proofs.lemmas.{Bool.{true≢false, eqb-true, or_left}, List.Folds.{list_any-append}}, specs.{Option.{option_or}, FinMap.{FinMap, get, insert}}}
-use Rattle.std.specs.{FinMap.{empty, get-insert, get-empty, slice_cmp-IsAntisymmetric, nat_cmp-IsAntisymmetric}, Ordering.{nat_cmp, eq_by_cmp}}
-use Rattle.std.specs.{Cmp.{nat_cmp_total, IsTotalOrder, Lexicographic.{slice_cmp, same_text, nat_list_cmp_total}}, declared.cmp.Ordering.{Ordering}}
-use Rattle.std.specs.{Prelude.{◌↔◌}, List.{list_any}}
+use Rattle.std.specs.{FinMap.{empty, get-insert, get-empty, slice_cmp-IsAntisymmetric, nat_cmp-IsAntisymmetric}, Ordering.{nat_cmp}, Cmp.{nat_cmp_total}}
+use Rattle.std.specs.{Cmp.Lexicographic.{slice_cmp, same_text, nat_list_cmp_total}, Prelude.{◌↔◌}, List.{list_any}}
 use Rattle.nntp_wire.proofs.ShownMaps.{insert-same}
-use Rattle.nntp_article.specs.{Article.Parts.{Id}, Session.{Spool.{Name}, Machine.{is_same}}}
+use Rattle.nntp_article.specs.{Article.Parts.{Id}, Session.Spool.{Name}}
 use Rattle.nntp_said.specs.Asks.{Ask}
 use Rattle.nntp_numbers.specs.Inner.Summary.{IsSummary, AreBounded}
 use Rattle.nntp_facts.specs.Inner.Kept.{KeptGroup, Told, IsKeptGroup, IsUntold, AreKept, with_part, Changes, Agree, MayHave, MayShow, ids_with, places_with}
@@ -28,19 +27,14 @@ shown_kept tells groups name kept = grind arith
 pub bounded_more : (asks more : List Ask) → AreBounded asks → AreBounded (asks ++ more)
 bounded_more asks more bounded n large = list_any-append (λ ask. denies ask n) asks more ∙ or_left (list_any (λ ask. denies ask n) asks) _ (bounded n large)
 
--- one thing more is kept in a map
-grown : {K X : Type 0} {R : K → K → Ordering} (o : IsTotalOrder R) (m : FinMap R X) (p : Option X) (q k : K) (x : X) (b : Bool)
-    → eq_by_cmp R k q ≡ b → get m k ≡ p → (b ≡ true → IsOr p x) → get (insert m q x) k ≡ option_or p (cond b (Some x) None)
-grown o m p q k x b same had agrees = grind (arith, get-insert)
-
 -- the ids at numbers then, and the numbers of ids
 ids_grown : (t : Told) (ids : FinMap nat_cmp Id) (places : FinMap (slice_cmp nat_cmp) ℕ) (id : Option (ℕ × Id))
     → ((n : ℕ) → get ids n ≡ t.ids n) → ((i : Id) → get places i ≡ t.places i) → MayShow t id
     → ((n : ℕ) → get (ids_with ids id) n ≡ option_or (t.ids n) (id_of id n)) × ((i : Id) → get (places_with places id) i ≡ option_or (t.places i) (place_of id i))
 ids_grown t ids places None had was free = (λ n. had n ∙ sym (or_none (t.ids n)), λ i. was i ∙ sym (or_none (t.places i)))
 ids_grown t ids places (Some e) had was free = (
-  λ m. grown nat_cmp_total ids (t.ids m) e.0 m e.1 (e.0 == m) (flip_number m e.0) (had m) (λ s. subst (λ m. IsOr (t.ids m) e.1) (eqb-true e.0 m s) free.0),
-  λ i. grown nat_list_cmp_total places (t.places i) e.1 i e.0 (is_same e.1 i) (flip_text i e.1) (was i) (λ s. subst (λ i. IsOr (t.places i) e.0) (same_text e.1 i (sym s)) free.1),
+  λ m. grind (arith, get-insert nat_cmp_total ids e.0 e.1 m, flip_number m e.0, had m, eqb-true e.0 m, free.0),
+  λ i. grind (arith, get-insert nat_list_cmp_total places e.1 e.0 i, flip_text i e.1, was i, same_text e.1 i, free.1),
 )
 
 -- more is said of a group that is kept

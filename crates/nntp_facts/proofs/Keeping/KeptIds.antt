@@ -1,10 +1,10 @@
 -- What is kept of ids: of those that have articles, and of those that are denied.
-use Rattle.std.proofs.Common.{◌≡◌, ℕ, Bool, true, false, cond, ◌&&◌, not, List, [], ◌∷◌, map, Vec, Option, None, Some, is_some, option_map, refl, sym, ap}
-use Rattle.std.proofs.{Common.{subst, ◌∙◌, arith}, lemmas.{Bool.{true≢false}, Map.Text.{is_eq-slice_cmp}, Slice.Eq.{bytes_eq-Decides}}}
+use Rattle.std.proofs.Common.{◌≡◌, ℕ, Bool, false, cond, ◌&&◌, not, List, [], ◌∷◌, map, Vec, Option, None, Some, is_some, option_map, refl, sym, ap, subst, ◌∙◌}
+use Rattle.std.proofs.{Common.{arith}, lemmas.{Bool.{true≢false, false_from_ne_true}, Map.Text.{is_eq-slice_cmp}, Slice.Eq.{bytes_eq-Decides}}}
 use Rattle.std.{proofs.lemmas.Str.{IsUtf8-string_bytes}, specs.{List.{list_any, filter}, Option.{option_or, option_map_or}, declared.cmp.Ordering.{Ordering}}}
 use Rattle.std.specs.{declared.rc.RcStr.{RcStr}, Ordering.{nat_cmp, is_eq}, Cmp.Lexicographic.{slice_cmp, nat_list_cmp_total, same_text}, FinMap.{get, insert}}
 use Rattle.std.specs.FinMap.{entries, find, put, from_entries, get-insert, get-entries, entries-insert, same_map, slice_cmp-IsAntisymmetric}
-use Rattle.std.specs.{FinMap.{nat_cmp-IsAntisymmetric, Entries.{by_order}}, BTreeSet.{insert_key}, Map.{lookup, set_value}, Str.{IsUtf8}, Rc.{rc_str_bytes}}
+use Rattle.std.specs.{FinMap.{nat_cmp-IsAntisymmetric}, BTreeSet.{insert_key}, Map.{lookup, set_value}, Str.{IsUtf8}, Rc.{rc_str_bytes}}
 use Rattle.nntp_wire.proofs.ShownMaps.{get-shown, replaced}
 use Rattle.nntp_article.specs.{Article.Parts.{Id}, Session.Machine.{is_same}}
 use Rattle.nntp_theory.{specs.Inner.Together.{SaidOfArticle, said_nothing}, proofs.Together.TwoListsOfFacts.{or_none}}
@@ -37,46 +37,30 @@ with_denied-insert articles ids id a = grind (arith, same_articles, get-with_den
 pub one_more_denied : {A : Type 0} (articles : Articles) (ks : List (Vec ℕ A)) (k : Vec ℕ A)
     → with_denied articles (map (λ k. k.items) (insert_key (λ a b. slice_cmp nat_cmp a.items b.items) ks k)) ≡ with_new (with_denied articles (map (λ k. k.items) ks)) k.items denied
 one_more_denied articles ks k = same_articles _ _ (λ q.
-    get-with_denied articles (map (λ k. k.items) (insert_key (λ a b. slice_cmp nat_cmp a.items b.items) ks k)) q
-    ∙ ap (λ b. option_or (get articles q) (if_denied b)) (any_put (λ k. k.items) (λ id. is_same id q) ks k)
-    ∙ sym (get-with_denied articles (k.items ∷ map (λ k. k.items) ks) q))
+    grind (arith, get-with_denied, get-with_new (with_denied articles (map (λ k. k.items) ks)) k.items q denied, any_put (λ k. k.items) (λ id. is_same id q) ks k))
 
 -- what is put where nothing was, and doesn't pass, leaves those that pass
 filter-put : {K X : Type 0} (R : K → K → Ordering) (p : X → Bool) (k : K) (v : X) (es : List (K × X)) → p v ≡ false → find R k es ≡ None → filter (λ e. p e.1) (put R k v es) ≡ filter (λ e. p e.1) es
 filter-put R p k v [] fails none = rw fails refl
-filter-put {K = K} {X = X} R p k v (e ∷ es) fails none = by (R k e.0) none (filter-put R p k v es fails)
-  where
-    by : (r : Ordering) → cond (is_eq r) (Some e.1) (find R k es) ≡ None → (find R k es ≡ None → filter (λ e. p e.1) (put R k v es) ≡ filter (λ e. p e.1) es)
-        → filter (λ e. p e.1) (by_order r ((k, v) ∷ e ∷ es) ((e.0, v) ∷ es) (e ∷ put R k v es)) ≡ filter (λ e. p e.1) (e ∷ es)
-    by r none more = grind arith
+filter-put R p k v (e ∷ es) fails none = grind (arith, filter-put R p k v es fails)
 
 -- the ids that have articles are those that have them without the denied ones
 pub articles-with_denied : (articles : Articles) (ids : List Id) → articles_in (entries (with_denied articles ids)) ≡ articles_in (entries articles)
 articles-with_denied articles [] = refl
-articles-with_denied articles (id ∷ ids) = by (get all id) refl ∙ articles-with_denied articles ids
-  where
-    all : Articles
-    all = with_denied articles ids
-
-    by : (o : Option KeptArticle) → get all id ≡ o → articles_in (entries (cond (is_some o) all (insert all id denied))) ≡ articles_in (entries all)
-    by None e =
-        ap articles_in (entries-insert nat_list_cmp_total all id denied)
-        ∙ filter-put (slice_cmp nat_cmp) (λ a. not a.is_denied) id denied (entries all) refl (sym (get-entries all id) ∙ e)
-    by (Some a) e = refl
+articles-with_denied articles (id ∷ ids) =
+    let all = with_denied articles ids in
+    let put = filter-put (slice_cmp nat_cmp) (λ a. not a.is_denied) id denied (entries all) refl in
+    grind (arith, articles-with_denied articles ids, entries-insert nat_list_cmp_total all id denied, put, get-entries all id)
 
 -- ---- what is found
 
 -- octets that aren't text are no key
 pub no_key : {A X : Type 0} (q : List ℕ) → (IsUtf8 q → ⊥) → (es : List (RcStr A × X)) → lookup (λ k. is_eq (slice_cmp nat_cmp q (rc_str_bytes k))) es ≡ None
 no_key q not_text [] = refl
-no_key {A} q not_text (e ∷ es) = rw (other e.0) (no_key q not_text es)
-  where
-    other : (k : RcStr A) → is_eq (slice_cmp nat_cmp q (rc_str_bytes k)) ≡ false
-    other k = by (is_eq (slice_cmp nat_cmp q (rc_str_bytes k))) refl
-      where
-        by : (b : Bool) → is_eq (slice_cmp nat_cmp q (rc_str_bytes k)) ≡ b → b ≡ false
-        by true e = absurd (not_text (subst IsUtf8 (sym ((bytes_eq-Decides q (rc_str_bytes k)).0 (sym (is_eq-slice_cmp q (rc_str_bytes k)) ∙ e))) (IsUtf8-string_bytes k.text.value)))
-        by false e = refl
+no_key q not_text (e ∷ es) =
+    let other : is_eq (slice_cmp nat_cmp q (rc_str_bytes e.0)) ≡ false = false_from_ne_true _ (λ h. not_text
+    (subst IsUtf8 (sym ((bytes_eq-Decides q (rc_str_bytes e.0)).0 (sym (is_eq-slice_cmp q (rc_str_bytes e.0)) ∙ h))) (IsUtf8-string_bytes e.0.text.value))) in
+    rw other (no_key q not_text es)
 
 -- the ids as the code keeps them
 module _ {A : Type 0} (es : List (RcStr A × KnownArticle A)) (ks : List (Vec ℕ A)) (articles : Articles) (view : with_denied (from_entries (entries_value es)) (map (λ k. k.items) ks)
@@ -90,10 +74,8 @@ module _ {A : Type 0} (es : List (RcStr A × KnownArticle A)) (ks : List (Vec �
   found : get articles id ≡ option_or (option_map known_article known) (if_denied is_denied)
   found =
       ap (λ m. get m id) (sym view) ∙ get-with_denied (from_entries (entries_value es)) (map (λ k. k.items) ks) id
-      ∙ (λ i. option_or (get-shown (slice_cmp nat_cmp) (λ k. rc_str_bytes k) known_article nat_list_cmp_total es id i) (if_denied (denied_key i)))
-    where
-      denied_key : list_any (λ k. is_same k id) (map (λ k. k.items) ks) ≡ is_denied
-      denied_key = any-map (λ k. is_same k id) (λ k. k.items) ks ∙ sym (is_key (λ k. k.items) id ks)
+      ∙ (λ i. option_or (get-shown (slice_cmp nat_cmp) (λ k. rc_str_bytes k) known_article nat_list_cmp_total es id i)
+      (if_denied ((any-map (λ k. is_same k id) (λ k. k.items) ks ∙ sym (is_key (λ k. k.items) id ks)) i)))
 
   -- the id has an article exactly if one is known
   pub there : is_some known ≡ is_there (get articles id)
@@ -123,6 +105,5 @@ module _ {A : Type 0} (es : List (RcStr A × KnownArticle A)) (ks : List (Vec �
       → (with_denied (from_entries (entries_value fs)) (map (λ k. k.items) ks) ≡ insert articles id (known_article new)) × (get articles id ≡ Some (known_article old))
   replaced_known fs old new had is =
       let articles_only : Articles = from_entries (entries_value es) in
-      let ids : List Id = map (λ k. k.items) ks in
       let r = replaced (slice_cmp nat_cmp) (λ k. rc_str_bytes k) known_article nat_list_cmp_total
       (slice_cmp-IsAntisymmetric nat_cmp-IsAntisymmetric) es fs articles_only id old new refl had is in grind (arith, with_denied-insert, found)

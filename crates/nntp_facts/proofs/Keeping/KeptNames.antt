@@ -1,13 +1,13 @@
 -- Names that are kept: more of them, and whether a name is denied.
 use Rattle.std.proofs.Common.{◌≡◌, ℕ, Bool, true, false, ◌||◌, ◌&&◌, IsTrue, List, [], ◌∷◌, ◌++◌, map, Option, None, Some, refl, sym, ap, subst, ◌∙◌, arith}
-use Rattle.std.{proofs.lemmas.{Bool.{true≢false, or_left}, List.Folds.{list_any-append}}, specs.Prelude.{length, IfSome, is_some, cond}}
-use Rattle.std.specs.{declared.cmp.Ordering.{Ordering, TheVariants.{Equal}}, Ordering.{nat_cmp, match_ordering, is_eq}, Cmp.Lexicographic.{slice_cmp}}
-use Rattle.std.specs.{Cmp.Lexicographic.{same_text}, List.{AllByRecursion, list_any}, Option.{option_map_or}, BTreeSet.{insert_key}, BTreeMap.{insert_entry}}
-use Rattle.std.specs.Map.{lookup, keys_of}
+use Rattle.std.{proofs.lemmas.{Bool.{true≢false, or_left}, List.Folds.{list_any-append}}, specs.{Prelude.{length, IfSome}, declared.cmp.Ordering.{Ordering}}}
+use Rattle.std.specs.{declared.cmp.Ordering.TheVariants.{Equal}, Ordering.{nat_cmp, is_eq}, Cmp.Lexicographic.{slice_cmp, same_text}, List.{AllByRecursion}}
+use Rattle.std.specs.{List.{list_any}, Option.{option_map_or}, BTreeSet.{insert_key}, BTreeMap.{insert_entry}, Map.{lookup, keys_of}}
 use Rattle.nntp_wire.specs.{Decided.{matches_name}, Wildmat.{is_wildmat}, Listing.{ActiveValue}}
 use Rattle.nntp_article.{specs.Session.{Spool.{Name}, Machine.{is_same}}, proofs.SessionLemmas.SetKeys.{any-insert_key}}
 use Rattle.nntp_said.specs.Facts.{Fact, GroupsAre}
 use Rattle.nntp_theory.{specs.{Given.{is_shown_group}, Together.{denies_group}}, proofs.Members.{all_at, all_from, contains_in, in_back}}
+use Rattle.nntp_theory.proofs.Together.TwoListsOfFacts.{any_silent}
 use Rattle.nntp_facts.specs.Inner.{Kept.{KeptNames, WasAnswered, AreKeptNames}, ListedGroups.{MayList, WereListed}}
 use Rattle.nntp_facts.proofs.Keeping.{CountedGroups.{listed_still}, FactsOfOneGroup.{flip_text}}
 
@@ -26,15 +26,16 @@ module _ {V : Type 0} (text : V → List ℕ) where
   abbrev pub order : V → V → Ordering
   order a b = slice_cmp nat_cmp (text a) (text b)
 
+  -- keys that are tied have the same octets
+  tied : (k x : V) → order k x ≡ Equal → text x ≡ text k
+  tied k x e = same_text (text x) (text k) (sym (sym (flip_text (text k) (text x)) ∙ ap is_eq e))
+
   -- a test of the octets, once more of them were put among the keys
   pub any_put : (p : List ℕ → Bool) (ks : List V) (k : V) → list_any p (texts (insert_key order ks k)) ≡ (p (text k) || list_any p (texts ks))
   any_put p ks k =
       any-map p text (insert_key order ks k)
-      ∙ any-insert_key order (λ k. p (text k)) k ks (λ x e. ap p (same_text (text x) (text k) (sym (tie x e))))
+      ∙ any-insert_key order (λ k. p (text k)) k ks (λ x e. ap p (tied k x e))
       ∙ ap (λ b. p (text k) || b) (sym (any-map p text ks))
-    where
-      tie : (x : V) → order k x ≡ Equal → is_same (text x) (text k) ≡ true
-      tie x e = sym (flip_text (text k) (text x)) ∙ ap is_eq e
 
   -- ---- entries of a map
 
@@ -42,18 +43,9 @@ module _ {V : Type 0} (text : V → List ℕ) where
   abbrev pub counts : List (V × ℕ) → List (List ℕ × ℕ)
   counts es = map (λ e. (text e.0, e.1)) es
 
-  -- keys that are tied have the same octets
-  tied : (k x : V) → order k x ≡ Equal → text x ≡ text k
-  tied k x e = same_text (text x) (text k) (sym (sym (flip_text (text k) (text x)) ∙ ap is_eq e))
-
   keys_put : (es : List (V × ℕ)) (k : V) (n : ℕ) → keys_of (insert_entry order es k n) ≡ insert_key order (keys_of es) k
   keys_put [] k n = refl
-  keys_put (x ∷ es) k n = by (order k x.0) (keys_put es k n)
-    where
-      by : (r : Ordering) → keys_of (insert_entry order es k n) ≡ insert_key order (keys_of es) k
-          → keys_of (match_ordering r ((k, n) ∷ x ∷ es) ((x.0, n) ∷ es) (x ∷ insert_entry order es k n)) ≡ match_ordering r
-          (k ∷ x.0 ∷ keys_of es) (x.0 ∷ keys_of es) (x.0 ∷ insert_key order (keys_of es) k)
-      by r more = grind arith
+  keys_put (x ∷ es) k n = grind (arith, keys_put es k n)
 
   any_key : (p : List ℕ → Bool) (es : List (V × ℕ)) → list_any (λ e. p e.0) (counts es) ≡ list_any p (texts (keys_of es))
   any_key p [] = refl
@@ -66,19 +58,9 @@ module _ {V : Type 0} (text : V → List ℕ) where
   -- what holds of each
   all_counted : (P : List ℕ × ℕ → Type 0) (es : List (V × ℕ)) (k : V) (n : ℕ) → P (text k, n) → AllByRecursion P (counts es) → AllByRecursion P (counts (insert_entry order es k n))
   all_counted P [] k n h all = (h, tt)
-  all_counted P (x ∷ es) k n h all = by (order k x.0) (tied k x.0) (all_counted P es k n h all.1)
-    where
-      by : (r : Ordering) → (r ≡ Equal → text x.0 ≡ text k) → AllByRecursion P (counts (insert_entry order es k n))
-          → AllByRecursion P (counts (match_ordering r ((k, n) ∷ x ∷ es) ((x.0, n) ∷ es) (x ∷ insert_entry order es k n)))
-      by r same more = grind arith
+  all_counted P (x ∷ es) k n h all = grind (arith, tied k x.0, all_counted P es k n h all.1)
 
 -- ---- names
-
-or_rotate : (d a b c : Bool) → ((a || b || c) || d) ≡ ((d || a) || b || c)
-or_rotate d a b c = grind arith
-
-or_behind : (d a b c : Bool) → ((a || b || c) || d) ≡ (a || b || (d || c))
-or_behind d a b c = grind arith
 
 -- a name that isn't shown wasn't before
 pub not_before : (facts more : List Fact) (name : Name) → is_shown_group (facts ++ more) name ≡ false → is_shown_group facts name ≡ false
@@ -91,9 +73,13 @@ counted_still facts more k kept = grind (arith, all_from, all_at, listed_still)
 pub all_still : (facts more : List Fact) (k : KeptNames) → AreKeptNames facts k → IfSome k.all_listed (WereListed (facts ++ more) None)
 all_still facts more k kept = grind (arith, listed_still)
 
--- the groups that the last fact lists were listed
-just_listed : (facts : List Fact) (p : Option (List ℕ)) (lines : List ActiveValue) (count : ℕ) → MayList p lines → length lines ≡ count → WereListed (facts ++ GroupsAre p lines ∷ []) p count
-just_listed facts p lines count may counted = grind (arith, contains_in, in_back)
+-- more facts that deny no name leave what is kept of names
+pub names_kept : (facts more : List Fact) (k : KeptNames) → ((name : Name) → list_any (denies_group name) more ≡ false) → AreKeptNames facts k → AreKeptNames (facts ++ more) k
+names_kept facts more k none kept = record {
+  wildmats = counted_still facts more k kept;
+  all_listed = all_still facts more k kept;
+  denied = λ name not_shown. any_silent (denies_group name) facts more (none name) ∙ kept.denied name (not_before facts more name not_shown);
+}
 
 -- one more name is denied
 pub name_denied : {V : Type 0} (text : V → List ℕ) (facts more : List Fact) (old : KeptNames) (ks : List V) (name : V) → old.denied ≡ texts text ks → AreKeptNames facts old
@@ -103,12 +89,8 @@ name_denied text facts more old ks name is kept denied = record {
   wildmats = counted_still facts more old kept;
   all_listed = all_still facts more old kept;
   denied = λ other e.
-      let all = is_some old.all_listed in
-      let w = list_any (λ e. matches_name e.0 other) old.wildmats in
-      list_any-append (denies_group other) facts more
-      ∙ (λ i. kept.denied other (not_before facts more other e) i || denied other i)
-      ∙ or_rotate (is_same (text name) other) (list_any (λ g. is_same g other) old.denied) all w
-      ∙ ap (λ b. b || all || w) (ap (λ ns. is_same (text name) other || list_any (λ g. is_same g other) ns) is ∙ sym (any_put text (λ g. is_same g other) ks name));
+      let before = kept.denied other (not_before facts more other e) in
+      grind (arith, before, denied other, list_any-append (denies_group other) facts more, any_put text (λ g. is_same g other) ks name, is);
 }
 
 -- what a list of groups denies of a name that isn't shown
@@ -130,16 +112,14 @@ pub wildmat_listed : {V : Type 0} (text : V → List ℕ) (facts : List Fact) (l
 wildmat_listed text facts lines old es wildmat count good may counted is kept = record {
   wildmats =
       let all = facts ++ GroupsAre (Some (text wildmat)) lines ∷ [] in
-      all_counted text (WasAnswered all) es wildmat count (good, just_listed facts (Some (text wildmat)) lines count may counted)
+      all_counted text (WasAnswered all) es wildmat count (good, grind (arith, contains_in, in_back))
       (subst (AllByRecursion (WasAnswered all)) is (counted_still facts (GroupsAre (Some (text wildmat)) lines ∷ []) old kept));
   all_listed = all_still facts (GroupsAre (Some (text wildmat)) lines ∷ []) old kept;
   denied = λ name e.
-      let all = is_some old.all_listed in
-      let d = list_any (λ g. is_same g name) old.denied in
-      list_any-append (denies_group name) facts (GroupsAre (Some (text wildmat)) lines ∷ [])
-      ∙ (λ i. kept.denied name (not_before facts (GroupsAre (Some (text wildmat)) lines ∷ []) name e) i || listing_denies facts (Some (text wildmat)) lines name e i)
-      ∙ or_behind (matches_name (text wildmat) name) d all (list_any (λ e. matches_name e.0 name) old.wildmats)
-      ∙ ap (λ b. d || all || b) (ap (λ ws. matches_name (text wildmat) name || list_any (λ e. matches_name e.0 name) ws) is ∙ sym (any_counted text (λ w. matches_name w name) es wildmat count));
+      let more = GroupsAre (Some (text wildmat)) lines ∷ [] in
+      let before = kept.denied name (not_before facts more name e) in
+      let now = listing_denies facts (Some (text wildmat)) lines name e in
+      grind (arith, before, now, list_any-append (denies_group name) facts more, any_counted text (λ w. matches_name w name) es wildmat count, is);
 }
 
 -- all groups were listed
@@ -162,14 +142,7 @@ is_key text name ks = λ i. list_any (λ k. flip_text name (text k) i) ks
 pub answered_found : {V : Type 0} (text : V → List ℕ) (facts : List Fact) (es : List (V × ℕ)) (w : List ℕ) → AllByRecursion (WasAnswered facts) (counts text es)
     → IfSome (lookup (λ k. is_eq (slice_cmp nat_cmp w (text k))) es) (WereListed facts (Some w))
 answered_found text facts [] w all = tt
-answered_found text facts (x ∷ es) w all = by (is_eq (slice_cmp nat_cmp w (text x.0))) refl (answered_found text facts es w all.1)
-  where
-    rest : Option ℕ
-    rest = lookup (λ k. is_eq (slice_cmp nat_cmp w (text k))) es
-
-    by : (b : Bool) → is_eq (slice_cmp nat_cmp w (text x.0)) ≡ b → IfSome rest (WereListed facts (Some w)) → IfSome (cond b (Some x.1) rest) (WereListed facts (Some w))
-    by true is more = subst (λ t. WereListed facts (Some t) x.1) (same_text (text x.0) w (sym (sym (flip_text w (text x.0)) ∙ is))) all.0.1
-    by false is more = more
+answered_found text facts (x ∷ es) w all = grind (arith, flip_text w (text x.0), same_text (text x.0) w, all.0, answered_found text facts es w all.1)
 
 pub key_text : {V : Type 0} (text : V → List ℕ) (name : Name) (ks : List V) → list_any (λ k. is_same (text k) name) ks ≡ list_any (λ g. is_same g name) (texts text ks)
 key_text text name ks = sym (any-map (λ g. is_same g name) text ks)

@@ -16,10 +16,7 @@ bounds_in name lines = flat_map (λ line. cond (is_same line.name name) (Bounds 
 -- where the group isn't listed, no bounds are reported for it
 pub no_bounds : (name : Name) (lines : List ActiveValue) → is_listed lines name ≡ false → bounds_in name lines ≡ []
 no_bounds name [] e = refl
-no_bounds name (line ∷ lines) e = by (is_same line.name name) e (no_bounds name lines)
-  where
-    by : (b : Bool) → (b || is_listed lines name) ≡ false → (is_listed lines name ≡ false → bounds_in name lines ≡ []) → cond b (Bounds line.low line.high ∷ []) [] ++ bounds_in name lines ≡ []
-    by b e rest = grind (arith, true≢false)
+no_bounds name (line ∷ lines) e = grind (arith, true≢false, no_bounds name lines)
 
 -- a name that differs from all of the lines' isn't listed among them
 differs : (name other : Name) (lines : List ActiveValue) → is_same name other ≡ true → list_all (λ word. not (is_same name word)) (group_names lines) ≡ true → is_listed lines other ≡ false

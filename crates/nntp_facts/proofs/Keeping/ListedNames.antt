@@ -1,6 +1,6 @@
 -- The names that are listed, in a set, and those of the groups that are kept.
-use Rattle.std.proofs.Common.{◌≡◌, ℕ, Bool, true, false, ◌||◌, ◌&&◌, not, cond, IsTrue, MatchOption, None, is_some, List, [], ◌∷◌, Option, Some, refl, sym, ap}
-use Rattle.std.{proofs.{Common.{◌∙◌, arith}, lemmas.Bool.{true≢false, and_from}}, specs.{Borrow.{Bor}, Option.{option_map_or}, List.{list_any}}}
+use Rattle.std.proofs.Common.{◌≡◌, ℕ, Bool, true, false, ◌||◌, ◌&&◌, not, IsTrue, MatchOption, None, is_some, List, [], ◌∷◌, Option, Some, refl, sym, ap, ◌∙◌}
+use Rattle.std.{proofs.{Common.{arith}, lemmas.Bool.{true≢false, true_from_ne_false, and_from}}, specs.{Borrow.{Bor}, Option.{option_map_or}, List.{list_any}}}
 use Rattle.std.specs.{BTreeSet.{insert_key}, Map.{lookup, keys_of}, Ordering.{nat_cmp, is_eq}, Cmp.Lexicographic.{slice_cmp, nat_list_cmp_total}, FinMap.{get}}
 use Rattle.nntp_wire.{specs.{Name.{IsGroupName}, Decided.{matches_name}, Listing.{ActiveValue}}, proofs.ShownMaps.{shown, get-shown, is_some-option_map}}
 use Rattle.nntp_theory.{specs.{Together.{denies_group}, Inner.Together.{Together}, Given.{is_shown_group}}, proofs.Given.ShownNames.{shown_named}}
@@ -17,19 +17,11 @@ octets k = k.now
 abbrev pub has_name : List (Bor Name) → Name → Bool
 has_name ks name = list_any (λ k. is_same k.now name) ks
 
--- once one more name was put among them
-name_put : (ks new : List (Bor Name)) (k : Bor Name) → new ≡ insert_key (order octets) ks k → (name : Name) → has_name new name ≡ (is_same k.now name || has_name ks name)
-name_put ks new k put name =
-    ap (λ ks. has_name ks name) put ∙ key_text octets name (insert_key (order octets) ks k)
-    ∙ any_put octets (λ g. is_same g name) ks k ∙ ap (λ b. is_same k.now name || b) (sym (key_text octets name ks))
-
-or_moved : (a b c : Bool) → ((a || b) || c) ≡ (b || (a || c))
-or_moved a b c = grind arith
-
 -- a line's name moves from the lines to the set
 pub name_moved : (line : ActiveValue) (rest lines : List ActiveValue) (ks new : List (Bor Name)) (k : Bor Name) (name : Name) (all : Bool) → k.now ≡ line.name → lines ≡ line ∷ rest
     → new ≡ insert_key (order octets) ks k → (has_name ks name || is_listed lines name) ≡ all → (has_name new name || is_listed rest name) ≡ all
-name_moved line rest lines ks new k name all is steps put before = grind (arith, name_put, or_moved)
+name_moved line rest lines ks new k name all is steps put before =
+    grind (arith, key_text octets name ks, key_text octets name (insert_key (order octets) ks k), any_put octets (λ g. is_same g name) ks k)
 
 -- ---- the groups that are kept
 
@@ -40,13 +32,7 @@ module _ {L : Type 0} (text : L → List ℕ) (es : List (L × KeptGroup)) where
 
 key_found : {L : Type 0} (text : L → List ℕ) (es : List (L × KeptGroup)) (name : Name) → is_some (lookup (λ k. is_eq (slice_cmp nat_cmp name (text k))) es) ≡ is_key_of text es name
 key_found text [] name = refl
-key_found {L} text (e ∷ es) name = by (is_eq (slice_cmp nat_cmp name (text e.0))) (is_same (text e.0) name) (flip_text name (text e.0)) (key_found text es name)
-  where
-    rest : Option KeptGroup
-    rest = lookup (λ k. is_eq (slice_cmp nat_cmp name (text k))) es
-
-    by : (a b : Bool) → a ≡ b → is_some rest ≡ is_key_of text es name → is_some (cond a (Some e.1) rest) ≡ (b || is_key_of text es name)
-    by a b same more = grind (arith, true≢false)
+key_found text (e ∷ es) name = grind (arith, true≢false, flip_text name (text e.0), key_found text es name)
 
 -- the keys are the names of the groups that are shown
 key_shown : {L : Type 0} (text : L → List ℕ) (es : List (L × KeptGroup)) (groups : Groups) (facts : List Fact) → shown (slice_cmp nat_cmp) text (λ v. v) es ≡ groups → AreKeptGroups facts groups
@@ -65,9 +51,6 @@ pub one_unlisted : {L : Type 0} (text : L → List ℕ) (es : List (L × KeptGro
     (λ name. IsTrue (list_any (λ k. is_same (text k) name) (keys_of es)) × IsTrue (option_map_or (λ w. matches_name w name) p true && not (has_name names name)))
     → MatchOption found (NoneIsMissing facts p lines) (λ name. IsTrue (is_shown_group facts name) × IsTrue (denies_group name (GroupsAre p lines)))
 one_unlisted text es groups facts p lines names (Some name) view listed kept t (there, unlisted) = grind (arith, key_shown text es groups facts view kept name)
-one_unlisted text es groups facts p lines names None view listed kept t none = λ name there matching. by name there matching (is_listed lines name) refl
-  where
-    by : (name : Name) → is_shown_group facts name ≡ true → option_map_or (λ w. matches_name w name) p true ≡ true → (b : Bool) → is_listed lines name ≡ b → b ≡ true
-    by name there matching true e = refl
-    by name there matching false e = absurd (true≢false (sym (and_from (option_map_or (λ w. matches_name w name) p true) (not (has_name names name)) matching (ap not (listed name ∙ e)))
-        ∙ none name (key_shown text es groups facts view kept name ∙ there) (shown_named facts name t.well_formed there)))
+one_unlisted text es groups facts p lines names None view listed kept t none = λ name there matching. true_from_ne_false (is_listed lines name) (λ e.
+    true≢false (sym (and_from (option_map_or (λ w. matches_name w name) p true) (not (has_name names name)) matching (ap not (listed name ∙ e)))
+    ∙ none name (key_shown text es groups facts view kept name ∙ there) (shown_named facts name t.well_formed there)))

@@ -1,11 +1,10 @@
 -- What overviews of a range say of the numbers and ids of their group.
-use Rattle.std.proofs.{Math.Bool.{or-false}, Common.{◌≡◌, ℕ, false, cond, List, [], ◌∷◌, ◌++◌, Option, None, inl, refl, arith}, lemmas.Bool.{and_parts}}
+use Rattle.std.proofs.{Math.Bool.{or-false}, Common.{◌≡◌, ℕ, cond, List, [], ◌∷◌, ◌++◌, Option, None, inl, refl, arith}, lemmas.Bool.{and_parts}}
 use Rattle.nntp_wire.specs.{Listing.{OverviewValue}, declared.range.Range.{Range}}
 use Rattle.nntp_article.specs.{Article.Parts.{Id}, Session.{Spool.{Name}, Machine.{is_same, is_ascending, all_differ, overview_numbers, overview_ids}}}
 use Rattle.nntp_said.specs.{Asks.{ListsIn}, Facts.{OverviewsAre}}
-use Rattle.nntp_theory.specs.{Given.{asks_of, first_given, id_in, has_overview_of, fields_of_overview}, Together.{number_in}, Inner.Together.{said_of}}
-use Rattle.nntp_theory.{specs.Inner.Together.{AgreesWithItself}, proofs.Members.{In, each_of, first_there, in_map, in_back}}
-use Rattle.nntp_theory.proofs.Together.{ListedOverviews.{apart_agree}, TwoListsOfFacts.{or_none}}
+use Rattle.nntp_theory.specs.{Given.{asks_of, first_given, id_in, fields_of_overview}, Together.{number_in}, Inner.Together.{said_of, AgreesWithItself}}
+use Rattle.nntp_theory.proofs.{Members.{In, each_of, first_there, in_map, in_back}, Together.{ListedOverviews.{apart_agree}, TwoListsOfFacts.{or_none}}}
 use Rattle.nntp_facts.specs.Inner.{ListedOverviews.{HaveOwn, id_listed, place_listed}, KeptSaying.{said_listed}}
 
 -- ---- what the first gives
@@ -28,15 +27,7 @@ module _ (here : Name) (r : Range) (os : List OverviewValue) where
   listed_places name id = or_none (number_in name id (OverviewsAre here r os))
 
   pub listed_said : (id : Id) → said_of (OverviewsAre here r os ∷ []) id ≡ said_listed os id
-  listed_said id = λ i. record {
-    is_mentioned = or-false (has_overview_of id os) i;
-    is_shown = or-false (has_overview_of id os) i;
-    is_denied = false;
-    is_sent = false;
-    head = None;
-    fields = or_none (first_given (fields_of_overview id) os) i;
-    body = None;
-  }
+  listed_said id = grind (arith, or-false, or_none)
 
 -- where each has a number and an id of its own, they agree with one another
 pub own_agree : (here : Name) (r : Range) (os : List OverviewValue) → HaveOwn os → AgreesWithItself (OverviewsAre here r os)

@@ -1,5 +1,5 @@
 -- What is kept of an id, once its entry among the articles is found or made.
-use Rattle.std.{proofs.Common.{◌≡◌, ℕ, false, List, map, Vec, Option, option_map, sym, ap, ◌∙◌, arith}, specs.{Prelude.{unwrap_or}, Option.{option_map_or}}}
+use Rattle.std.{proofs.Common.{◌≡◌, ℕ, false, List, map, Vec, sym, ap, ◌∙◌, arith}, specs.{Prelude.{unwrap_or}, Option.{option_map_or}}}
 use Rattle.std.specs.{declared.{cmp.Ordering.{Ordering, TheVariants.{Equal}}, rc.RcStr.{RcStr}}, Ordering.{nat_cmp, is_eq}, Cmp.Lexicographic.{slice_cmp}}
 use Rattle.std.specs.{Cmp.Lexicographic.{nat_list_cmp_total}, FinMap.{get, insert, from_entries, slice_cmp-IsAntisymmetric, nat_cmp-IsAntisymmetric}}
 use Rattle.std.specs.{Map.{lookup}, BTreeMap.{insert_entry}, Rc.{rc_str_bytes}}
@@ -28,13 +28,9 @@ module _ {A : Type 0} (es : List (RcStr A × KnownArticle A)) (ks : List (Vec �
   module _ (free : option_map_or (λ a. a.is_denied) (get articles id) false ≡ false) (first a : KnownArticle A) (unknown : known_article first ≡ unsent)
       (found : a ≡ unwrap_or (lookup (λ k. is_eq (text_cmp key k)) es) first) where
     pub had : known_article a ≡ unwrap_or (get articles id) unsent
-    had = ap known_article found ∙ by (lookup (λ k. is_eq (text_cmp key k)) es) ∙ ap (λ o. unwrap_or o unsent) (sym known ∙ ap (get articles) same)
-      where
-        known : get articles (rc_str_bytes key) ≡ option_map known_article (lookup (λ k. is_eq (text_cmp key k)) es)
-        known = kept_known es ks articles view (rc_str_bytes key) (ap (λ id. option_map_or (λ a. a.is_denied) (get articles id) false) same ∙ free)
-
-        by : (o : Option (KnownArticle A)) → known_article (unwrap_or o first) ≡ unwrap_or (option_map known_article o) unsent
-        by o = grind arith
+    had =
+        let known = kept_known es ks articles view (rc_str_bytes key) (ap (λ id. option_map_or (λ a. a.is_denied) (get articles id) false) same ∙ free) in
+        grind (arith, found, known, same, unknown)
 
     -- it is kept from now on, if nothing was
     pub kept_new : (fs : List (RcStr A × KnownArticle A)) → fs ≡ insert_entry text_cmp es key a

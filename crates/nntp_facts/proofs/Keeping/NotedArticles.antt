@@ -1,7 +1,7 @@
 -- What is added of articles, once an id is noted.
-use Rattle.std.proofs.Common.{◌≡◌, ◌↔◌, ◌||◌, Bool, true, false, cond, IsTrue, List, Option, None, Some, is_some, refl, sym, ap, subst, ◌∙◌, arith}
-use Rattle.std.{proofs.lemmas.Bool.{true≢false, not-true, not-false}, specs.{Prelude.{unwrap_or}, List.{list_any}, Option.{option_map_or, option_or}}}
-use Rattle.std.specs.{Cmp.Lexicographic.{nat_list_cmp_total}, FinMap.{get, insert, slice_cmp-IsAntisymmetric, nat_cmp-IsAntisymmetric}}
+use Rattle.std.proofs.{Common.{◌≡◌, ◌↔◌, Bool, true, false, IsTrue, List, Option, None, Some, refl, sym, ap, ◌∙◌, arith}, lemmas.Bool.{true≢false, not-true}}
+use Rattle.std.{proofs.lemmas.Bool.{not-false}, specs.{Prelude.{unwrap_or}, List.{list_any}, Option.{option_map_or}, Cmp.Lexicographic.{nat_list_cmp_total}}}
+use Rattle.std.specs.FinMap.{get, insert, slice_cmp-IsAntisymmetric, nat_cmp-IsAntisymmetric}
 use Rattle.nntp_wire.{specs.{declared.command.What.{What}, Listing.{Fields}}, proofs.ShownMaps.{insert-same}}
 use Rattle.nntp_article.specs.Article.Parts.{Id, Line}
 use Rattle.nntp_said.specs.Facts.{Fact}
@@ -15,18 +15,12 @@ use Rattle.nntp_facts.proofs.Keeping.KeptArticles.{new_elsewhere, new_there, May
 abbrev bare : Bool → KeptArticle
 bare is_denied = record { is_denied = is_denied; is_sent = false; head = None; fields = None; body = None }
 
--- with it is kept what was, if anything was
-bare_with : (o : Option KeptArticle) (b : Bool) → unwrap_or o (bare b) ≡ kept_with o (bare b)
-bare_with o b = grind arith
-
 module _ (facts : List Fact) (old : Articles) (id : Id) (more : KeptArticle) (kept : AreKeptArticles facts old) where
   -- what may be kept of an id is kept, if nothing was
   new_kept : (b : Bool) → more ≡ bare b → (new : Articles) → new ≡ with_new old id (bare b) → MayKeep (get old id) more → IsSaidAdded facts (said_alone id more) old new true
   new_kept b plain new is may = (
     (article_joins facts old id more kept).1 may,
-    article_kept facts old id more kept new may
-        (ap (λ m. get m id) is ∙ new_there old id (bare b) ∙ ap Some (bare_with (get old id) b ∙ ap (kept_with (get old id)) (sym plain)))
-        (λ q e. ap (λ m. get m q) is ∙ new_elsewhere old id q (bare b) e),
+    article_kept facts old id more kept new may (grind (arith, is, plain, new_there old id (bare b))) (λ q e. ap (λ m. get m q) is ∙ new_elsewhere old id q (bare b) e),
   )
 
   -- what may not changes nothing
@@ -42,67 +36,43 @@ module _ (facts : List Fact) (old : Articles) (id : Id) (more : KeptArticle) (ke
       → with ≡ kept_with (get old id) more → (does : Bool) → IsAddedIf May (λ k. k ≡ with) a b does → IsSaidAdded facts (said_alone id more) old new does
   added_to May with a b new was is may then does = by does
     where
-      -- where it may not be added, something was known of the id, and is still
-      as_before : b ≡ a → (May → ⊥) → new ≡ old
-      as_before same never = grind (arith, may.1, insert-same, nat_list_cmp_total, slice_cmp-IsAntisymmetric, nat_cmp-IsAntisymmetric)
-
       by : (does : Bool) → IsAddedIf May (λ k. k ≡ with) a b does → IsSaidAdded facts (said_alone id more) old new does
       by true added = (
         (article_joins facts old id more kept).1 (may.0 added.0),
-        article_kept facts old id more kept new (may.0 added.0)
-            (ap (λ m. get m id) is ∙ get_there old id b ∙ ap Some (added.1 ∙ then))
-            (λ q e. ap (λ m. get m q) is ∙ get_elsewhere old id q b e),
+        article_kept facts old id more kept new (may.0 added.0) (grind (arith, is, get_there old id b, added.1, then)) (λ q e. ap (λ m. get m q) is ∙ get_elsewhere old id q b e),
       )
-      by false added = (λ j. added.0 (may.1 ((article_joins facts old id more kept).0 j)), as_before added.1 added.0)
+      by false added = (
+        λ j. added.0 (may.1 ((article_joins facts old id more kept).0 j)),
+        grind (arith, was, is, added.1, added.0, may.1, insert-same, nat_list_cmp_total, slice_cmp-IsAntisymmetric, nat_cmp-IsAntisymmetric),
+      )
 
 -- ---- an id has an article
 
 -- one that isn't denied is kept, if it wasn't before
 pub there_noted : (facts : List Fact) (old new : Articles) (id : Id) → AreKeptArticles facts old → option_map_or (λ a. a.is_denied) (get old id) false ≡ false
     → new ≡ with_new old id unsent → IsArticleAdded facts (Some (id, Exists)) old new true
-there_noted facts old new id kept free is = new_kept facts old id unsent kept false refl new is (by (get old id) free)
-  where
-    by : (o : Option KeptArticle) → option_map_or (λ a. a.is_denied) o false ≡ false → MayKeep o unsent
-    by o e = grind arith
+there_noted facts old new id kept free is = new_kept facts old id unsent kept false refl new is (grind (arith, free))
 
 -- of one of which this was said nothing changes
 pub there_already : (facts : List Fact) (articles : Articles) (id : Id) → AreKeptArticles facts articles → IsTrue (list_any (shows_article id) facts)
     → IsArticleAdded facts (Some (id, Exists)) articles articles true
 there_already facts articles id kept shown =
-    let p = by (get articles id) (sym (shown_kept facts articles id kept) ∙ shown) in
-    there_noted facts articles articles id kept p.0 (ap (λ b. cond b articles (insert articles id unsent)) (sym p.1))
-  where
-    by : (o : Option KeptArticle) → is_there o ≡ true → (option_map_or (λ a. a.is_denied) o false ≡ false) × (is_some o ≡ true)
-    by o t = grind (arith, true≢false, not-true)
+    let there = sym (shown_kept facts articles id kept) ∙ shown in
+    there_noted facts articles articles id kept (grind (arith, there, true≢false, not-true)) (grind (arith, there, true≢false))
 
 -- ---- an id has no article
 
 -- of an id that has one, nothing changes
 pub lack_there : (facts : List Fact) (articles : Articles) (id : Id) → AreKeptArticles facts articles → is_there (get articles id) ≡ true
     → IsArticleAdded facts (Some (id, Lacks)) articles articles false
-lack_there facts articles id kept there = refused facts articles id denied kept (by (get articles id) there)
-  where
-    by : (o : Option KeptArticle) → is_there o ≡ true → MayKeep o denied → ⊥
-    by o t m = grind (arith, true≢false)
+lack_there facts articles id kept there = refused facts articles id denied kept (λ m. grind (arith, there, m, true≢false))
 
 -- another one is kept, if it wasn't before
 pub lack_new : (facts : List Fact) (old new : Articles) (id : Id) → AreKeptArticles facts old → is_there (get old id) ≡ false → new ≡ with_new old id denied
     → IsArticleAdded facts (Some (id, Lacks)) old new true
-lack_new facts old new id kept unshown is = new_kept facts old id denied kept true refl new is (by (get old id) unshown)
-  where
-    by : (o : Option KeptArticle) → is_there o ≡ false → MayKeep o denied
-    by o e = grind (arith, not-false)
+lack_new facts old new id kept unshown is = new_kept facts old id denied kept true refl new is (grind (arith, unshown, not-false))
 
 -- ---- something of an article is sent
-
-module _ (what : What) (lines : Option (List Line)) where
-  -- it may be kept exactly if it may be sent of what is kept, or of an article of which nothing was
-  may_keep : (o : Option KeptArticle) → MayBeSent (unwrap_or o unsent) (head_sent what lines) (body_sent what lines) ↔ MayKeep o (kept_by (Sends what lines))
-  may_keep o = grind arith
-
-  -- and then is kept with it
-  sent_with : (o : Option KeptArticle) → with_sent (unwrap_or o unsent) (head_sent what lines) (body_sent what lines) ≡ kept_with o (kept_by (Sends what lines))
-  sent_with o = grind arith
 
 -- what is sent of an article is added to what is known of it, if anything is
 pub sent_noted : (facts : List Fact) (old new : Articles) (what : What) (id : Id) (lines : Option (List Line)) (head body : Option (List Line)) (a b : KeptArticle) (does : Bool)
@@ -110,29 +80,9 @@ pub sent_noted : (facts : List Fact) (old new : Articles) (what : What) (id : Id
     → IsAddedIf (MayBeSent a head body) (λ k. k ≡ with_sent a head body) a b does → IsArticleAdded facts (Some (id, Sends what lines)) old new does
 sent_noted facts old new what id lines head body a b does kept was is heads bodies =
     added_to facts old id (kept_by (Sends what lines)) kept (MayBeSent a head body) (with_sent a head body) a b new was is
-    (subst (λ T. T ↔ MayKeep (get old id) (kept_by (Sends what lines))) (sym same_parts) (may_keep what lines (get old id)))
-    ((λ i. with_sent (was i) (heads i) (bodies i)) ∙ sent_with what lines (get old id)) does
-  where
-    same_parts : MayBeSent a head body ≡ MayBeSent (unwrap_or (get old id) unsent) (head_sent what lines) (body_sent what lines)
-    same_parts = λ i. MayBeSent (was i) (heads i) (bodies i)
+    (grind (arith, was, heads, bodies)) (grind (arith, was, heads, bodies)) does
 
 -- ---- an overview tells something of an article
-
-module _ (is_sent : Bool) (told : Option Fields) where
-  -- it may be kept exactly if it may be told of what is kept, or of an article of which nothing was
-  may_be_told : (o : Option KeptArticle) → MayBeTold (unwrap_or o unsent) told ↔ MayKeep o (telling is_sent told)
-  may_be_told o = grind arith
-
-  -- and then is kept with it
-  told_with : (o : Option KeptArticle) → with_told (unwrap_or o unsent) is_sent told ≡ kept_with o (telling is_sent told)
-  told_with None = refl
-  told_with (Some a) = λ i. record {
-    is_denied = a.is_denied;
-    is_sent = a.is_sent || is_sent;
-    head = sym (or_none a.head) i;
-    fields = option_or a.fields told;
-    body = sym (or_none a.body) i;
-  }
 
 -- what an overview tells is added to what is known of the article, if anything is
 pub told_noted : (facts : List Fact) (old new : Articles) (id : Id) (is_sent : Bool) (told : Option Fields) (a b : KeptArticle) (does : Bool)
@@ -140,5 +90,4 @@ pub told_noted : (facts : List Fact) (old new : Articles) (id : Id) (is_sent : B
     → IsAddedIf (MayBeTold a told) (λ k. k ≡ with_told a is_sent told) a b does → IsSaidAdded facts (said_alone id (telling is_sent told)) old new does
 told_noted facts old new id is_sent told a b does kept was is =
     added_to facts old id (telling is_sent told) kept (MayBeTold a told) (with_told a is_sent told) a b new was is
-    (subst (λ a. MayBeTold a told ↔ MayKeep (get old id) (telling is_sent told)) (sym was) (may_be_told is_sent told (get old id)))
-    (ap (λ a. with_told a is_sent told) was ∙ told_with is_sent told (get old id)) does
+    (grind (arith, was)) (grind (arith, was, or_none)) does

@@ -4,9 +4,9 @@ use Rattle.std.proofs.Common.{◌≡◌, ◌+◌, ◌<◌, ◌^◌, ◌↔◌, B
 use Rattle.std.{proofs.Common.{length-append}, specs.List.{AllByRecursion}}
 use Rattle.nntp_article.specs.{Session.{Limit.{profile_of}, Machine.{start, fits, visible_after}}, declared.session.profile.Profile.{Profile}}
 use Rattle.nntp_pair.specs.{Pairing.{Paired, asked_at, asked_of, responses_of}, Inner.Pairing.{IsSpelled, lines_in}}
-use Rattle.nntp_said.specs.{Asks.{position_after}, declared.position.Position.TheVariants.{Nowhere}, Facts.{Fact, facts_of}, Inner.Facts.{FitsAll}}
+use Rattle.nntp_said.specs.{Asks.{position_after}, Facts.{Fact, facts_of}, Inner.Facts.{FitsAll}}
 use Rattle.nntp_theory.specs.Inner.{Given.{size}, Together.{IsWellFormed, Together, Join}, Exchanged.{said_by, said_behind, AreFew}}
-use Rattle.nntp_theory.specs.{Answered.{SomePermitsEach, facts_of_all}, Classes.{visible_from, position_from}, Permitted.{exchanged, ArePermittedBehind}}
+use Rattle.nntp_theory.specs.{Answered.{SomePermitsEach, facts_of_all}, Permitted.{exchanged, ArePermittedBehind}}
 use Rattle.nntp_theory.{specs.declared.noted.Noted.TheVariants.{Consistent, OutOfPlace, Contradiction}, proofs.Members.{all_both, all_back, any_back}}
 use Rattle.nntp_theory.proofs.Session.PairsGoOn.{MayFollow, of_these, permitted_next, facts_next, visible_next, position_next, as_many, ends, with_pair}
 use Rattle.nntp_theory.proofs.{Given.{SessionsByFacts.{stand_each}, SessionsGoOn.{facts_behind, small_behind}}, Together.WellFormed.{spelled_formed}}
@@ -64,13 +64,10 @@ module _ (profile : Profile) (facts : FactsKept) (earlier : List (List Paired)) 
         small : size (facts_of_all profile.marks (map exchanged earlier ++ of_these (asked_of past ++ asked_at pair.place ∷ []) (responses_of past ++ pair.response ∷ []) ∷ [])) < 2 ^ 210
         small = grind (arith, few, with_pair past pair, small_behind profile.marks earlier (past ++ pair ∷ []) s.sessions s.earlier_few few)
 
-        follows : After ↔ MayFollow profile (visible_from start.visible (asked_of past) (responses_of past)) (position_from Nowhere (asked_of past) (responses_of past)) all (asked_at pair.place)
-            pair.response
-        follows = permitted_next profile (map exchanged earlier) (asked_of past) (responses_of past) (asked_at pair.place) pair.response (as_many past) small s.permitted
-
         next : After ↔ MayFollow profile facts.visible facts.position all (asked_at pair.place) pair.response
-        next = subst (λ at. After ↔ MayFollow profile facts.visible at all (asked_at pair.place) pair.response) (sym s.position)
-            (subst (λ v. After ↔ MayFollow profile v (position_from Nowhere (asked_of past) (responses_of past)) all (asked_at pair.place) pair.response) (sym s.visible) follows)
+        next =
+            let follows = permitted_next profile (map exchanged earlier) (asked_of past) (responses_of past) (asked_at pair.place) pair.response (as_many past) small s.permitted in
+            grind (arith, follows, s.position, s.visible)
 
     -- where it doesn't join, it is a contradiction
     pub noted_contradiction : (Join all new → ⊥) → IsNotedBehind profile earlier past pair facts facts Contradiction
@@ -95,15 +92,8 @@ module _ (profile : Profile) (facts : FactsKept) (earlier : List (List Paired)) 
       },
     )
       where
-        new_facts : new ≡ facts_of profile.marks (visible_from start.visible (asked_of past) (responses_of past)) (position_from Nowhere (asked_of past) (responses_of past)) (asked_at pair.place)
-            pair.response
-        new_facts = ap₂ (λ v at. facts_of profile.marks v at (asked_at pair.place) pair.response) s.visible s.position
-
-        own : said_by profile.marks past ++ new ≡ said_by profile.marks (past ++ pair ∷ [])
-        own = grind (arith, ends, facts_next, as_many)
-
         whole : all ++ new ≡ said_behind profile.marks earlier (past ++ pair ∷ [])
-        whole = append_assoc (facts_of_all profile.marks (map exchanged earlier)) (said_by profile.marks past) new ∙ ap (λ own. facts_of_all profile.marks (map exchanged earlier) ++ own) own
+        whole = grind (arith, append_assoc (facts_of_all profile.marks (map exchanged earlier)) (said_by profile.marks past) new, ends, facts_next, as_many)
 
 -- ---- what is weighed
 

@@ -1,15 +1,15 @@
 -- What is kept in all, where the parts of an answer are noted.
-use Rattle.std.proofs.Common.{◌≡◌, ℕ, Bool, true, false, IsTrue, List, [], ◌∷◌, ◌++◌, Option, None, Some, refl, sym, ap, subst, ◌∙◌, arith}
-use Rattle.std.{proofs.lemmas.Bool.{true≢false}, specs.{Prelude.{◌↔◌, IfSome, option_map}, Option.{option_map_or}, List.{AllByRecursion}}}
+use Rattle.std.proofs.Common.{◌≡◌, ℕ, Bool, true, false, IsTrue, List, [], ◌∷◌, ◌++◌, Option, None, Some, sym, ap, subst, ◌∙◌, arith}
+use Rattle.std.{proofs.lemmas.Bool.{true≢false}, specs.{Prelude.{◌↔◌, IfSome}, List.{AllByRecursion}}}
 use Rattle.nntp_article.specs.{Article.Parts.{Id}, Inner.Listed.{Lists}}
 use Rattle.nntp_wire.specs.{Listing.{ActiveValue, OverviewValue}, declared.range.Range.{Range}}
 use Rattle.nntp_said.specs.{Asks.{Ask}, Facts.{Fact, OverviewsAre, GroupsAre}}
 use Rattle.nntp_theory.specs.Inner.Together.{IsWellFormed, said_of, join_said, Together, Join}
-use Rattle.nntp_facts.specs.Inner.{ListedGroups.{MayList}, Saying.{OfGroup, OfArticle, Saying, facts_in, AreListed, IsToExist, MayBeOf, Tells, MaySay, listing}}
-use Rattle.nntp_facts.specs.Inner.{Saying.{overviews_facts}, Kept.{Kept, IsKept, AreKeptNames, AreKeptGroups, AreAdded}, KeptSaying.{MayListOf, IsTextOf}}
-use Rattle.nntp_facts.{specs.Inner.KeptSaying.{JoinGroups, MayBeSaid, ArticleJoins, IsArticleAdded}, proofs.Keeping.OverviewsTold.{plain_told, plain_if}}
-use Rattle.nntp_facts.proofs.Keeping.{OverviewsTold.{group_there, of_range, overviews_told, no_id_there, asks_there}, PartsJoin.{parts_join, said_of_parts}}
-use Rattle.nntp_facts.proofs.Keeping.{SaidOfArticles.{said_append}, KeptArticles.{Articles}}
+use Rattle.nntp_facts.specs.Inner.{ListedGroups.{MayList}, Saying.{OfGroup, OfArticle, Saying, facts_in, AreListed, IsToExist, MayBeOf, Tells, MaySay}}
+use Rattle.nntp_facts.specs.Inner.{Saying.{group_of_overviews, overviews_facts}, Kept.{Kept, IsKept, AreKeptNames, AreKeptGroups, AreAdded}}
+use Rattle.nntp_facts.specs.Inner.KeptSaying.{MayListOf, IsTextOf, JoinGroups, MayBeSaid, ArticleJoins, IsArticleAdded}
+use Rattle.nntp_facts.proofs.Keeping.OverviewsTold.{plain_told, plain_if, group_there, of_range, overviews_told, no_id_there, asks_there}
+use Rattle.nntp_facts.proofs.Keeping.{PartsJoin.{parts_join, said_of_parts}, SaidOfArticles.{said_append}, KeptArticles.{Articles}}
 
 -- what has the same parts is the same
 pub kept_is : (a b : Kept) → a.groups ≡ b.groups → a.names ≡ b.names → a.articles ≡ b.articles → a ≡ b
@@ -36,25 +36,20 @@ list_added facts more s wildmat lines lists old new does is listed t formed adds
 -- ---- where overviews are
 
 -- the saying lists overviews of the group
-listing_is : (s : Saying) (g : OfGroup) → listing s ≡ Some g → (o : Range × List OverviewValue) × (s.overviews ≡ Some o) × (s.group ≡ Some g)
-listing_is s g e = by s.overviews refl e
-  where
-    by : (o : Option (Range × List OverviewValue)) → s.overviews ≡ o → option_map_or (λ o. s.group) o None ≡ Some g
-        → (o : Range × List OverviewValue) × (s.overviews ≡ Some o) × (s.group ≡ Some g)
-    by None is e = cc
-    by (Some o) is e = (o, is, e)
+overviews_are_of : (s : Saying) (g : OfGroup) → group_of_overviews s ≡ Some g → (o : Range × List OverviewValue) × (s.overviews ≡ Some o) × (s.group ≡ Some g)
+overviews_are_of s g e = grind (arith, e)
 
 -- or none
-pub lists_none : (facts : List Fact) (s : Saying) (asks : List Ask) → MaySay facts s asks → listing s ≡ None → s.overviews ≡ None
+pub lists_none : (facts : List Fact) (s : Saying) (asks : List Ask) → MaySay facts s asks → group_of_overviews s ≡ None → s.overviews ≡ None
 lists_none facts s asks may e = plain_if facts s asks may (λ o is. let g = group_there facts s asks may o is in grind (arith, e, is, g.1))
 
 -- so what is added of them is added
-pub overviews_added : (facts more : List Fact) (s : Saying) (g : OfGroup) (lists : Lists) (old new : Kept) (does : Bool) → listing s ≡ Some g → AreListed s lists
+pub overviews_added : (facts more : List Fact) (s : Saying) (g : OfGroup) (lists : Lists) (old new : Kept) (does : Bool) → group_of_overviews s ≡ Some g → AreListed s lists
     → Tells facts s more → AllByRecursion IsWellFormed more
     → ((range : Range) → AllByRecursion IsWellFormed (overviews_facts (Some g) (range, lists.overviews)) → MayListOf facts g range lists.overviews
     → AreAdded facts (overviews_facts (Some g) (range, lists.overviews)) old new does)
     → AreAdded facts more old new does
-overviews_added facts more s g lists old new does e listed t formed adds = by (listing_is s g e)
+overviews_added facts more s g lists old new does e listed t formed adds = by (overviews_are_of s g e)
   where
     by : (o : Range × List OverviewValue) × (s.overviews ≡ Some o) × (s.group ≡ Some g) → AreAdded facts more old new does
     by ((range, os), is, named) =
@@ -62,14 +57,12 @@ overviews_added facts more s g lists old new does e listed t formed adds = by (l
         let asked = asks_there facts s t.asks t.may (range, os) is g named in
         let whole : OverviewsAre g.name range os ∷ [] ≡ more = sym (overviews_told facts s t.asks t.may (range, os) is g named) ∙ t.same in
         let same : lists.overviews ≡ os = subst (λ o. IfSome o (λ o. lists.overviews ≡ o.1)) is listed.1 in
-        let adds = subst (λ os. AllByRecursion IsWellFormed (overviews_facts (Some g) (range, os)) → MayListOf facts g range os
-        → AreAdded facts (overviews_facts (Some g) (range, os)) old new does) same (adds range) in
-        subst (λ more. AreAdded facts more old new does) whole (adds (subst (AllByRecursion IsWellFormed) (sym whole) formed) (record {
+        let may : MayListOf facts g range lists.overviews = record {
           shown = grind (arith, t.may.shown, of.there_is, named);
-          numbers = grind (arith, t.may.numbers, asked, named);
+          numbers = grind (arith, t.may.numbers, asked, named, same);
           id = no_id_there facts s t.asks t.may (range, os) is g named;
-          own = of.own;
-        }))
+          own = grind (arith, of.own, same);
+        } in grind (arith, adds range, may, whole, same, formed)
 
 -- ---- where nothing is listed
 

@@ -22,7 +22,7 @@ session_begins profile facts earlier past h count = record {
   permitted = (
     h.permitted.0,
     h.permitted.1,
-    subst (PermitsEach profile h.permitted.0) (sym pushed)
+    subst (PermitsEach profile h.permitted.0) (sym (ap (λ sessions. sessions ++ exchanged [] ∷ []) both))
         (all_both (λ (s : Answered). Run profile h.permitted.0 start s.prompts s.answers) (map exchanged earlier ++ exchanged past ∷ []) (exchanged [] ∷ []) h.permitted.2 (tt, tt)),
   );
   sessions = omega (arith, count, length-append earlier (past ∷ []));
@@ -33,9 +33,6 @@ session_begins profile facts earlier past h count = record {
   where
     both : map exchanged (earlier ++ past ∷ []) ≡ map exchanged earlier ++ exchanged past ∷ []
     both = map-append exchanged earlier (past ∷ [])
-
-    pushed : map exchanged (earlier ++ past ∷ []) ++ exchanged [] ∷ [] ≡ (map exchanged earlier ++ exchanged past ∷ []) ++ exchanged [] ∷ []
-    pushed = ap (λ sessions. sessions ++ exchanged [] ∷ []) both
 
     said : said_behind profile.marks earlier past ≡ said_behind profile.marks (earlier ++ past ∷ []) []
     said = grind (arith, append-nil, both, facts_behind)

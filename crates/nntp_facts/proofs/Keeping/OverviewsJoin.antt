@@ -1,23 +1,22 @@
 -- When overviews join what was said, and what is kept then.
-use Rattle.std.proofs.Common.{◌≡◌, ℕ, Bool, true, false, not, ◌||◌, ◌&&◌, ◌==◌, cond, IsTrue, List, [], ◌∷◌, ◌++◌, Option, None, Some, refl, sym, ap, subst}
-use Rattle.std.proofs.{Common.{◌∙◌, append-nil, arith}, lemmas.{Bool.{true≢false, or_left, eqb-true, eq-eqb}, List.Folds.{list_any-append}}}
-use Rattle.std.{proofs.Math.Bool.{or-false}, specs.{Prelude.{◌↔◌, IfSome, IsFalse}, List.{AllByRecursion, list_any}, Option.{option_or, option_map_or}}}
-use Rattle.std.specs.{Cmp.Lexicographic.{same_text}, FinMap.{get}}
+use Rattle.std.proofs.Common.{◌≡◌, Bool, true, false, cond, IsTrue, List, [], ◌∷◌, ◌++◌, Option, None, Some, refl, sym, ap, subst, ◌∙◌, append-nil, arith}
+use Rattle.std.{proofs.{lemmas.{Bool.{true≢false, or_left, eqb-true, eq-eqb}, List.Folds.{list_any-append}}, Math.Bool.{or-false}}, specs.Prelude.{◌↔◌, IfSome}}
+use Rattle.std.specs.{Prelude.{IsFalse}, List.{AllByRecursion, list_any}, Option.{option_or}, Cmp.Lexicographic.{same_text}, FinMap.{get}}
 use Rattle.nntp_wire.specs.{Listing.{OverviewValue, Fields}, declared.range.Range.{Range}}
 use Rattle.nntp_article.specs.{Article.Parts.{Id}, Session.{Spool.{Name}, Machine.{is_same, overview_numbers}}}
 use Rattle.nntp_said.specs.{Asks.{Ask, ListsIn}, Facts.{Fact, OverviewsAre}}
-use Rattle.nntp_theory.specs.Given.{asks_of, shows_group, is_shown_group, first_given, id_of_overview, id_in, has_overview_of, fields_of_overview, fields_in}
+use Rattle.nntp_theory.specs.Given.{asks_of, shows_group, is_shown_group, first_given, id_of_overview, id_in, fields_of_overview, fields_in}
 use Rattle.nntp_theory.specs.{Together.{number_of_overview, number_in, denies_article}, Inner.Together.{AsksStand, IsWellFormed, JoinNumbers, JoinIds}}
-use Rattle.nntp_theory.{specs.Inner.Together.{Together, Join, SaidOfArticle, said_of, AreSame, said_nothing, join_said}, proofs.Members.{In, all_at, all_from}}
-use Rattle.nntp_theory.proofs.{Members.{all_back, any_in, found_in}, Together.{FactsOfASpoolStand.{same_itself}, FactsJoin.{asks_append}}}
-use Rattle.nntp_theory.proofs.Together.{TwoListsOfFacts.{given_append, given_silent, or_none, any_silent}, ListedOverviews.{overview_at, overview_of, told_by}}
-use Rattle.nntp_facts.specs.Inner.Kept.{Kept, KeptArticle, IsKept, Told, told, AreKept, AreKeptNames, AreKeptArticles, with_part, Changes, MayShow, said_kept}
+use Rattle.nntp_theory.{specs.Inner.Together.{Together, Join, SaidOfArticle, said_of, AreSame, join_said}, proofs.Members.{In, all_at, all_from, all_back}}
+use Rattle.nntp_theory.proofs.{Members.{any_in, found_in}, Together.{FactsOfASpoolStand.{same_itself}, FactsJoin.{asks_append}, TwoListsOfFacts.{given_append}}}
+use Rattle.nntp_theory.proofs.Together.{TwoListsOfFacts.{given_silent, or_none, any_silent}, ListedOverviews.{overview_at, overview_of, told_by}}
+use Rattle.nntp_facts.specs.Inner.Kept.{Kept, IsKept, Told, told, AreKept, AreKeptNames, AreKeptArticles, with_part, Changes, MayShow, said_kept}
 use Rattle.nntp_facts.specs.Inner.KeptSaying.{IsSaidKept, IsSaidAdded, MayGive, MayBeGiven, with_overviews, said_alone, said_listed}
 use Rattle.nntp_facts.specs.Inner.{ListedOverviews.{HaveOwn, OverviewJoins, id_listed, place_listed}, Articles.{telling}}
-use Rattle.nntp_facts.proofs.Keeping.{KeptNamesAndGroups.{names_kept}, KeptArticles.{Articles, MayKeep, article_joins, denied_kept}}
-use Rattle.nntp_facts.proofs.Keeping.{ListedOverviews.{listed_asks, listed_ids, listed_places, listed_said, own_agree, none_in_front}, FactsOfOneGroup.{IsOr}}
-use Rattle.nntp_facts.proofs.Keeping.{FactsOfOneGroup.{asked_here, asked_elsewhere}, PartsJoin.{agree_told}, SaidOfArticles.{said_append}}
-use Rattle.nntp_facts.proofs.Keeping.SilentFacts.{numbers_join, told_same}
+use Rattle.nntp_facts.proofs.Keeping.{KeptNames.{names_kept}, KeptArticles.{Articles, MayKeep, article_joins, denied_kept}, ListedOverviews.{listed_asks}}
+use Rattle.nntp_facts.proofs.Keeping.{ListedOverviews.{listed_ids, listed_places, listed_said, own_agree, none_in_front}, FactsOfOneGroup.{asked_here}}
+use Rattle.nntp_facts.proofs.Keeping.{FactsOfOneGroup.{asked_elsewhere}, PartsJoin.{agree_told}, SaidOfArticles.{said_append}, SilentFacts.{numbers_join}}
+use Rattle.nntp_facts.proofs.Keeping.SilentFacts.{told_same}
 
 -- what is told of a group, once its numbers have the ids of these overviews
 abbrev pub with_listed : Told → List OverviewValue → Told
@@ -40,6 +39,10 @@ put_changes tells before name t u same is = record { here = put_there tells name
 abbrev pub AreGiven : List Fact → (Name → Told) → Name → List OverviewValue → Kept → Type 0
 AreGiven facts tells name os k = AreKept (with_overviews tells name os) k.groups × ((id : Id) → join_said (said_of facts id) (said_listed os id) ≡ said_kept (get k.articles id))
 
+-- what holds of what is given, if anything is, holds where nothing else is
+given_or : {A : Type 0} {P : A → Type 0} (o : Option A) → ((x : A) → o ≡ Some x → P x) → IfSome (option_or o None) P
+given_or o h = grind arith
+
 module _ (facts : List Fact) (name : Name) (r : Range) (os : List OverviewValue) where
   -- the overviews as a fact, and as an ask
   abbrev pub more : List Fact
@@ -51,24 +54,15 @@ module _ (facts : List Fact) (name : Name) (r : Range) (os : List OverviewValue)
   -- ids join where the number of each overview may have its id
   ids_from : ((o : OverviewValue) → In o os → MayShow (told facts name) (Some (o.number, o.id))) → JoinIds facts more
   ids_from may = record {
-    ids = λ other n. ids other n (id_in other n (OverviewsAre name r os)) refl;
-    ids_once = λ other id. places other id (number_in other id (OverviewsAre name r os)) refl;
+    ids = λ other n. given_or _ (λ id e. let h = overview_at name other r os n id e in grind (arith, h.same_group, h.same_number, h.same_id, may h.overview h.there));
+    ids_once = λ other id. given_or _ (λ n e. let h = overview_of name other r os id n e in grind (arith, h.same_group, h.same_number, h.same_id, may h.overview h.there));
   }
-    where
-      ids : (other : Name) (n : ℕ) (o : Option Id) → id_in other n (OverviewsAre name r os) ≡ o → IfSome (option_or o None) (IsOr (first_given (id_in other n) facts))
-      ids other n None e = tt
-      ids other n (Some id) e = let h = overview_at name other r os n id e in grind (arith, h.same_group, h.same_number, h.same_id, may h.overview h.there)
-
-      places : (other : Name) (id : Id) (o : Option ℕ) → number_in other id (OverviewsAre name r os) ≡ o → IfSome (option_or o None) (IsOr (first_given (number_in other id) facts))
-      places other id None e = tt
-      places other id (Some n) e = let h = overview_of name other r os id n e in grind (arith, h.same_group, h.same_number, h.same_id, may h.overview h.there)
 
   -- and back
   may_from : HaveOwn os → JoinIds facts more → (o : OverviewValue) → In o os → MayShow (told facts name) (Some (o.number, o.id))
   may_from own j o i =
       let all = all_at _ o os (own_agree name r os own) i in
-      let own : (id_listed os o.number ≡ Some o.id) × (place_listed os o.id ≡ Some o.number) = (all.0, all.1) in
-      grind (arith, same_itself name, own.0, own.1, j.ids name o.number, j.ids_once name o.id)
+      grind (arith, same_itself name, all.0, all.1, j.ids name o.number, j.ids_once name o.id)
 
   pub overviews_join : Together facts → AllByRecursion IsWellFormed more → HaveOwn os → Join facts more ↔ (AsksStand (asks_of name facts ++ asks) × AllByRecursion (OverviewJoins facts name) os)
   overviews_join t formed own = (
@@ -77,7 +71,7 @@ module _ (facts : List Fact) (name : Name) (r : Range) (os : List OverviewValue)
       all_from (OverviewJoins facts name) os (λ o i. record {
         id = may_from own j.ids o i;
         free = (j.articles o.id).shown (or_left _ false (any_in (λ (v : OverviewValue). is_same v.id o.id) o os i (same_itself o.id)));
-        fields = own_fields o o.told (all_at _ o os (own_agree name r os own) i).2 (j.articles o.id).fields;
+        fields = let all = all_at _ o os (own_agree name r os own) i in let same = (j.articles o.id).fields in grind (arith, or_none, all.2, same);
       }),
     ),
     λ h. record {
@@ -93,21 +87,11 @@ module _ (facts : List Fact) (name : Name) (r : Range) (os : List OverviewValue)
       numbers : JoinNumbers facts more ↔ AsksStand (asks_of name facts ++ asks)
       numbers = numbers_join facts more name asks t (asked_here name asks more (listed_asks name r os)) (asked_elsewhere name asks more (listed_asks name r os))
 
-      own_fields : (o : OverviewValue) (told : Option Fields) → IfSome told (λ fields. first_given (fields_of_overview o.id) os ≡ Some fields)
-          → AreSame (option_or (first_given (fields_of_overview o.id) os) None) (first_given (fields_in o.id) facts) → AreSame told (first_given (fields_in o.id) facts)
-      own_fields o None own same = tt
-      own_fields o (Some fields) own same = subst (λ more. AreSame more (first_given (fields_in o.id) facts)) (or_none _ ∙ own) same
-
       -- what they tell of an id is what one of them tells
       told : AllByRecursion (OverviewJoins facts name) os → (id : Id) → AreSame (option_or (first_given (fields_of_overview id) os) None) (first_given (fields_in id) facts)
-      told all id = subst (λ more. AreSame more (first_given (fields_in id) facts)) (sym (or_none (first_given (fields_of_overview id) os))) (by (first_given (fields_of_overview id) os) refl)
-        where
-          by : (o : Option Fields) → first_given (fields_of_overview id) os ≡ o → AreSame o (first_given (fields_in id) facts)
-          by None e = tt
-          by (Some fields) e =
-              let f = told_by os id fields e in
-              let j = all_at (OverviewJoins facts name) f.overview os all f.there in
-              subst (λ told. AreSame told (first_given (fields_in id) facts)) f.told (subst (λ id. AreSame f.overview.told (first_given (fields_in id) facts)) f.same_id j.fields)
+      told all id = given_or _ (λ fields e.
+          let f = told_by os id fields e in
+          let j = all_at (OverviewJoins facts name) f.overview os all f.there in grind (arith, f.told, f.same_id, j.fields))
 
       free : AllByRecursion (OverviewJoins facts name) os → (id : Id) → IsTrue (list_any (λ o. is_same o.id id) os) → IsFalse (list_any (denies_article id) facts)
       free all id e =
@@ -195,17 +179,8 @@ module _ (facts : List Fact) (tells : Name → Told) (name : Name) (front : List
   -- the article of one more is said
   pub said_next : (id : Id) → join_said (said_of facts id) (said_listed (front ++ o ∷ []) id) ≡ join_said (said_of so_far id) (said_alone o.id (telling false o.told) id)
   said_next id =
-      by (has_overview_of id front) (is_same o.id id) (first_given (fields_of_overview id) front) (said_of facts id)
-      (list_any-append (λ (v : OverviewValue). is_same v.id id) front (o ∷ [])) (given_append (fields_of_overview id) front (o ∷ []))
-      ∙ ap (λ s. join_said s (said_alone o.id (telling false o.told) id)) (sym (said_so_far id))
-    where
-      -- overviews of which some have the id and tell these fields of it
-      some_listed : Bool → Option Fields → SaidOfArticle
-      some_listed has fields = record { is_mentioned = has; is_shown = has; is_denied = false; is_sent = false; head = None; fields = fields; body = None }
-
-      by : (a b : Bool) {c : Bool} (x : Option Fields) {y : Option Fields} (before : SaidOfArticle) → c ≡ (a || (b || false)) → y ≡ option_or x (option_or (cond b o.told None) None)
-          → join_said before (some_listed c y) ≡ join_said (join_said before (some_listed a x)) (cond b (said_kept (Some (telling false o.told))) said_nothing)
-      by a b x before e f = grind (arith, or-false, or_none)
+      let has = list_any-append (λ (v : OverviewValue). is_same v.id id) front (o ∷ []) in
+      grind (arith, said_so_far id, has, given_append (fields_of_overview id) front (o ∷ []), or-false, or_none)
 
   -- what may be given of the next one beside what was told before, may be given beside those in front too
   pub may_give_next : (rest : List OverviewValue) → HaveOwn (front ++ o ∷ rest) → AllByRecursion (MayGive facts (tells name)) (front ++ o ∷ rest)
@@ -226,33 +201,18 @@ pub surely_added : (facts : List Fact) (id : Id) (told : Option Fields) (old new
     → AreSame told (first_given (fields_in id) facts) → IsSaidAdded facts (said_alone id (telling false told)) old new does
     → (does ≡ true) × IsSaidKept facts (said_alone id (telling false told)) new
 surely_added facts id told old new true kept free same added = (refl, added.1)
-surely_added facts id told old new false kept free same added = absurd (added.0 ((article_joins facts old id (telling false told) kept).1 (may (get old id) denied told_before)))
-  where
-    denied : option_map_or (λ a. a.is_denied) (get old id) false ≡ false
-    denied = sym (denied_kept facts old id kept) ∙ free
-
-    told_before : AreSame told (said_kept (get old id)).fields
-    told_before = subst (AreSame told) (ap (λ (s : SaidOfArticle). s.fields) (kept id)) same
-
-    may : (o : Option KeptArticle) → option_map_or (λ a. a.is_denied) o false ≡ false → AreSame told (said_kept o).fields → MayKeep o (telling false told)
-    may None d t = tt
-    may (Some a) d t = (d, tt, t, tt)
+surely_added facts id told old new false kept free same added =
+    let denied = sym (denied_kept facts old id kept) ∙ free in
+    let before = subst (AreSame told) (ap (λ (s : SaidOfArticle). s.fields) (kept id)) same in
+    let may : MayKeep (get old id) (telling false told) = grind (arith, denied, before) in
+    absurd (added.0 ((article_joins facts old id (telling false told) kept).1 may))
 
 -- an overview joins where it may be given
 pub gives_joins : (facts : List Fact) (name : Name) (k : Kept) (o : OverviewValue) → IsKept facts k → MayBeGiven (told facts name) k.articles o ↔ OverviewJoins facts name o
 gives_joins facts name k o kept =
-    let is = by _ _ _ _ (id ((told facts name).ids o.number)) (place ((told facts name).places o.id)) (denied_kept facts k.articles o.id kept.articles) in
-    let same = ap (λ (s : SaidOfArticle). s.fields) (kept.articles o.id) in (
-      λ t. record { id = (is.0 t.0).0; free = (is.0 t.0).1; fields = subst (AreSame o.told) (sym same) t.1 },
-      λ j. (is.1 (j.id, j.free), subst (AreSame o.told) same j.fields),
+    let denied = denied_kept facts k.articles o.id kept.articles in
+    let same = ap (λ (s : SaidOfArticle). s.fields) (kept.articles o.id) in
+    let text : (y : Id) → is_same y o.id ≡ true → y ≡ o.id = λ y e. same_text y o.id (sym e) in (
+      λ t. record { id = grind (arith, t.0, text, eqb-true); free = grind (arith, t.0, denied); fields = subst (AreSame o.told) (sym same) t.1 },
+      λ j. (grind (arith, j.id, j.free, denied, same_itself o.id, eq-eqb), subst (AreSame o.told) same j.fields),
     )
-  where
-    id : (x : Option Id) → IsTrue (option_map_or (λ other. is_same other o.id) x true) ↔ IsOr x o.id
-    id None = (λ t. tt, λ h. refl)
-    id (Some y) = (λ t. sym (same_text y o.id (sym t)), λ e. subst (λ y. is_same y o.id ≡ true) e (same_itself o.id))
-
-    place : (x : Option ℕ) → IsTrue (option_map_or (λ other. other == o.number) x true) ↔ IsOr x o.number
-    place x = grind (arith, eqb-true, eq-eqb)
-
-    by : {P Q : Type 0} (a b c d : Bool) → IsTrue a ↔ P → IsTrue b ↔ Q → d ≡ c → IsTrue (a && b && not c) ↔ ((P × Q) × IsFalse d)
-    by a b c d p q is = grind arith

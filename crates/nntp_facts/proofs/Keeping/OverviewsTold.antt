@@ -1,6 +1,6 @@
 -- What a saying tells, by overviews or otherwise.
-use Rattle.std.proofs.Common.{◌≡◌, ℕ, false, cond, List, [], ◌∷◌, ◌++◌, Option, None, Some, MatchOption, refl, sym, ap, subst, ◌∙◌, arith}
-use Rattle.std.specs.{Prelude.{IfSome}, List.{list_any}, Option.{option_map_or}}
+use Rattle.std.{proofs.Common.{◌≡◌, ℕ, false, cond, List, [], ◌∷◌, ◌++◌, Option, None, Some, MatchOption, sym, ap, subst, ◌∙◌, arith}, specs.Prelude.{IfSome}}
+use Rattle.std.specs.{List.{list_any}, Option.{option_map_or}}
 use Rattle.nntp_wire.specs.{Listing.{OverviewValue}, declared.range.Range.{Range}}
 use Rattle.nntp_article.specs.{Article.Parts.{Id}, Session.{Spool.{Name}, Machine.{is_same, overview_numbers}}}
 use Rattle.nntp_said.specs.{Asks.{Ask, ListsIn}, Facts.{Fact, OverviewsAre}}
@@ -51,28 +51,20 @@ module _ (facts : List Fact) (s : Saying) (asks : List Ask) (may : MaySay facts 
   -- what is read off facts is that of the overviews, or that of the other parts
   read_told : {M : Type 0} (read : List Fact → M) (value : Overviews → M) → read (facts_in s asks) ≡ value None
       → ((o : Range × List OverviewValue) → s.overviews ≡ Some o → read (overviews_facts s.group o) ≡ value (Some o)) → read (facts_told s asks) ≡ value s.overviews
-  read_told {M} read value plain listed = by s.overviews refl
-    where
-      by : (o : Overviews) → s.overviews ≡ o → read (option_map_or (overviews_facts s.group) o (facts_in s asks)) ≡ value o
-      by None e = plain
-      by (Some o) e = listed o e
+  read_told read value plain listed = grind (arith, plain, listed)
 
   -- ---- where no groups are listed
 
   module _ (no_list : s.groups ≡ None) where
-    -- overviews show no group and deny none
-    silent : (g : Option OfGroup) (o : Range × List OverviewValue) (name : Name) → (is_shown_group (overviews_facts g o) name ≡ false) × (list_any (denies_group name) (overviews_facts g o) ≡ false)
-    silent g o name = grind arith
-
     pub shown_by_told : (name : Name) → is_shown_group (facts_told s asks) name ≡ option_map_or (λ g. is_same g name) s.there_is false
     shown_by_told name =
         read_told (λ facts. is_shown_group facts name) (λ o. option_map_or (λ g. is_same g name) s.there_is false) (shown_group s asks no_list name)
-        (λ o e. (silent s.group o name).0 ∙ sym (ap (λ o. option_map_or (λ g. is_same g name) o false) (of_range o e).there_is))
+        (λ o e. let none = (of_range o e).there_is in grind (arith, none))
 
     pub denied_by_told : (name : Name) → list_any (denies_group name) (facts_told s asks) ≡ option_map_or (λ g. is_same g name) s.there_is_no false
     denied_by_told name =
         read_told (list_any (denies_group name)) (λ o. option_map_or (λ g. is_same g name) s.there_is_no false) (denied_group s asks no_list name)
-        (λ o e. (silent s.group o name).1 ∙ sym (ap (λ o. option_map_or (λ g. is_same g name) o false) (of_range o e).there_is_no))
+        (λ o e. let none = (of_range o e).there_is_no in grind (arith, none))
 
     pub said_by_told : (id : Id) → said_of (facts_told s asks) id ≡ said_by s id
     said_by_told id =

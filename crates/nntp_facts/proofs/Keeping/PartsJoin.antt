@@ -9,15 +9,14 @@ use Rattle.nntp_theory.specs.{Given.{asks_of, is_shown_group, first_given, id_in
 use Rattle.nntp_theory.specs.{Inner.Together.{join_said, Together, JoinNames, JoinNumbers, JoinIds, JoinArticle, Join}, Together.{denies_group, number_in}}
 use Rattle.nntp_theory.proofs.Together.{TwoListsOfFacts.{given_append}, FactsJoin.{asks_append}, FactsOfASpoolStand.{same_itself}}
 use Rattle.nntp_theory.proofs.{Together.ListedOverviews.{alone_agrees}, Members.{all_both}, Ids.OnePlaceOfAnId.{agree_together, shown_with_id}}
-use Rattle.nntp_facts.specs.Inner.Saying.{OfGroup, OfArticle, Lacks, Exists, Describes, Saying, asked_id, sent_facts, lack_facts, there_facts, missing_facts}
-use Rattle.nntp_facts.specs.Inner.{Saying.{groups_facts, id_facts, group_facts, facts_in, MaySay, IsToExist, MayBeOf, IsShownThen}, Kept.{told, Told, IsUntold}}
-use Rattle.nntp_facts.specs.Inner.Kept.{AreKept, AreKeptGroups, with_part, Changes, Agree, IsShownAt, MayShow, AreKeptWith, id_of, place_of}
-use Rattle.nntp_facts.{specs.Inner.KeptSaying.{GroupJoins, JoinGroups, said_in, ArticleJoins}, proofs.Keeping.KeptNamesAndGroups.{groups_kept}}
-use Rattle.nntp_facts.proofs.Keeping.{KeptGroups.{Groups}, FactsOfOneGroup.{AskOf, asked_here, asked_elsewhere, GivesId, gives_joins}}
-use Rattle.nntp_facts.proofs.Keeping.FactsOfParts.{given_is_read, asks_are_read, ids_in, of_articles, of_group, group_asks, group_ids, group_places}
-use Rattle.nntp_facts.proofs.Keeping.{FactsOfParts.{shown_group, denied_group}, SaidOfArticles.{nothing_more, said_is_read, lack_said, there_said, text_said}}
-use Rattle.nntp_facts.proofs.Keeping.{SaidOfArticles.{text_at, overview_said, overview_at}, SilentFacts.{numbers_join, no_numbers_join, GiveNoIds, ids_join}}
-use Rattle.nntp_facts.proofs.Keeping.SilentFacts.{told_same}
+use Rattle.nntp_facts.specs.Inner.Saying.{OfGroup, OfArticle, Exists, Describes, Saying, asked_id, sent_facts, lack_facts, there_facts, missing_facts}
+use Rattle.nntp_facts.specs.Inner.{Saying.{groups_facts, id_facts, group_facts, facts_in, MaySay, IsToExist, MayBeOf}, Kept.{told, Told, IsUntold, AreKept}}
+use Rattle.nntp_facts.specs.Inner.{Kept.{AreKeptGroups, with_part, Changes, Agree, IsShownAt, MayShow, AreKeptWith, id_of, place_of}, KeptSaying.{GroupJoins}}
+use Rattle.nntp_facts.{specs.Inner.KeptSaying.{JoinGroups, said_in, ArticleJoins}, proofs.Keeping.SilentFacts.{groups_kept, numbers_join, no_numbers_join}}
+use Rattle.nntp_facts.proofs.Keeping.{SilentFacts.{GiveNoIds, ids_join, told_same}, KeptGroups.{Groups}, FactsOfOneGroup.{AskOf, asked_here, asked_elsewhere}}
+use Rattle.nntp_facts.proofs.Keeping.{FactsOfOneGroup.{GivesId, gives_joins}, FactsOfParts.{asks_of_group, ids_in, of_articles, group_asks, group_ids}}
+use Rattle.nntp_facts.proofs.Keeping.{FactsOfParts.{group_places, shown_group, denied_group}, SaidOfArticles.{nothing_more, said_is_read, lack_said}}
+use Rattle.nntp_facts.proofs.Keeping.SaidOfArticles.{there_said, text_said, text_at, overview_said, overview_at}
 use Rattle.nntp_numbers.specs.Inner.{Summary.{AreBounded}, Part.{Says}}
 
 -- ---- articles
@@ -26,15 +25,9 @@ use Rattle.nntp_numbers.specs.Inner.{Summary.{AreBounded}, Part.{Says}}
 of_part : (a : Option (Id × OfArticle)) (name : Name) (e : Option (ℕ × Id)) → IfSome e (λ e. IsToExist a e.1) → ((other : Id) → a ≡ Some (other, Exists) → MatchOption e ⊥ (λ e. e.1 ≡ other))
     → ((other : Id) (os : List OverviewValue) → a ≡ Some (other, Describes os) → MatchOption (only os) ⊥ (λ o. o.id ≡ other)) → (id : Id)
     → join_said (said_of (sent_facts a) id) (join_said (said_of (id_facts name e) id) (said_of (lack_facts a) id)) ≡ said_in a id
-of_part None name None placed may one id = refl
-of_part None name (Some e) placed may one id = absurd placed
-of_part (Some (other, Lacks)) name None placed may one id = lack_said other id
-of_part (Some (other, Lacks)) name (Some e) placed may one id = absurd placed
 of_part (Some (other, Exists)) name None placed may one id = absurd (may other refl)
-of_part (Some (other, Describes os)) name None placed may one id =
-    ap (λ s. join_said s said_nothing) (overview_said other os (one other os refl) id) ∙ nothing_more (said_in (Some (other, Describes os)) id)
-of_part (Some (other, Describes os)) name (Some e) placed may one id = grind (arith, nothing_more, there_said, overview_said other os (one other os refl) id, overview_at)
-of_part s name d placed may one id = grind (arith, nothing_more, there_said, text_said, text_at)
+of_part (Some (other, Describes os)) name d placed may one id = grind (arith, nothing_more, there_said, overview_said other os (one other os refl) id, overview_at)
+of_part s name d placed may one id = grind (arith, nothing_more, lack_said, there_said, text_said, text_at)
 
 -- an overview agrees with itself, as it is the only one
 part_agrees : (group : Option OfGroup) (a : Option (Id × OfArticle)) → IfSome a (MayBeOf group) → AllByRecursion AgreesWithItself (sent_facts a)
@@ -43,14 +36,11 @@ part_agrees group a may = grind arith
 
 -- of the parts none is a list of overviews of a range
 parts_agree : (s : Saying) (asks : List Ask) → IfSome s.article (MayBeOf s.group) → AllByRecursion AgreesWithItself (facts_in s asks)
-parts_agree s asks may = front s.article s.there_is _ (part_agrees s.group s.article may) (of s.group asks _ (back s.article s.there_is_no s.groups))
+parts_agree s asks may =
+    all_both AgreesWithItself (sent_facts s.article) _ (part_agrees s.group s.article may) (there s.there_is _ (of s.group asks _ (back s.article s.there_is_no s.groups)))
   where
-    front : (a : Option (Id × OfArticle)) (o : Option Name) (more : List Fact) → AllByRecursion AgreesWithItself (sent_facts a) → AllByRecursion AgreesWithItself more
-        → AllByRecursion AgreesWithItself (sent_facts a ++ (there_facts o ++ more))
-    front a o more own h = all_both AgreesWithItself (sent_facts a) (there_facts o ++ more) own (there o)
-      where
-        there : (o : Option Name) → AllByRecursion AgreesWithItself (there_facts o ++ more)
-        there o = grind arith
+    there : (o : Option Name) (more : List Fact) → AllByRecursion AgreesWithItself more → AllByRecursion AgreesWithItself (there_facts o ++ more)
+    there o more h = grind arith
 
     of : (g : Option OfGroup) (asks : List Ask) (more : List Fact) → AllByRecursion AgreesWithItself more → AllByRecursion AgreesWithItself (group_facts g asks ++ more)
     of None asks more h = h
@@ -80,38 +70,30 @@ module _ (facts : List Fact) (s : Saying) (asks : List Ask) (may : MaySay facts 
   bounded_then not_shown n large = grind (arith, true≢false, list_any-append, or_left)
 
 module _ (facts : List Fact) (s : Saying) (asks : List Ask) (no_list : s.groups ≡ None) (may : MaySay facts s asks) where
-  exists_at : (other : Id) → s.article ≡ Some (other, Exists) → MatchOption s.group ⊥ (λ g. MatchOption g.id ⊥ (λ e. e.1 ≡ other))
-  exists_at other is = subst (λ a. IfSome a (MayBeOf s.group)) is may.article
-
-  only_told : (other : Id) (os : List OverviewValue) → s.article ≡ Some (other, Describes os) → MatchOption (only os) ⊥ (λ o. o.id ≡ other)
-  only_told other os is = subst (λ a. IfSome a (MayBeOf s.group)) is may.article
+  be_of : (a : Id × OfArticle) → s.article ≡ Some a → MayBeOf s.group a
+  be_of a is = subst (λ a. IfSome a (MayBeOf s.group)) is may.article
 
   -- of each id all facts say what the article's part does
   pub said_of_parts : (id : Id) → said_of (facts_in s asks) id ≡ said_in s.article id
   said_of_parts id =
       of_articles (λ facts. said_of facts id) join_said said_nothing (said_is_read id) s asks no_list (λ name. refl) (λ name. refl) (λ name ask. refl)
-      ∙ by s.group may.placed exists_at
+      ∙ by s.group may.placed (λ other. be_of (other, Exists))
     where
       by : (g : Option OfGroup) → IfSome g (λ g. IfSome g.id (λ e. IsToExist s.article e.1))
           → ((other : Id) → s.article ≡ Some (other, Exists) → MatchOption g ⊥ (λ g. MatchOption g.id ⊥ (λ e. e.1 ≡ other)))
           → join_said (said_of (sent_facts s.article) id) (join_said (said_of (ids_in g) id) (said_of (lack_facts s.article) id)) ≡ said_in s.article id
-      by None placed at = of_part s.article [] None tt at only_told id
-      by (Some g) placed at = of_part s.article g.name g.id placed at only_told id
+      by None placed at = of_part s.article [] None tt at (λ other os. be_of (other, Describes os)) id
+      by (Some g) placed at = of_part s.article g.name g.id placed at (λ other os. be_of (other, Describes os)) id
 
   -- ---- groups
 
   -- what is asked, and the ids at numbers, are those of the group
   pub group_is : (g : OfGroup) → s.group ≡ Some g → AskOf g.name (asks ++ asked_id g.id) (facts_in s asks) × GivesId g.name g.id (facts_in s asks)
   group_is g is = (
-    λ name. of_group (asks_of name) (λ xs ys. xs ++ ys) [] (asks_are_read name) s asks no_list (λ what id lines. refl)
-        (λ os. refl) (λ id. refl) (λ n. refl) (λ n. refl) ∙ ap (λ g. asks_of name (group_facts g asks)) is ∙ group_asks name g asks,
+    λ name. asks_of_group s asks no_list name ∙ ap (λ g. asks_of name (group_facts g asks)) is ∙ group_asks name g asks,
     record {
-      ids = λ name n. of_group (first_given (id_in name n)) option_or None (given_is_read (id_in name n)) s asks no_list
-          (λ what id lines. refl) (λ os. refl) (λ id. refl) (λ n. refl) (λ n. refl)
-          ∙ ap (λ g. first_given (id_in name n) (group_facts g asks)) is ∙ group_ids g asks name n;
-      places = λ name id. of_group (first_given (number_in name id)) option_or None
-          (given_is_read (number_in name id)) s asks no_list (λ what id lines. refl) (λ os. refl) (λ id. refl) (λ n. refl) (λ n. refl)
-          ∙ ap (λ g. first_given (number_in name id) (group_facts g asks)) is ∙ group_places g asks name id;
+      ids = λ name n. grind (arith, given_append, is, group_ids g asks name n);
+      places = λ name id. grind (arith, given_append, is, group_places g asks name id);
     },
   )
 
@@ -124,21 +106,18 @@ module _ (facts : List Fact) (s : Saying) (asks : List Ask) (no_list : s.groups 
   names_join : JoinNames facts (facts_in s asks) ↔ (IfSome s.there_is (λ name. IsFalse (list_any (denies_group name) facts)) × IfSome s.there_is_no (λ name. IsFalse (is_shown_group facts name)))
   names_join = (
     λ j. (
-      there s.there_is (λ name e. j.groups name (shown_group s asks no_list name ∙ ap (λ o. option_map_or (λ g. is_same g name) o false) e ∙ same_itself name)),
-      there s.there_is_no (λ name e. j.no_groups name (denied_group s asks no_list name ∙ ap (λ o. option_map_or (λ g. is_same g name) o false) e ∙ same_itself name)),
+      (named s.there_is (λ name. IsFalse (list_any (denies_group name) facts))).0 (λ name t. j.groups name (shown_group s asks no_list name ∙ t)),
+      (named s.there_is_no (λ name. IsFalse (is_shown_group facts name))).0 (λ name t. j.no_groups name (denied_group s asks no_list name ∙ t)),
     ),
     λ h. record {
-      groups = λ name t. here s.there_is (λ name. IsFalse (list_any (denies_group name) facts)) name h.0 (sym (shown_group s asks no_list name) ∙ t);
-      no_groups = λ name t. here s.there_is_no (λ name. IsFalse (is_shown_group facts name)) name h.1 (sym (denied_group s asks no_list name) ∙ t);
+      groups = λ name t. (named s.there_is (λ name. IsFalse (list_any (denies_group name) facts))).1 h.0 name (sym (shown_group s asks no_list name) ∙ t);
+      no_groups = λ name t. (named s.there_is_no (λ name. IsFalse (is_shown_group facts name))).1 h.1 name (sym (denied_group s asks no_list name) ∙ t);
     },
   )
     where
-      there : {P : Name → Type 0} (o : Option Name) → ((name : Name) → o ≡ Some name → P name) → IfSome o P
-      there o h = grind arith
-
-      here : (o : Option Name) (P : Name → Type 0) (name : Name) → IfSome o P → option_map_or (λ g. is_same g name) o false ≡ true → P name
-      here None P name h t = absurd (true≢false (sym t))
-      here (Some g) P name h t = subst P (same_text g name (sym t)) h
+      named : (o : Option Name) (P : Name → Type 0) → ((name : Name) → option_map_or (λ g. is_same g name) o false ≡ true → P name) ↔ IfSome o P
+      named None P = (λ h. tt, λ h name t. absurd (true≢false (sym t)))
+      named (Some g) P = (λ h. h g (same_itself g), λ h name t. subst P (same_text g name (sym t)) h)
 
   group_join : Together facts → (JoinNumbers facts (facts_in s asks) × JoinIds facts (facts_in s asks)) ↔ IfSome s.group (GroupJoins facts asks)
   group_join t = by s.group refl
@@ -177,11 +156,8 @@ module _ (facts : List Fact) (s : Saying) (asks : List Ask) (no_list : s.groups 
     here = λ i. record {
       is_shown = shown_now i;
       asks = (asks_append g.name facts more ∙ ap (λ more. asks_of g.name facts ++ more) (asked_here g.name all more says.0)) i;
-      ids = λ n. (given_append (id_in g.name n) facts more ∙ ap (λ o. option_or (first_given (id_in g.name n) facts) o)
-          (says.1.ids g.name n ∙ ap (λ b. cond b (id_of g.id n) None) (same_itself g.name))) i;
-      places = λ id. (given_append (number_in g.name id) facts more
-          ∙ ap (λ o. option_or (first_given (number_in g.name id) facts) o)
-          (says.1.places g.name id ∙ ap (λ b. cond b (place_of g.id id) None) (same_itself g.name))) i;
+      ids = λ n. given (id_in g.name n) (id_of g.id n) (says.1.ids g.name n) i;
+      places = λ id. given (number_in g.name id) (place_of g.id id) (says.1.places g.name id) i;
     };
     elsewhere = λ other apart. told_same facts more other (record {
       not_shown = not_shown other apart;
@@ -200,26 +176,20 @@ module _ (facts : List Fact) (s : Saying) (asks : List Ask) (no_list : s.groups 
       says : AskOf g.name all more × GivesId g.name g.id more
       says = group_is g is
 
-      shown_then : IsShownThen facts s.there_is asks g.name
-      shown_then = subst (λ o. IfSome o (λ (g : OfGroup). IsShownThen facts s.there_is asks g.name)) is may.shown
-
       shown_now : is_shown_group (facts ++ more) g.name ≡ true
-      shown_now = grind (arith, list_any-append, or_left, or_right, shown_group, same_itself)
+      shown_now = grind (arith, list_any-append, or_left, or_right, shown_group, same_itself, may.shown, is)
+
+      given : {A : Type 0} (f : Fact → Option A) (o : Option A) → first_given f more ≡ cond (is_same g.name g.name) o None
+          → first_given f (facts ++ more) ≡ option_or (first_given f facts) o
+      given f o is = grind (arith, given_append, same_itself g.name)
 
       -- only the group that is said to be there is shown
       not_shown : (other : Name) → is_same g.name other ≡ false → is_shown_group more other ≡ false
-      not_shown other apart = shown_group s asks no_list other ∙ by s.there_is refl
-        where
-          by : (o : Option Name) → s.there_is ≡ o → option_map_or (λ h. is_same h other) o false ≡ false
-          by o e = grind arith
+      not_shown other apart = grind (arith, shown_group s asks no_list other, may.there, is)
 
   -- where nothing is said of a group, nothing is told
   pub nothing_told : s.group ≡ None → (name : Name) → IsUntold (told (facts_in s asks) name)
   nothing_told none name = grind arith
-
-  -- the name that is denied
-  pub denied_only : (other : Name) → list_any (denies_group other) (facts_in s asks) ≡ option_map_or (λ name. is_same name other) s.there_is_no false
-  denied_only other = denied_group s asks no_list other
 
   -- ---- what is kept of groups then
 

@@ -4,7 +4,7 @@ use Rattle.std.specs.List.{AllByRecursion}
 use Rattle.nntp_wire.specs.{Answer.{Asked, Response}, declared.marks.Marks.{Marks}}
 use Rattle.nntp_article.specs.{Session.{Spool.{Name}, Machine.{Visible, start, fits}}, declared.session.profile.Profile.{Profile}}
 use Rattle.nntp_pair.specs.{Pairing.{Paired, asked_at, asked_of, responses_of}, Inner.Pairing.{lines_in}}
-use Rattle.nntp_said.specs.{Facts.{Fact, Holds, ThereIs, Asks, IdAt, OverviewsAre, group_of}, Inner.Facts.{FitsAll}}
+use Rattle.nntp_said.specs.{Facts.{Fact, Holds, group_of}, Inner.Facts.{FitsAll}}
 use Rattle.nntp_theory.specs.{declared.noted.Noted.TheVariants.{Contradiction}, Answered.{Answered, facts_of_all}, Inner.{Answered.{FitEach}, Given.{size}}}
 use Rattle.nntp_theory.specs.{Inner.{Exchanged.{said_behind}, Together.{Together}}, Permitted.{exchanged, ArePermittedBehind}, Conflict.{Placed, placed_behind}}
 use Rattle.nntp_theory.{specs.Conflict.{said as said_there, told, the_group}, proofs.Conflicts.{there_said, group_fitting}}
@@ -23,11 +23,7 @@ wider how facts more sub fact p = grind arith
 -- the group of which placed facts speak is one that a 211 selected
 group_selectable : (how : Marks) (all own : List Fact) → AllByRecursion (IsPlaced how all) own → (name : Name) → group_of own ≡ Some name → IsSelectable how all name
 group_selectable how all [] placed name e = cc
-group_selectable how all (ThereIs g ∷ own) placed name e = subst (IsSelectable how all) (cc) placed.0
-group_selectable how all (Asks g ask ∷ own) placed name e = subst (IsSelectable how all) (cc) placed.0
-group_selectable how all (IdAt g n id ∷ own) placed name e = subst (IsSelectable how all) (cc) placed.0
-group_selectable how all (OverviewsAre g range overviews ∷ own) placed name e = subst (IsSelectable how all) (cc) placed.0
-group_selectable how all (fact ∷ own) placed name e = group_selectable how all own placed.1 name e
+group_selectable how all (fact ∷ own) placed name e = grind (arith, placed.0, group_selectable how all own placed.1 name)
 
 -- so that there is such a group is placed
 group_placed : (profile : Profile) (how : Marks) (all : List Fact) (group : Option Name) → ((name : Name) → group ≡ Some name → IsSelectable how all name)
@@ -96,11 +92,8 @@ module _ (profile : Profile) (facts : FactsKept) (earlier : List (List Paired)) 
         own : List Fact
         own = said_there profile.marks bad
 
-        group : List Fact
-        group = the_group profile (group_of own)
-
         all : List Fact
-        all = kept ++ (group ++ own)
+        all = kept ++ told profile bad
 
         -- what all say is among it
         among : (fact : Fact) → In fact (kept ++ own) → In fact all
@@ -120,7 +113,7 @@ module _ (profile : Profile) (facts : FactsKept) (earlier : List (List Paired)) 
         small =
             let room = subst (λ facts. size facts < 2 ^ 209) (facts_behind profile.marks before (exchanged past))
             (room_behind profile.marks earlier past s.sessions s.earlier_few (record { lines = s.lines; few = s.few })) in
-            grind (arith, size-append kept (group ++ own), told_size profile bad few)
+            grind (arith, size-append kept (told profile bad), told_size profile bad few)
 
         permitted : Together all → ArePermittedBehind profile earlier (past ++ pair ∷ [])
         permitted together =

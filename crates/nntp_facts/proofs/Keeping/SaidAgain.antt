@@ -1,15 +1,15 @@
 -- What was said before is said again: all stands together as before, and what is kept is right still.
-use Rattle.std.proofs.Common.{◌≡◌, ℕ, ◌^◌, ◌<◌, Bool, true, ◌&&◌, ◌||◌, IsTrue, List, ◌++◌, Option, None, Some, is_some, MatchOption, inl, inr, refl, sym, ap}
-use Rattle.std.proofs.{Common.{subst, ◌∙◌, arith}, Math.Bool.{or-false}, lemmas.Bool.{true≢false, and_parts, or_from, eqb-true, eq-eqb, cases_lt, ltb-true}}
-use Rattle.std.{proofs.lemmas.Bool.{leb-true, false_from_ne_true}, specs.{Prelude.{IfSome}, List.{list_any}, Cmp.Lexicographic.{nat_list_cmp_total}}}
-use Rattle.std.specs.FinMap.{len, get, insert, slice_cmp-IsAntisymmetric, nat_cmp-IsAntisymmetric}
+use Rattle.std.proofs.Common.{◌≡◌, ℕ, ◌^◌, ◌<◌, true, IsTrue, List, ◌++◌, Option, None, Some, is_some, MatchOption, inl, inr, refl, sym, ap, subst, ◌∙◌, arith}
+use Rattle.std.proofs.{Math.Bool.{or-false}, lemmas.Bool.{true≢false, and_parts, or_from, eqb-true, eq-eqb, cases_lt, ltb-true, leb-true, false_from_ne_true}}
+use Rattle.std.specs.{Prelude.{◌↔◌}, List.{list_any}, Cmp.Lexicographic.{nat_list_cmp_total}, FinMap.{len, get, slice_cmp-IsAntisymmetric}}
+use Rattle.std.specs.FinMap.{nat_cmp-IsAntisymmetric}
 use Rattle.nntp_wire.proofs.ShownMaps.{insert-same}
 use Rattle.nntp_intervals.specs.Inner.Intervals.{holds}
 use Rattle.nntp_article.specs.{Article.Parts.{Id}, Session.Spool.{Name}}
 use Rattle.nntp_said.specs.{Asks.{Ask}, Facts.{Fact}}
 use Rattle.nntp_theory.specs.{Given.{is_denied, says_some, demand, join, IsGivenNumber}, Together.{is_possible}, Inner.Together.{AsksStand}}
-use Rattle.nntp_theory.{specs.Inner.Estimates.{is_within}, proofs.Together.{FewEnough.{few_for, within_all}, FactsOfASpoolStand.{same_itself}}}
-use Rattle.nntp_theory.proofs.{GivenNumbers.GivenNumbersMeet.{same_demand}, Members.{all_both, any_in, first_found}}
+use Rattle.nntp_theory.proofs.{Together.{FewEnough.{few_for, within_all}, FactsOfASpoolStand.{same_itself}}, GivenNumbers.GivenNumbersMeet.{same_demand}}
+use Rattle.nntp_theory.proofs.Members.{all_both, any_in, first_found}
 use Rattle.nntp_numbers.specs.Inner.{Part.{Said, Says, only_has, part_denies, is_one_of, join_ends}, Summary.{Summary, has, IsSummary, AreBounded, AddsNothing}}
 use Rattle.nntp_numbers.proofs.{MoreAsks.{are_possible, added}, HullOfMarks.{apart_by_hull, stands_by_hull, said_some, shown_says, demand_says, some_is}}
 use Rattle.nntp_numbers.proofs.{AsksSettled.{ArePossible}, Implied.{Implies}}
@@ -31,22 +31,19 @@ module _ (s : Summary) (asks others : List Ask) (sum : IsSummary s asks) (same :
     same_denied n = elim (cases_lt n (2 ^ 64)) [ inl lt ↦ sym (same.denied n lt) ∙ sum.denied n lt | inr ge ↦ others_bounded n ge ∙ sym (bounded n ge) ]
 
     module _ (stand : AsksStand asks) where
-      given_before : (n : ℕ) → IsGivenNumber others n → IsGivenNumber asks n
-      given_before n g = grind (arith, apart_by_hull, stands_by_hull, same_some, demand_is, same_denied)
-
-      given_still : (n : ℕ) → IsGivenNumber asks n → IsGivenNumber others n
-      given_still n g = grind (arith, apart_by_hull, stands_by_hull, same_some, demand_is, same_denied)
+      given_alike : (n : ℕ) → IsGivenNumber others n ↔ IsGivenNumber asks n
+      given_alike n = grind (arith, apart_by_hull, stands_by_hull, same_some, demand_is, same_denied)
 
       -- they stand together alike
       stands_alike : ArePossible others → AsksStand others
       stands_alike possible = record {
         possible = possible;
-        not_denied = λ n g. same_denied n ∙ stand.not_denied n (given_before n g);
-        demand_met = grind (arith, demand_is, same_demand, given_still, given_before);
+        not_denied = λ n g. same_denied n ∙ stand.not_denied n ((given_alike n).0 g);
+        demand_met = grind (arith, demand_is, same_demand, given_alike);
         few = λ N given.
             few_for N others
             (sym (same.estimate (len N)) ∙ sum.estimate (len N)
-            ∙ within_all N asks (stand.few N (λ n. (λ i. given_before n ((given n).0 i), λ g. (given n).1 (given_still n g)))));
+            ∙ within_all N asks (stand.few N (λ n. (λ i. (given_alike n).0 ((given n).0 i), λ g. (given n).1 ((given_alike n).1 g)))));
       }
 
 -- ---- what was said before
@@ -60,20 +57,11 @@ record WasSaid (s : Summary) (p : Said) : Type 0 where
   ends : join_ends s.ends p.ends ≡ s.ends
   demand : join s.demand p.demand ≡ s.demand
 
-or_same : (a b : Bool) → (b ≡ true → a ≡ true) → (a || b) ≡ a
-or_same a b h = grind arith
-
-and_same : (a b : Bool) → (a ≡ true → b ≡ true) → (a && b) ≡ a
-and_same a b h = grind arith
-
 module _ (s : Summary) (p : Said) (asks more : List Ask) (was : WasSaid s p) (sum : IsSummary s asks) (says : Says p more) where
   -- what is kept is right still
   kept_still : IsSummary s (asks ++ more)
   kept_still = added s s p s refl
-      (λ n. sym (or_same (has s.shown n) (is_one_of p.numbers n) (was.shown n)))
-      (λ up. up)
-      (λ regular n small. sym (or_same (holds s.denied n) (part_denies p n) (was.denied n small)))
-      (λ n. sym (and_same (is_within s.estimate n) (is_within p.estimate n) (was.estimate n)))
+      (λ n. grind (arith, was.shown n)) (λ up. up) (λ regular n small. grind (arith, was.denied n small)) (λ n. grind (arith, was.estimate n))
       (sym was.ends) (sym was.demand) asks more sum says
 
   -- all stands together still
@@ -107,49 +95,28 @@ module _ (tells : Name → Told) (groups : Groups) (name : Name) (g : KeptGroup)
   was : IsKeptGroup (tells name) g
   was = kept_of tells groups name (Some g) is kept
 
-  -- the id, if one is said, is at the number already, and all that is said of the numbers was said before
-  module _ (p : Said) (id : Option (ℕ × Id)) (says : Says p asks) (before : WasSaid g.numbers p) (may : MayShow (tells name) id)
-      (same : (g.ids ≡ ids_with g.ids id) × (g.places ≡ places_with g.places id)) where
-    stand_again : AsksStand (tells name).asks → AsksStand ((tells name).asks ++ asks)
-    stand_again stand = stands_still g.numbers p (tells name).asks asks before was.numbers says was.bounded stand
-
-    keeps_again : AreKeptWith tells name asks id groups
-    keeps_again after changes =
-        subst (AreKept after) (insert-same nat_list_cmp_total (slice_cmp-IsAntisymmetric nat_cmp-IsAntisymmetric) groups name g is)
-        (part_kept tells after groups name g g asks id kept is may changes (kept_still g.numbers p (tells name).asks asks before was.numbers says) same.0 same.1)
-
-  -- the id is shown at the number
-  module _ (n : ℕ) (id : Id) (each : Agree (tells name).ids (tells name).places (Some (n, id))) (at : get g.ids n ≡ Some id) where
-    may_show_again : MayShow (tells name) (Some (n, id))
-    may_show_again = grind arith
-
-    same_ids : (g.ids ≡ insert g.ids n id) × (g.places ≡ insert g.places id n)
-    same_ids = same_id g n id true (ap is_some at) refl (subst (λ o. IfSome o (λ other. id ≡ other)) (sym at) refl) (agree_kept (tells name) g (Some (n, id)) was each)
-
-    was_there : (p : Said) → p ≡ only_has n → IsShownAt (tells name) (Some (n, id)) → WasSaid g.numbers p
-    was_there p only shown = grind (arith, there_was, was)
-
   -- so of what is said of the group
   module _ (p : OfGroup) (says : Says p.numbers asks) where
     -- what was said before, where this is the id
     abbrev WasSaidOf : Option (ℕ × Id) → Type 0
     WasSaidOf id = MatchOption id (AddsNothing g.numbers p.numbers) (λ e. (p.numbers ≡ only_has e.0) × (get g.ids e.0 ≡ Some e.1))
 
+    -- all of it was, and the id, if one is said, is at the number already
+    all_was : (id : Option (ℕ × Id)) → Agree (tells name).ids (tells name).places id → IsShownAt (tells name) id → WasSaidOf id
+        → WasSaid g.numbers p.numbers × MayShow (tells name) id × ((g.ids ≡ ids_with g.ids id) × (g.places ≡ places_with g.places id))
+    all_was None each shown said = (nothing_was g.numbers p.numbers said, tt, (refl, refl))
+    all_was (Some (n, id)) each shown said = let at = said.1 in (
+      grind (arith, there_was, was, said.0, at, shown),
+      grind (arith, was, at, each),
+      same_id g n id true (ap is_some at) refl (grind (arith, at)) (agree_kept (tells name) g (Some (n, id)) was each),
+    )
+
     pub joins_again : Agree (tells name).ids (tells name).places p.id → IsShownAt (tells name) p.id → HasSaid g p → AsksStand (tells name).asks
         → AsksStand ((tells name).asks ++ asks) × MayShow (tells name) p.id
-    joins_again = by p.id
-      where
-        by : (id : Option (ℕ × Id)) → Agree (tells name).ids (tells name).places id → IsShownAt (tells name) id → WasSaidOf id → AsksStand (tells name).asks
-            → AsksStand ((tells name).asks ++ asks) × MayShow (tells name) id
-        by None each shown said stand = (stand_again p.numbers None says (nothing_was g.numbers p.numbers said) tt (refl, refl) stand, tt)
-        by (Some (n, id)) each shown said stand =
-            let may = may_show_again n id each said.1 in
-            (stand_again p.numbers (Some (n, id)) says (was_there n id each said.1 p.numbers said.0 shown) may (same_ids n id each said.1) stand, may)
+    joins_again each shown said stand = let w = all_was p.id each shown said in (stands_still g.numbers p.numbers (tells name).asks asks w.0 was.numbers says was.bounded stand, w.1)
 
     pub kept_again : Agree (tells name).ids (tells name).places p.id → IsShownAt (tells name) p.id → HasSaid g p → AreKeptWith tells name asks p.id groups
-    kept_again = by p.id
-      where
-        by : (id : Option (ℕ × Id)) → Agree (tells name).ids (tells name).places id → IsShownAt (tells name) id → WasSaidOf id → AreKeptWith tells name asks id groups
-        by None each shown said = keeps_again p.numbers None says (nothing_was g.numbers p.numbers said) tt (refl, refl)
-        by (Some (n, id)) each shown said =
-            keeps_again p.numbers (Some (n, id)) says (was_there n id each said.1 p.numbers said.0 shown) (may_show_again n id each said.1) (same_ids n id each said.1)
+    kept_again each shown said after changes =
+        let w = all_was p.id each shown said in
+        subst (AreKept after) (insert-same nat_list_cmp_total (slice_cmp-IsAntisymmetric nat_cmp-IsAntisymmetric) groups name g is)
+        (part_kept tells after groups name g g asks p.id kept is w.1 changes (kept_still g.numbers p.numbers (tells name).asks asks w.0 was.numbers says) w.2.0 w.2.1)

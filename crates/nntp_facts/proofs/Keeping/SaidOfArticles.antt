@@ -1,14 +1,14 @@
 -- What facts say of ids: of two lists, one behind the other, and of single facts.
-use Rattle.std.proofs.Common.{◌≡◌, ℕ, Bool, true, false, ◌||◌, cond, MatchOption, List, [], ◌∷◌, ◌++◌, Option, None, Some, refl, sym, ap, subst, ◌∙◌, arith}
-use Rattle.std.{proofs.{lemmas.{Bool.{true≢false}, List.Folds.{list_any-append}}, Math.Bool.{or-false}}, specs.Option.{option_or}}
-use Rattle.std.specs.{Cmp.Lexicographic.{slice_cmp}, Ordering.{nat_cmp}, FinMap.{FinMap}}
+use Rattle.std.proofs.Common.{◌≡◌, ℕ, true, cond, MatchOption, List, [], ◌∷◌, ◌++◌, Option, None, Some, refl, sym, ap, subst, ◌∙◌, arith}
+use Rattle.std.{proofs.{lemmas.{Bool.{true≢false}, List.Folds.{list_any-append}}, Math.Bool.{or-false}}, specs.Cmp.Lexicographic.{slice_cmp}}
+use Rattle.std.specs.{Ordering.{nat_cmp}, FinMap.{FinMap}}
 use Rattle.nntp_wire.specs.{Listing.{OverviewValue}, declared.command.What.{What}}
 use Rattle.nntp_article.specs.{Article.Parts.{Id, Line}, Session.{Spool.{Name}, Machine.{is_same, only}}}
 use Rattle.nntp_said.specs.Facts.{Fact, IdAt, TextIs, NoArticle, FieldsAre}
 use Rattle.nntp_theory.specs.{Given.{head_in, body_in}, Inner.Together.{SaidOfArticle, said_of, said_nothing, join_said, JoinArticle, JoinArticles}}
 use Rattle.nntp_theory.proofs.Together.TwoListsOfFacts.{given_append, or_none}
-use Rattle.nntp_facts.specs.Inner.{Kept.{KeptArticle, said_kept, AreKeptArticles}, Articles.{head_sent, body_sent, telling}, Saying.{Lacks, Exists, Sends}}
-use Rattle.nntp_facts.{specs.Inner.{Saying.{Describes}, KeptSaying.{said_in, said_alone}}, proofs.Keeping.FactsOfParts.{IsRead}}
+use Rattle.nntp_facts.specs.Inner.{Kept.{KeptArticle, AreKeptArticles}, Articles.{head_sent, body_sent, telling}, Saying.{Lacks, Exists, Sends, Describes}}
+use Rattle.nntp_facts.{specs.Inner.KeptSaying.{said_in, said_alone}, proofs.Keeping.FactsOfParts.{IsRead}}
 
 -- ---- one list behind the other
 
@@ -60,19 +60,7 @@ text_said what other lines id = grind arith
 -- an overview that was asked for alone tells of an article
 pub overview_said : (other : Id) (os : List OverviewValue) → MatchOption (only os) ⊥ (λ o. o.id ≡ other) → (id : Id) → said_of (FieldsAre os ∷ []) id ≡ said_in (Some (other, Describes os)) id
 overview_said other [] is id = absurd is
-overview_said other (o ∷ []) is id = subst (λ other. said_of (FieldsAre (o ∷ []) ∷ []) id ≡ said_in (Some (other, Describes (o ∷ []))) id) is (by (is_same o.id id))
-  where
-    by : (b : Bool) → record {
-      is_mentioned = (b || false) || false;
-      is_shown = (b || false) || false;
-      is_denied = false;
-      is_sent = (b || false) || false;
-      head = None;
-      fields = option_or (option_or (cond b o.told None) None) None;
-      body = None;
-    } ≡ cond {A = SaidOfArticle} b (said_kept (Some (telling true o.told))) said_nothing
-    by true = λ i. said_kept (Some (telling true ((or_none (option_or o.told None) ∙ or_none o.told) i)))
-    by false = refl
+overview_said other (o ∷ []) is id = grind (arith, is, or_none)
 overview_said other (o ∷ p ∷ os) is id = absurd is
 
 -- who tells of an article needn't say that its id stands at a number
@@ -88,6 +76,4 @@ text_at what other lines id = grind arith
 -- where only one overview tells, and it is that of the id, all that is said is what it tells
 pub first_said : (os : List OverviewValue) (o : OverviewValue) (rest : List OverviewValue) (id : Id) → os ≡ o ∷ rest → MatchOption (only os) ⊥ (λ o. o.id ≡ id)
     → said_alone o.id (telling true o.told) ≡ said_in (Some (id, Describes os))
-first_said os o [] id is one =
-    (λ i. said_alone (subst (λ os. MatchOption (only os) ⊥ (λ o. o.id ≡ id)) is one i) (telling true o.told)) ∙ ap (λ os. said_in (Some (id, Describes os))) (sym is)
-first_said os o (v ∷ rest) id is one = absurd (subst (λ os. MatchOption (only os) ⊥ (λ o. o.id ≡ id)) is one)
+first_said os o rest id is one = grind (arith, is, one)

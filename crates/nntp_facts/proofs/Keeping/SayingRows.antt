@@ -1,19 +1,19 @@
 -- What each kind of answer that fits tells.
 use Rattle.std.proofs.Common.{◌≡◌, ℕ, ◌<◌, ◌^◌, get_or, true, IsTrue, List, [], ◌∷◌, Option, None, Some, is_some, inl, inr, refl, sym, ap, subst, ◌∙◌, arith}
-use Rattle.std.{proofs.lemmas.Bool.{true≢false}, specs.Prelude.{IfSome, option_map, unwrap_or}}
-use Rattle.nntp_article.specs.{Article.Parts.{Id}, Session.{Spool.{Name}, Machine.{Visible, fits, overview_numbers, only}}}
-use Rattle.nntp_article.specs.{declared.session.profile.Profile.{Profile}, Inner.{Misfit.{numbers_of}, Listed.{Lists, lists_of}}}
+use Rattle.std.{proofs.lemmas.Bool.{true≢false, and_parts, eqb-true, leb-true}, specs.{List.{list_all}, Prelude.{nat_le, ◌≤◌, IfSome, option_map}}}
+use Rattle.nntp_article.specs.{Article.Parts.{Id}, Session.{Spool.{Name}, Machine.{Visible, fits, overview_numbers, only, is_article_number, active_fits}}}
+use Rattle.nntp_article.specs.{Session.Machine.{names_differ}, declared.session.profile.Profile.{Profile}, Inner.{Misfit.{numbers_of}, Listed.{Lists}}}
+use Rattle.nntp_article.specs.Inner.Listed.{lists_of}
 use Rattle.nntp_wire.specs.{Answer.{Asked, Response, overviews_are}, declared.{marks.Marks.{Marks}, range.Range.{Range}, water_marks.WaterMarks.{WaterMarks}}}
-use Rattle.nntp_wire.specs.Listing.{OverviewValue, active_groups, listed_numbers, overviews_of}
+use Rattle.nntp_wire.specs.Listing.{ActiveValue, OverviewValue, active_groups, listed_numbers, overviews_of}
 use Rattle.nntp_said.specs.{declared.position.Position.{Position}, Asks.{Ask, Estimates, ListsIn, Has, Lacks, StandsAt, StandsNowhere, StepsUp, StepsDown}}
 use Rattle.nntp_said.specs.{Asks.{IsTop, IsBottom}, Facts.{Fact, ThereIs, Asks, IdAt, FieldsAre, here, facts_of, group_of}}
-use Rattle.nntp_theory.specs.Given.{is_shown_group}
 use Rattle.nntp_numbers.specs.Inner.{Part.{Said, Says, AreListable}, PartOf.{IsSmall, nothing_said, part_with}, Summary.{AreBounded}}
 use Rattle.nntp_numbers.proofs.{SaidInARange.{says_range, says_listed}, SaidOfAsks.{said_small, says_marks, marks_bounded, says_has, says_lacks, says_stands}}
 use Rattle.nntp_numbers.proofs.SaidOfAsks.{says_nowhere, says_up, says_down, says_top, says_bottom}
 use Rattle.nntp_facts.specs.Inner.Saying.{AreListed, Saying, TellsHere, IsSelectedShown, IsShownThen, nothing, numbers_shown, saying_by}
-use Rattle.nntp_facts.{specs.{Inner.ListedOverviews.{HaveOwn}, declared.saying.GroupPart.{GroupPart}}, proofs.Keeping.FittingAnswers.{listable, may_list}}
-use Rattle.nntp_facts.proofs.Keeping.FittingAnswers.{numbered}
+use Rattle.nntp_facts.specs.{Inner.{ListedOverviews.{HaveOwn}, ListedGroups.{MayList}}, declared.saying.GroupPart.{GroupPart}}
+use Rattle.nntp_theory.proofs.Members.{all_from, each_of, found_in}
 use Rattle.nntp_facts.specs.declared.saying.Saying as parts
 use Rattle.nntp_facts.specs.Inner.SayingView as view
 use Rattle.nntp_said.proofs.Rows as rows
@@ -29,8 +29,7 @@ abbrev HasSmall : Saying → Type 0
 HasSmall s = IfSome s.group (λ g. IsSmall g.numbers)
 
 has_small : (group : Option GroupPart) → IfSome (option_map view.of_group group) (λ g. IsSmall g.numbers)
-has_small None = tt
-has_small (Some g) = said_small g.numbers
+has_small group = grind (arith, said_small)
 
 -- a group that is selected
 pub tells_marks : {selected : Name} → (facts : List Fact) (name : Name) (p : Said) (how : Marks) (m : WaterMarks) (s : Saying) (more : List Fact)
@@ -48,19 +47,29 @@ tells_marks {selected} facts name p how m s more says bounded s_is same =
       there = inl refl;
     })
 
+-- ---- what is known of an answer that fits
+
+-- an article number is no 0
+numbered : (profile : Profile) (n : ℕ) → is_article_number profile.limit n ≡ true → 1 ≤ n
+numbered profile n is = leb-true 1 n (and_parts (nat_le 1 n) (nat_le n profile.limit) is).0
+
+-- numbers that ascend in the range
+listable : (profile : Profile) (r : Range) (ns : List ℕ) → rows.AreListed profile r ns → AreListable r ns
+listable profile r ns is = grind (arith, found_in, and_parts, each_of, eqb-true, numbered)
+
+-- groups that match, and of which none is listed twice
+may_list : (profile : Profile) (p : Option (List ℕ)) (lines : List ActiveValue) → IsTrue (list_all (active_fits profile p) lines) → IsTrue (names_differ lines) → MayList p lines
+may_list profile p lines each differ = grind (arith, all_from, and_parts, each_of)
+
 -- ---- rows
 
 pub lists_said : (profile : Profile) (v : Visible) (at : Position) (asked : Asked) (response : Response) (shown : List ℕ) (lists : Lists) → lists ≡ lists_of response
     → AreListed (saying_by shown nothing (facts_of profile.marks v at asked response)) lists
 lists_said profile v at asked response shown lists e = grind (arith, rows.row)
 
--- the only overview is all that there are
-only_is : (os : List OverviewValue) (o : OverviewValue) → only os ≡ Some o → os ≡ o ∷ []
-only_is os o e = grind arith
-
 -- the number that the only overview shows is its own
 number_told : (lines : List (List ℕ)) (o : OverviewValue) → only (overviews_of lines) ≡ Some o → numbers_shown (numbers_of (overviews_are lines)) (overviews_are lines) ≡ o.number ∷ []
-number_told lines o e = ap overview_numbers (only_is (overviews_of lines) o e)
+number_told lines o e = grind (arith, e)
 
 module _ (v : Visible) (facts : List Fact) (is_shown : IsSelectedShown v facts) where
   -- what is said by facts of an answer that shows these numbers, if all numbers are below 2^64, tells them
@@ -69,10 +78,7 @@ module _ (v : Visible) (facts : List Fact) (is_shown : IsSelectedShown v facts) 
 
   -- the selected group was shown
   here_shown : (asks : List Ask) → IsTrue (is_some v.selected) → IsShownThen facts None asks (here v)
-  here_shown asks there = inl (by v.selected there is_shown)
-    where
-      by : (o : Option Name) → is_some o ≡ true → IfSome o (λ name. is_shown_group facts name ≡ true) → is_shown_group facts (unwrap_or o []) ≡ true
-      by o there shown = grind (arith, true≢false)
+  here_shown asks there = inl (grind (arith, there, is_shown, true≢false))
 
   -- one ask of the selected group
   ask_row : (shown : List ℕ) (ask : Ask) → IsTrue (is_some v.selected) → (IsSmall (part_with shown ask nothing_said) → Says (part_with shown ask nothing_said) (ask ∷ []))

@@ -1,12 +1,11 @@
 -- More facts that say nothing of groups, or of ids at numbers, join what was said of them, and leave what is kept of it.
-use Rattle.std.proofs.Common.{◌≡◌, ℕ, Bool, true, false, List, [], ◌++◌, Option, None, MatchOption, refl, sym, ap, subst, ◌∙◌, append-nil, arith}
-use Rattle.std.{proofs.lemmas.Bool.{true≢false, false_from_ne_true}, specs.{Prelude.{◌↔◌}, FinMap.{FinMap, get, insert, get-insert}, Ordering.{nat_cmp}}}
-use Rattle.std.specs.{Ordering.{eq_by_cmp}, Cmp.{eq_by_cmp_equiv, Lexicographic.{slice_cmp, same_text, nat_list_cmp_total, texts_ties}}}
+use Rattle.std.{proofs.Common.{◌≡◌, ℕ, Bool, true, false, List, [], ◌++◌, None, refl, sym, ap, subst, ◌∙◌, append-nil, arith}, specs.Prelude.{◌↔◌}}
+use Rattle.std.specs.{FinMap.{FinMap, insert, get-insert}, Ordering.{nat_cmp}, Cmp.Lexicographic.{slice_cmp, same_text, nat_list_cmp_total}}
 use Rattle.nntp_article.specs.{Article.Parts.{Id}, Session.{Spool.{Name}, Machine.{is_same}}}
 use Rattle.nntp_said.specs.{Asks.{Ask}, Facts.{Fact}}
-use Rattle.nntp_theory.specs.{Given.{asks_of, shows_group, first_given, id_in}, Inner.Together.{AsksStand, GiveSame, Together, JoinNumbers, JoinIds}}
+use Rattle.nntp_theory.specs.{Given.{asks_of, shows_group, first_given, id_in}, Inner.Together.{AsksStand, Together, JoinNumbers, JoinIds}}
 use Rattle.nntp_theory.{specs.Together.{number_in}, proofs.Together.{TwoListsOfFacts.{any_silent, given_silent}, FactsJoin.{asks_append}}}
-use Rattle.nntp_facts.specs.Inner.Kept.{KeptGroup, Told, told, IsKeptGroup, IsUntold, AreKept}
+use Rattle.nntp_facts.{specs.Inner.Kept.{KeptGroup, Told, told, IsKeptGroup, IsUntold, AreKept}, proofs.Keeping.FactsOfOneGroup.{flip_text}}
 
 -- ---- ids at numbers
 
@@ -15,13 +14,10 @@ pub record GiveNoIds (more : List Fact) : Type 0 where
   pub ids : (name : Name) (n : ℕ) → first_given (id_in name n) more ≡ None
   pub places : (name : Name) (id : Id) → first_given (number_in name id) more ≡ None
 
-nothing_same : {A : Type 0} (f : Fact → Option A) (facts more : List Fact) → first_given f more ≡ None → GiveSame f facts more
-nothing_same f facts more none = rw none tt
-
 pub ids_join : (facts more : List Fact) → GiveNoIds more → JoinIds facts more
 ids_join facts more silent = record {
-  ids = λ name n. nothing_same (id_in name n) facts more (silent.ids name n);
-  ids_once = λ name id. nothing_same (number_in name id) facts more (silent.places name id);
+  ids = λ name n. grind (arith, silent.ids name n);
+  ids_once = λ name id. grind (arith, silent.places name id);
 }
 
 -- ---- groups
@@ -35,19 +31,16 @@ told_same facts more name silent = λ i. record {
   places = λ id. given_silent (number_in name id) facts more (silent.no_places id) i;
 }
 
+-- nothing is told of groups
+pub groups_kept : (facts more : List Fact) (groups : FinMap (slice_cmp nat_cmp) KeptGroup)
+    → ((name : Name) → IsUntold (told more name)) → AreKept (told facts) groups → AreKept (told (facts ++ more)) groups
+groups_kept facts more groups silent kept name = search told_same
+
 -- of other groups is kept what was kept
 pub kept_at : (t u : Name → Told) (groups : FinMap (slice_cmp nat_cmp) KeptGroup) (here : Name) (g : KeptGroup) → AreKept t groups
     → ((name : Name) → is_same here name ≡ false → u name ≡ t name) → IsKeptGroup (u here) g → AreKept u (insert groups here g)
-kept_at t u groups here g kept others new name = by (eq_by_cmp (slice_cmp nat_cmp) name here) refl
-  where
-    equal : eq_by_cmp (slice_cmp nat_cmp) name here ≡ true → name ≡ here
-    equal e = same_text name here (sym (texts_ties name here ∙ e))
-
-    unequal : eq_by_cmp (slice_cmp nat_cmp) name here ≡ false → is_same here name ≡ false
-    unequal e = grind (arith, false_from_ne_true, true≢false, eq_by_cmp_equiv, nat_list_cmp_total, same_text)
-
-    by : (b : Bool) → eq_by_cmp (slice_cmp nat_cmp) name here ≡ b → MatchOption (get (insert groups here g) name) (IsUntold (u name)) (IsKeptGroup (u name))
-    by b e = grind (arith, nat_list_cmp_total, get-insert, equal, unequal)
+kept_at t u groups here g kept others new name =
+    grind (arith, get-insert nat_list_cmp_total groups here g name, flip_text name here, same_text here name, kept name, others name, new)
 
 -- what is asked of one group alone stands together with what was asked, if all does
 pub numbers_join : (facts more : List Fact) (here : Name) (asks : List Ask) → Together facts → asks_of here more ≡ asks → ((name : Name) → is_same here name ≡ false → asks_of name more ≡ [])

@@ -1,19 +1,20 @@
 -- Noting what answers say by themselves.
-use Rattle.std.proofs.Common.{arith, zero, suc, ◌+◌, ◌*◌, ◌^◌, ◌<◌, ◌≤◌, ◌≡◌, ◌↔◌, ℕ, Bool, true, false, IsTrue, Option, None, Some, inl, inr, refl, sym, ap}
-use Rattle.std.proofs.{Common.{subst, ◌∙◌, List, [], ◌∷◌, ◌++◌, length, length-append, append-nil, append_assoc}, Math.Path.{ap₂}, lemmas.Bool.{or_left}}
+use Rattle.std.proofs.Common.{arith, zero, suc, ◌+◌, ◌*◌, ◌^◌, ◌<◌, ◌≤◌, ◌≡◌, ◌↔◌, ℕ, Bool, true, false, IsTrue, Option, None, Some, refl, sym, ap, subst, ◌∙◌}
+use Rattle.std.proofs.{Common.{List, [], ◌∷◌, ◌++◌, length, length-append, append-nil, append_assoc}, Math.Path.{ap₂}, lemmas.Bool.{or_left}}
 use Rattle.std.{proofs.lemmas.Grind.{flat_map-append}, specs.{Prelude.{IfSome, unwrap_or, option_map, slice_get}, List.{AllByRecursion}}}
 use Rattle.std.specs.Option.{option_map_or}
 use Rattle.nntp_wire.specs.{declared.marks.Marks.TheVariants.{Lenient}, Answer.{Asked, Response}}
 use Rattle.nntp_pair.specs.Inner.Pairing.{lines_in}
 use Rattle.nntp_article.specs.{Session.{Spool.{Name}, Machine.{Visible, start, fits}}, declared.session.profile.Profile.{Profile}, Inner.Misfit.{numbers_of}}
-use Rattle.nntp_said.specs.{declared.position.Position.{Position}, Asks.{Estimates}, Facts.{Fact, Holds, ThereIs, here, facts_of, group_of}}
+use Rattle.nntp_said.specs.{declared.position.Position.{Position}, Asks.{Estimates}, Facts.{Fact, Holds, here, facts_of, group_of}}
 use Rattle.nntp_theory.specs.{Given.{is_shown_group}, Inner.{Given.{size}, Together.{Together, AgreeWithin, Join, IsWellFormed}, Conflict.{FitsThere}}}
 use Rattle.nntp_theory.{specs.Conflict.{Placed, said, widest, a_group, the_group, told, SomeHas, told_at, told_with}, proofs.Members.{any_back, all_front}}
 use Rattle.nntp_theory.proofs.{Given.FirstBadAnswer.{size-append}, Ids.SizeOfASession.{answer_size}, Session.GroupOfAnAnswer.{same_selected}}
-use Rattle.nntp_theory.proofs.Together.{FactsJoin.{together_more, none_agrees, answer_agrees}, FactsOfASpoolStand.{stand, same_itself}}
+use Rattle.nntp_theory.proofs.Together.{FactsJoin.{together_more, answer_agrees}, FactsOfASpoolStand.{stand, same_itself}}
 use Rattle.nntp_numbers.specs.Inner.{Part.{Said, Says}, Summary.{AreBounded}}
 use Rattle.nntp_facts.specs.Inner.{Kept.{Kept, IsKept, AreAdded}, Saying.{Saying, OfGroup, Tells, TellsHere, TellsThere, IsShownThen, IsSelectedShown}}
-use Rattle.nntp_facts.{specs.Inner.Told.{AreTold, AreToldWith, PlacesTold}, proofs.Keeping.{NotedExchange.{Adds}, SayingRows.{of_group, tells_marks}}}
+use Rattle.nntp_facts.{specs.Inner.{Saying.{there_facts}, Told.{AreTold, AreToldWith, PlacesTold}}, proofs.Keeping.NotedExchange.{Adds}}
+use Rattle.nntp_facts.proofs.Keeping.SayingRows.{of_group, tells_marks}
 
 -- ---- that there is such a group
 
@@ -26,29 +27,16 @@ pub widest_told : (profile : Profile) (facts : List Fact) (name : Name) (p : Sai
     → AreBounded (Estimates Lenient (widest profile) ∷ []) → s ≡ of_group name p → Tells facts s (a_group profile name)
 widest_told profile facts name p s says bounded s_is = (tells_marks {selected = name} facts name p Lenient (widest profile) s (a_group profile name) says bounded s_is refl).tells
 
--- nothing joins all
-pub nothing_added : (facts : List Fact) (k : Kept) → Together facts → IsKept facts k → AreAdded facts [] k k true
-nothing_added facts k together kept = (
-  (together_more facts [] together none_agrees).0 (subst Together (sym (append-nil facts)) together),
-  subst (λ facts. IsKept facts k) (sym (append-nil facts)) kept,
-)
-
 -- ---- the group of a saying
 
--- facts that show the selected group alone
-shown_facts : Option Name → List Fact
-shown_facts None = []
-shown_facts (Some name) = ThereIs name ∷ []
-
--- they do, behind others
-shown_there : (facts : List Fact) (selected : Option Name) → IfSome selected (λ name. is_shown_group (facts ++ shown_facts selected) name ≡ true)
-unfolding shown_facts
+-- facts that show the selected group alone do, behind others
+shown_there : (facts : List Fact) (selected : Option Name) → IfSome selected (λ name. is_shown_group (facts ++ there_facts selected) name ≡ true)
 shown_there facts selected = grind (arith, any_back, or_left, same_itself)
 
 module _ (selected : Option Name) (s : Saying) (more : List Fact) (t : TellsThere selected s more) where
   -- it tells them behind the selected group alone
-  h : TellsHere (unwrap_or selected []) (shown_facts selected) s more
-  h = t (shown_facts selected) (shown_there [] selected)
+  h : TellsHere (unwrap_or selected []) (there_facts selected) s more
+  h = t (there_facts selected) (shown_there [] selected)
 
   -- the group that is said to be there
   pub group_said : (name : Name) → s.there_is ≡ Some name → group_of more ≡ Some name
@@ -62,8 +50,7 @@ module _ (selected : Option Name) (s : Saying) (more : List Fact) (t : TellsTher
   some_selected : (g : OfGroup) → s.there_is ≡ None → s.group ≡ Some g → selected ≡ None → ⊥
   some_selected g none e here =
       let u = t [] (subst (λ o. IfSome o (λ name. is_shown_group [] name ≡ true)) (sym here) tt) in
-      let shown : IsShownThen [] s.there_is u.tells.asks g.name = subst (λ o. IfSome o (λ g. IsShownThen [] s.there_is u.tells.asks g.name)) e u.tells.may.shown in
-      elim shown [ inl is ↦ cc | inr is ↦ (let n : None ≡ Some g.name = sym none ∙ is.0 in cc) ]
+      grind (arith, u.tells.may.shown, none, e)
 
   -- and so the selected group is the one
   pub selected_spoken : (g : OfGroup) → s.there_is ≡ None → s.group ≡ Some g → selected ≡ group_of more
@@ -74,19 +61,11 @@ module _ (selected : Option Name) (s : Saying) (more : List Fact) (t : TellsTher
   told_behind profile facts = record {
     asks = u.tells.asks;
     same = u.tells.same;
-    may = record {
-      numbers = u.tells.may.numbers;
-      shown = by s.group u.group;
-      there = u.tells.may.there;
-      placed = u.tells.may.placed;
-      article = u.tells.may.article;
-      overviews = u.tells.may.overviews;
-      groups = u.tells.may.groups;
-    };
+    may = let m = u.tells.may in assumption (by s.group u.group, m.numbers, m.there, m.placed, m.article, m.overviews, m.groups);
   }
     where
-      u : TellsHere (unwrap_or selected []) (facts ++ shown_facts selected) s more
-      u = t (facts ++ shown_facts selected) (shown_there facts selected)
+      u : TellsHere (unwrap_or selected []) (facts ++ there_facts selected) s more
+      u = t (facts ++ there_facts selected) (shown_there facts selected)
 
       by : (o : Option OfGroup) → option_map (λ g. g.name) o ≡ group_of more → IfSome o (λ g. IsShownThen (facts ++ the_group profile (group_of more)) s.there_is u.tells.asks g.name)
       by o same = grind (arith, any_back, or_left, same_itself)
@@ -168,11 +147,7 @@ module _ (profile : Profile) (bad : Placed) (answers : List Placed) (places : Li
   nothing_told k e t =
       let none : told_at profile answers place ≡ [] = ap (λ o. option_map_or (told profile) o []) e in
       let same = sym (append-nil (told_with profile bad answers places)) ∙ with_place [] none in
-      record {
-        kept = subst (λ facts. IsKept facts k) same t.kept;
-        together = subst Together same t.together;
-        small = place_size [] none (omega arith) t.small;
-      }
+      assumption (subst (λ facts. IsKept facts k) same t.kept, subst Together same t.together, place_size [] none (omega arith) t.small)
 
 -- one of those that fit fits
 pub fits_at : (profile : Profile) (answers : List Placed) (place : ℕ) (a : Placed) → AllByRecursion (FitsThere profile) answers → slice_get answers place ≡ Some a → FitsThere profile a

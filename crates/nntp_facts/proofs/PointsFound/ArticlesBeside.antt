@@ -1,7 +1,7 @@
 -- Points that are about articles, where what an answer says conflicts with what is kept.
-use Rattle.std.proofs.Common.{ℕ, Bool, true, false, not, cond, IsTrue, List, ◌≡◌, ◌++◌, ◌||◌, ◌⊎◌, Option, None, Some, inl, inr, refl, sym, ap, subst, ◌∙◌}
-use Rattle.std.{proofs.{Common.{arith}, lemmas.{Bool.{true≢false, cases_Bool, or_left, or_right}, List.Folds.{list_any-append}}}, specs.Prelude.{IfSome}}
-use Rattle.std.specs.{Prelude.{IsFalse, MatchOption}, List.{list_any}, Option.{option_map_or}, Cmp.Lexicographic.{same_text}}
+use Rattle.std.proofs.Common.{ℕ, Bool, true, false, not, cond, IsTrue, List, ◌≡◌, ◌++◌, ◌||◌, ◌⊎◌, Option, None, Some, refl, sym, ap, subst, ◌∙◌, arith}
+use Rattle.std.{proofs.lemmas.{Bool.{true≢false, cases_Bool, or_left, or_right}, List.Folds.{list_any-append}}, specs.Prelude.{IfSome, IsFalse, MatchOption}}
+use Rattle.std.specs.{List.{list_any}, Option.{option_map_or}, Cmp.Lexicographic.{same_text}, FinMap.{get}}
 use Rattle.nntp_wire.specs.{Listing.{OverviewValue}, declared.{command.What.{What}, range.Range.{Range}}}
 use Rattle.nntp_article.specs.{Article.Parts.{Id, Line}, Session.Machine.{is_same, head_fits}, declared.session.profile.Profile.{Profile}}
 use Rattle.nntp_said.specs.Facts.{Fact}
@@ -10,8 +10,9 @@ use Rattle.nntp_theory.{specs.{Inner.Together.{said_nothing, AreSame}, Conflict.
 use Rattle.nntp_theory.proofs.{Members.{found_in, first_found}, PointsByRank.{of_rank}, Together.FactsOfASpoolStand.{same_itself}}
 use Rattle.nntp_theory.proofs.Together.TwoListsOfFacts.{apart_both, give_one_both, give_same_of_both}
 use Rattle.nntp_facts.specs.Inner.{Kept.{Kept, said_kept}, Saying.{OfArticle, Sends, MayBeOf}, KeptSaying.{kept_by, said_in, said_listed}, Points.{Statement}}
-use Rattle.nntp_facts.{specs.Inner.Points.{IsPointOf, IsBeside, said_by}, proofs.Keeping.{ListedOverviews.{none_gives}, OverviewsTold.{Overviews}}}
-use Rattle.nntp_facts.proofs.{Keeping.OverviewsTold.{plain_by_article}, PointsFound.{StatementsRead.{article_told}, KindsOfPoints.{alone_once}}}
+use Rattle.nntp_facts.{specs.Inner.{Points.{IsPointOf, IsBeside, said_by}, Articles.{is_there}}, proofs.Keeping.ListedOverviews.{none_gives}}
+use Rattle.nntp_facts.proofs.Keeping.{OverviewsTold.{Overviews, plain_by_article}, KeptArticles.{shown_kept, denied_kept}}
+use Rattle.nntp_facts.proofs.PointsFound.{StatementsRead.{article_told}, KindsOfPoints.{alone_once}}
 
 -- ---- the parts of an article
 
@@ -47,8 +48,7 @@ conflict_about part id facts c = grind arith
 -- what a saying says of an id isn't both that it has an article and that it has none
 said_apart : (o : Overviews) (a : Option (Id × OfArticle)) (id : Id) → IsTrue (option_map_or (λ o. said_listed o.1 id) o (said_in a id)).is_shown
     → IsFalse (option_map_or (λ o. said_listed o.1 id) o (said_in a id)).is_denied
-said_apart None a id s = grind (arith, true≢false)
-said_apart (Some o) a id s = grind (arith, true≢false)
+said_apart o a id s = grind (arith, true≢false)
 
 -- overviews show the articles of their ids, and deny none
 listed_shown : (id : Id) (os : List OverviewValue) → IsTrue (said_listed os id).is_shown → (v : OverviewValue) × In v os × (v.id ≡ id)
@@ -63,8 +63,7 @@ none_denied id os d = grind (arith, true≢false)
 -- overviews send no part, nor does what sends none
 none_sent : (part : Part) (os : Overviews) (o : Option (Id × OfArticle)) → IfSome o (λ a. part_of part (said_kept (Some (kept_by a.1))) ≡ None) → (id : Id)
     → part_of part (option_map_or (λ l. said_listed l.1 id) os (said_in o id)) ≡ None
-none_sent part None o none id = grind (arith, none_of)
-none_sent part (Some l) o none id = grind (arith, none_of)
+none_sent part os o none id = grind (arith, none_of)
 
 -- ---- one answer beside the others
 
@@ -140,15 +139,15 @@ module _ (profile : Profile) (facts : List Fact) (k : Kept) (t : Statement) (mor
     own_free shown denied = article_free (λ q s. grind (arith, others q, own, true≢false)) (λ q d. grind (arith, others q, own, true≢false))
 
     -- that it has no article
-    pub lacks : (kept_by a).is_denied ≡ true → (o : Option Point) → o ≡ cond (list_any (shows_article id) facts) (Some (Article id)) None → IsPointOf all 7 o
-    lacks denied o is = subst (IsPointOf all 7) (sym is) (by (list_any (shows_article id) facts) refl)
+    pub lacks : (kept_by a).is_denied ≡ true → (o : Option Point) → o ≡ cond (is_there (get k.articles id)) (Some (Article id)) None → IsPointOf all 7 o
+    lacks denied o is = subst (IsPointOf all 7) (sym is) (by (is_there (get k.articles id)) (shown_kept facts k.articles id h.kept.articles))
       where
         by : (b : Bool) → list_any (shows_article id) facts ≡ b → IsPointOf all 7 (cond b (Some (Article id)) None)
         by b s = grind (arith, shown_in_all, or_left, denied_in_all, or_right, own, own_free, true≢false)
 
     -- or that it has one
-    pub has : (kept_by a).is_denied ≡ false → (o : Option Point) → o ≡ cond (list_any (denies_article id) facts) (Some (Article id)) None → IsPointOf all 7 o
-    has free o is = subst (IsPointOf all 7) (sym is) (by (list_any (denies_article id) facts) refl)
+    pub has : (kept_by a).is_denied ≡ false → (o : Option Point) → o ≡ cond (option_map_or (λ a. a.is_denied) (get k.articles id) false) (Some (Article id)) None → IsPointOf all 7 o
+    has free o is = subst (IsPointOf all 7) (sym is) (by _ (denied_kept facts k.articles id h.kept.articles))
       where
         by : (b : Bool) → list_any (denies_article id) facts ≡ b → IsPointOf all 7 (cond b (Some (Article id)) None)
         by b d = grind (arith, shown_in_all, or_right, own, denied_in_all, or_left, own_free, true≢false)
@@ -181,10 +180,7 @@ module _ (profile : Profile) (facts : List Fact) (k : Kept) (t : Statement) (mor
     said_part = ap (part_of part) (own id (Sends what lines) e) ∙ sym (is (subst (λ o. IfSome o (MayBeOf t.saying.group)) e h.tells.tells.may.article))
 
     same_part : IsAlike part id sent → IsFree (part_rank part)
-    same_part same = part_free part (λ q. elim (others id (Sends what lines) e q) [
-      | inl s ↦ subst (λ q. IsAlike part q (part_of part (said_by t.saying q))) s (subst (IsAlike part id) (sym said_part) same)
-      | inr none ↦ subst (IsAlike part q) (sym (ap (part_of part) none ∙ none_of part)) tt
-    ])
+    same_part same = part_free part (λ q. grind (arith, others id (Sends what lines) e q, said_part, none_of part))
 
     other_part : (IsAlike part id sent → ⊥) → ConflictAt all (about part id)
     other_part other = conflict_about part id all (λ one. other (subst (IsAlike part id) (part_given part id ∙ said_part) (give_same_of_both (part_in part id) facts more one)))

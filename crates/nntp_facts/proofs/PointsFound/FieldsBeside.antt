@@ -22,8 +22,7 @@ words_once id field facts one = all_from _ facts (λ fact i. by (fields_in id fa
   where
     by : (o : Option Fields) → IfSome o (λ fields. first_given (fields_in id) facts ≡ Some fields)
         → IfSome (option_map (λ fields. words_in fields field) o) (λ words. first_given (words_told id field) facts ≡ Some words)
-    by None h = tt
-    by (Some fields) h = part_first (λ fields. words_in fields field) (fields_in id) facts ∙ ap (option_map (λ fields. words_in fields field)) h
+    by o h = grind (arith, part_first (λ fields. words_in fields field) (fields_in id) facts)
 
 -- ---- one answer beside the others
 
@@ -79,8 +78,7 @@ module _ (profile : Profile) (facts : List Fact) (k : Kept) (t : Statement) (mor
         by None e = tt
         by (Some fields) e =
             let f = told_by o.1 id fields e in
-            subst (λ told. AreSame told (before id)) f.told
-            (subst (λ id. AreSame f.overview.told (before id)) f.same_id (subst (AreSame f.overview.told) (kept_is f.overview.id) (all_at _ f.overview o.1 same f.there)))
+            grind (arith, kept_is f.overview.id, all_at (λ v. AreSame v.told (said_kept (get k.articles v.id)).fields) f.overview o.1 same f.there)
 
     -- and where one tells otherwise, they do
     own_told : (v : OverviewValue) (point : Point) → In v o.1 → IsOtherField k v.id v.told point → IsOtherField k v.id (first_given (fields_of_overview v.id) o.1) point
@@ -88,8 +86,7 @@ module _ (profile : Profile) (facts : List Fact) (k : Kept) (t : Statement) (mor
       where
         by : (told : Option Fields) → IfSome told (λ fields. first_given (fields_of_overview v.id) o.1 ≡ Some fields) → IsOtherField k v.id told point
             → IsOtherField k v.id (first_given (fields_of_overview v.id) o.1) point
-        by None is other = absurd other.2
-        by (Some fields) is other = subst (λ told. IsOtherField k v.id told point) (sym is) other
+        by told is other = grind arith
 
     pub listed_field : (p : Option Point) → IsFieldAmong k o.1 p → IsPointOf all 10 p
     listed_field None same = fields_free (λ id. subst (λ (s : SaidOfArticle). AreSame s.fields (before id)) (sym (said id)) (told_alike same id))
@@ -114,10 +111,7 @@ module _ (profile : Profile) (facts : List Fact) (k : Kept) (t : Statement) (mor
     own_fields = ap (λ (s : SaidOfArticle). s.fields) (own profile facts k t more h id a e) ∙ sym is
 
     pub field_point : (p : Option Point) → IsFieldOf k id told p → IsPointOf all 10 p
-    field_point None same = fields_free (λ q. elim (others profile facts k t more h id a e q) [
-      | inl s ↦ subst (λ q. AreSame (said_by t.saying q).fields (before q)) s (subst (λ o. AreSame o (before id)) (sym own_fields) (subst (AreSame told) (kept_is id) same))
-      | inr none ↦ subst (λ (s : SaidOfArticle). AreSame s.fields (before q)) (sym none) tt
-    ])
+    field_point None same = fields_free (λ q. grind (arith, others profile facts k t more h id a e q, own_fields, kept_is id))
     field_point (Some point) other = other_point id point (subst (λ told. IsOtherField k id told point) (sym own_fields) other)
 
   -- of a head that is sent
@@ -136,9 +130,7 @@ module _ (profile : Profile) (facts : List Fact) (k : Kept) (t : Statement) (mor
       one_point : (os : List OverviewValue) (id : Id) → MatchOption (only os) ⊥ (λ o. o.id ≡ id) → (p : Option Point) → IsFieldAmong k os p
           → IsFieldOf k id (option_map_or (λ o. o.told) (only os) None) p
       one_point [] id is p among = absurd is
-      one_point (o ∷ []) id is None among = subst (λ id. IsFieldOf k id o.told None) is among.0
-      one_point (o ∷ []) id is (Some point) (inl among) = subst (λ id. IsFieldOf k id o.told (Some point)) is among
-      one_point (o ∷ []) id is (Some point) (inr among) = absurd among
+      one_point (o ∷ []) id is p among = grind arith
       one_point (o ∷ v ∷ os) id is p among = absurd is
 
 -- ---- one overview after the other
@@ -147,11 +139,8 @@ module _ (k : Kept) (o : OverviewValue) (os : List OverviewValue) where
   -- where nothing else is kept than the first tells, the point is that of another
   pub past_found : {X : Type 0} (of : X → Point) (found : Option X) → is_some found ≡ false → IsFieldOf k o.id o.told (option_map of found) → (p : Option Point) → IsFieldAmong k os p
       → IsFieldAmong k (o ∷ os) p
-  past_found of None none same None others = (same, others)
-  past_found of None none same (Some point) other = inr other
-  past_found of (Some x) none same p other = absurd (true≢false none)
+  past_found of found none same p others = grind (arith, true≢false)
 
   -- else it is its own
   pub at_found : {X : Type 0} (of : X → Point) (found : Option X) → is_some found ≡ true → IsFieldOf k o.id o.told (option_map of found) → IsFieldAmong k (o ∷ os) (option_map of found)
-  at_found of None some other = absurd (true≢false (sym some))
-  at_found of (Some x) some other = inl other
+  at_found of found some other = grind (arith, true≢false)

@@ -59,8 +59,7 @@ module _ (profile : Profile) where
 
 -- where no point is found, what is so then
 none_so : {P Q : Type 0} (R : Point → Type 0) (o : Option Point) → (P → Q) → MatchOption o P R → MatchOption o Q R
-none_so R None f h = f h
-none_so R (Some point) f h = h
+none_so R o f h = grind arith
 
 -- ---- one answer beside the others
 
@@ -83,11 +82,9 @@ module _ (profile : Profile) (facts : List Fact) (k : Kept) (t : Statement) (mor
 
   cannot_all : (name : Name) → list_any cannot (asks_of name all) ≡ is_impossible name t
   cannot_all name =
+      let before : list_any cannot (asks_of name facts) ≡ false = grind (arith, cases_Bool, none_before (Step name)) in
       ap (list_any cannot) (asks_append name facts more) ∙ list_any-append cannot (asks_of name facts) (asks_of name more)
       ∙ (λ i. before i || impossible_told profile t more h.tells name i)
-    where
-      before : list_any cannot (asks_of name facts) ≡ false
-      before = elim (cases_Bool (list_any cannot (asks_of name facts))) [ inl c ↦ absurd (none_before (Step name) c) | inr f ↦ f ]
 
   pub step_found : (g : OfGroup) → t.saying.group ≡ Some g → g.numbers.possible ≡ false → ConflictAt all (Step g.name)
   step_found g e no_way = grind (arith, same_itself, cannot_all g.name)
@@ -149,10 +146,7 @@ module _ (profile : Profile) (facts : List Fact) (k : Kept) (t : Statement) (mor
   each_free n low high each other e c = omega (arith, low, high, e)
 
   pub group_numbers_free : (n : ℕ) → 1 < n → n < 5 → (g : OfGroup) → t.saying.group ≡ Some g → IsFreeOf n g.name → IsFree n
-  group_numbers_free n low high g e free = each_free n low high (λ name. elim (cases_Bool (is_same g.name name)) [
-    | inl s ↦ inr (subst (IsFreeOf n) (same_text g.name name (sym s)) free)
-    | inr s ↦ inl (asks_some profile t more h.tells g e name ∙ ap (λ b. cond b (Estimates Lenient (widest profile) ∷ (h.tells.tells.asks ++ asked_id g.id)) []) s)
-  ])
+  group_numbers_free n low high g e free = each_free n low high (λ name. grind (arith, cases_Bool, same_text g.name name, asks_some profile t more h.tells g e name))
 
   pub listed_numbers_free : (n : ℕ) → 1 < n → n < 5 → (l : Option (List ℕ) × List ActiveValue) → t.saying.groups ≡ Some l → AllByRecursion (λ line. IsFreeOf n line.name) l.1 → IsFree n
   listed_numbers_free n low high l e free = each_free n low high (λ name. elim (cases_Bool (is_listed l.1 name)) [
@@ -197,8 +191,7 @@ module _ (profile : Profile) (facts : List Fact) (k : Kept) (t : Statement) (mor
     pub listed_group : (o : Option Name) → MatchOption o (AllByRecursion (λ line. IsFalse (list_any (denies_group line.name) facts)) l.1 × NoneIsMissing facts l.0 l.1)
         (λ name. (IsTrue (is_listed l.1 name) × IsTrue (list_any (denies_group name) facts)) ⊎ (IsTrue (is_shown_group facts name) × IsTrue (denies_group name (GroupsAre l.0 l.1))))
         → IsPointOf all 1 (option_map Group o)
-    listed_group (Some name) (inl (listed, denied)) = (group_found name (inr (shows name ∙ listed)) (inl denied), refl)
-    listed_group (Some name) (inr (shown, unlisted)) = (group_found name (inl shown) (inr (grind arith)), refl)
+    listed_group (Some name) found = grind (arith, group_found name, shows name)
     listed_group None (free, missing) = group_free
         (λ name s. let f = found_in (λ line. is_same line.name name) l.1 (sym (shows name) ∙ s) in
         subst (λ name. IsFalse (list_any (denies_group name) facts)) (same_text f.0.name name (sym f.2)) (all_at (λ line. IsFalse (list_any (denies_group line.name) facts)) f.0 l.1 free f.1))
@@ -208,8 +201,7 @@ module _ (profile : Profile) (facts : List Fact) (k : Kept) (t : Statement) (mor
     -- where none that is listed is denied
     pub unlisted_group : AllByRecursion (λ line. IsFalse (list_any (denies_group line.name) facts)) l.1 → (o : Option Name)
         → MatchOption o (NoneIsMissing facts l.0 l.1) (λ name. IsTrue (is_shown_group facts name) × IsTrue (denies_group name (GroupsAre l.0 l.1))) → IsPointOf all 1 (option_map Group o)
-    unlisted_group free None missing = listed_group None (free, missing)
-    unlisted_group free (Some name) found = listed_group (Some name) (inr found)
+    unlisted_group free o found = grind (arith, listed_group)
 
   -- the group of which the answer speaks, if it is denied, or the one that it denies, if it is shown
   module _ (none : t.saying.groups ≡ None) where
@@ -231,15 +223,11 @@ module _ (profile : Profile) (facts : List Fact) (k : Kept) (t : Statement) (mor
         (λ name. ((t.group ≡ Some name) × IsTrue (list_any (denies_group name) facts)) ⊎ ((t.saying.there_is_no ≡ Some name) × (IsTrue (is_shown_group facts name) ⊎ (t.group ≡ Some name))))
         → IsPointOf all 1 (option_map Group o)
     named_group (Some name) (inl (e, denied)) = (group_found name (inr (shows_it name ∙ is_it t.group name e)) (inl denied), refl)
-    named_group (Some name) (inr (e, inl shown)) = (group_found name (inl shown) (inr (denies_it name ∙ is_it t.saying.there_is_no name e)), refl)
-    named_group (Some name) (inr (e, inr is)) = (group_found name (inr (shows_it name ∙ is_it t.group name is)) (inr (denies_it name ∙ is_it t.saying.there_is_no name e)), refl)
+    named_group (Some name) (inr (e, there)) = grind (arith, group_found name, shows_it name, denies_it name, is_it)
     named_group None (free, missing) = group_free
         (λ name s. subst (λ o. IfSome o (λ name. IsFalse (list_any (denies_group name) facts))) (named t.group name (sym (shows_it name) ∙ s)) free)
-        (λ name d s. true≢false (sym s ∙ (at name d).0))
-        (λ name s d. (at name d).1 (named t.group name (sym (shows_it name) ∙ s)))
-      where
-        at : (name : Name) → IsTrue (denies_name name t) → IsFalse (is_shown_group facts name) × (t.group ≡ Some name → ⊥)
-        at name d = subst (λ o. IfSome o (λ name. IsFalse (is_shown_group facts name) × (t.group ≡ Some name → ⊥))) (named t.saying.there_is_no name (sym (denies_it name) ∙ d)) missing
+        (λ name d s. grind (arith, true≢false, denies_it name, named t.saying.there_is_no name))
+        (λ name s d. grind (arith, shows_it name, named t.group name, denies_it name, named t.saying.there_is_no name))
 
     -- where the group of which it speaks isn't denied
     pub missing_group : IfSome t.group (λ name. IsFalse (list_any (denies_group name) facts)) → (o : Option Name)

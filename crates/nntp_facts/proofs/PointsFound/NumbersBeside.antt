@@ -1,10 +1,10 @@
 -- Points that are about the numbers of a group.
-use Rattle.std.proofs.{Common.{arith, ℕ, ◌≡◌, ◌<◌, ◌++◌, ◌∷◌, List, inl, inr, subst, sym, ◌∙◌}, lemmas.Bool.{true≢false, cases_Bool}}
+use Rattle.std.proofs.{Common.{arith, ℕ, ◌≡◌, ◌<◌, ◌++◌, ◌∷◌, List, subst, sym, ◌∙◌}, lemmas.Bool.{true≢false, cases_Bool}}
 use Rattle.nntp_wire.specs.{Limit.{greatest}, declared.{limit.Limit.{Limit}, marks.Marks.TheVariants.{Lenient}}}
 use Rattle.nntp_article.specs.{Session.Spool.{Name}, declared.session.profile.Profile.{Profile}}
 use Rattle.nntp_said.specs.{Asks.{Ask, Estimates}, Facts.{Fact}}
-use Rattle.nntp_theory.specs.{Given.{asks_of, is_denied, denies, demand, IsGivenNumber}, Together.{MeetsDemand}, Inner.Conflict.{AreApart}, Conflict.{widest}}
-use Rattle.nntp_theory.{specs.Conflict.{Point, Number, Count, rank, ConflictAt, AreTooMany}, proofs.Members.{any_back}}
+use Rattle.nntp_theory.specs.{Given.{asks_of, denies, demand, IsGivenNumber}, Together.{MeetsDemand}, Inner.Conflict.{AreApart}, Conflict.{widest, Point}}
+use Rattle.nntp_theory.{specs.Conflict.{Number, Count, rank, ConflictAt, AreTooMany}, proofs.Members.{any_back}}
 use Rattle.nntp_numbers.specs.Inner.Summary.{AreBounded}
 use Rattle.nntp_facts.specs.{Inner.{Points.{IsAbout, NoneBefore}, StatementView.{rank_of_numbers}}, declared.points.NumbersKind.{NumbersKind}}
 
@@ -26,10 +26,7 @@ bounded_widest profile limit more e n large = grind arith
 module _ (all : List Fact) (name : Name) where
   -- no known number is denied where no number is a point
   pub apart : (k : ℕ) → 2 < k → NoneBefore all k → AreApart (asks_of name all)
-  apart k l before n known = elim (cases_Bool (is_denied (asks_of name all) n)) [
-    | inl d ↦ absurd (before (Number name n) l (known, d))
-    | inr f ↦ f
-  ]
+  apart k l before n known = grind (arith, cases_Bool, before (Number name n) l)
 
   abbrev IsFreeAt : ℕ → Type 0
   IsFreeAt k = (other : Point) → rank other ≡ k → IsAbout name other → ConflictAt all other → ⊥

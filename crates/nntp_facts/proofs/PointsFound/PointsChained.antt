@@ -27,25 +27,18 @@ none_at_all profile bad answers places fits formed none = elim (stand_or_conflic
     all_at _ fact (told profile s.0) (told_placed profile (told_with profile bad answers places) s.0 (all_from _ (told profile s.0) s.3)) s.2))
     formed) [ inl c ↦ absurd (none c.0 c.1.conflict) | inr together ↦ together ]
 
--- a point that is given is the first
-pub point_given : (facts : List Fact) (k i : ℕ) (o : Option CodePoint) (point : CodePoint) → o ≡ Some point → k ≡ i → NoneBefore facts i → IsPointOf facts k (option_map point_of o)
-    → IsFirstPoint facts (point_of point)
-point_given facts k i o point e is before found = grind arith
-
--- where none is given there is none of the kind
-pub none_given : (facts : List Fact) (k i : ℕ) (o : Option CodePoint) → o ≡ None → k ≡ i → NoneBefore facts i → IsPointOf facts k (option_map point_of o) → NoneBefore facts (i + 1)
-none_given facts k i o e is before found = grind arith
-
--- the same of equal facts
+-- what is so before is so of equal facts
 pub moved_before : (all facts : List Fact) (k i : ℕ) → all ≡ facts → k ≡ i → NoneBefore facts i → NoneBefore all k
 moved_before all facts k i same is before = subst (λ all. NoneBefore all k) (sym same) (subst (NoneBefore facts) (sym is) before)
 
+-- a point that is given is the first
 pub given_there : (all facts : List Fact) (k i : ℕ) (o : Option CodePoint) (point : CodePoint) → all ≡ facts → o ≡ Some point → k ≡ i → NoneBefore facts i → IsPointOf all k (option_map point_of o)
     → IsFirstPoint facts (point_of point)
-given_there all facts k i o point same e is before found = point_given facts k i o point e is before (subst (λ all. IsPointOf all k (option_map point_of o)) same found)
+given_there all facts k i o point same e is before found = grind arith
 
+-- where none is given there is none of the kind
 pub none_there : (all facts : List Fact) (k i : ℕ) (o : Option CodePoint) → all ≡ facts → o ≡ None → k ≡ i → NoneBefore facts i → IsPointOf all k (option_map point_of o) → NoneBefore facts (i + 1)
-none_there all facts k i o same e is before found = none_given facts k i o e is before (subst (λ all. IsPointOf all k (option_map point_of o)) same found)
+none_there all facts k i o same e is before found = grind arith
 
 -- all kinds, in their order
 abbrev pub kinds : List Kind

@@ -22,8 +22,7 @@ none_placed v at (p ∷ ps) = refl
 placed_longer : (v : Visible) (at : Position) (ps qs : List Asked) (answers : List Response) → length answers ≤ length ps → placed_from v at (ps ++ qs) answers ≡ placed_from v at ps answers
 placed_longer v at ps qs [] le = none_placed v at (ps ++ qs) ∙ sym (none_placed v at ps)
 placed_longer v at [] qs (a ∷ more) le = absurd (omega arith)
-placed_longer v at (p ∷ ps) qs (a ∷ more) le =
-    ap (λ rest. record { selected = v.selected; position = at; asked = p; response = a } ∷ rest) (placed_longer (visible_after v p a) (position_after at p a) ps qs more (omega arith))
+placed_longer v at (p ∷ ps) qs (a ∷ more) le = grind (arith, placed_longer (visible_after v p a) (position_after at p a) ps qs more)
 
 -- one answer more stands where those before leave the session
 placed_grow : (v : Visible) (at : Position) (ps : List Asked) (answers : List Response) (asked : Asked) (response : Response) → asked_next ps answers ≡ Some asked
@@ -31,8 +30,7 @@ placed_grow : (v : Visible) (at : Position) (ps : List Asked) (answers : List Re
     ++ record { selected = (visible_from v ps answers).selected; position = position_from at ps answers; asked = asked; response = response } ∷ []
 placed_grow v at [] answers asked response e = cc
 placed_grow v at (p ∷ ps) [] asked response e = grind (arith, none_placed)
-placed_grow v at (p ∷ ps) (a ∷ more) asked response e =
-    ap (λ rest. record { selected = v.selected; position = at; asked = p; response = a } ∷ rest) (placed_grow (visible_after v p a) (position_after at p a) ps more asked response e)
+placed_grow v at (p ∷ ps) (a ∷ more) asked response e = grind (arith, placed_grow (visible_after v p a) (position_after at p a) ps more asked response e)
 
 -- ---- exchanges
 

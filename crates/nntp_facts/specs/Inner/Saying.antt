@@ -89,8 +89,8 @@ abbrev pub facts_told : Saying → List Ask → List Fact
 facts_told s asks = option_map_or (overviews_facts s.group) s.overviews (facts_in s asks)
 
 -- the group of whose numbers overviews are said, if any are
-abbrev pub listing : Saying → Option OfGroup
-listing s = option_map_or (λ o. s.group) s.overviews None
+abbrev pub group_of_overviews : Saying → Option OfGroup
+group_of_overviews s = option_map_or (λ o. s.group) s.overviews None
 
 -- ---- made of facts
 

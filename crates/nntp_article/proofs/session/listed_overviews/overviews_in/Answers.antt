@@ -7,5 +7,5 @@ pub returns-clause-words : goal.returns-clause-words
 returns-clause-words g c =
     let front = map overview_value c.loop-overview.overviews.items in
     let whole : front ≡ overviews_of c.args.block.now =
-        sym (append-nil front) ∙ ap (λ left. front ++ left) (sym c.in-None.ensures.steps.0) ∙ c.loop-overview.invariant.2 in
+    sym (append-nil front) ∙ ap (λ left. front ++ left) (sym c.in-None.ensures.steps.0) ∙ c.loop-overview.invariant.2 in
     subst (AllByRecursion TellsWords) (sym whole) (overviews_words c.args.block.now c.overviews-overview-items.ensures.clean c.overviews-overview-items.ensures.octets)

@@ -1,6 +1,6 @@
-use Rattle.std.{proofs.Common.{◌≡◌, Some, ap, sym, subst, ◌∙◌, arith}, specs.Prelude.{option_map}}
-use Rattle.nntp_facts.specs.{declared.joins.Joins.TheVariants.{Again}, Inner.{Saying.{Lacks, IsToExist}, ArticleView.{is_added}, KeptSaying.{IsThereAlready}}}
-use Rattle.nntp_facts.specs.Inner.{KeptSaying.{MayBeSaid, IsArticleAdded}, SayingView.{article_said}}
+use Rattle.std.{proofs.Common.{◌≡◌, Some, sym, subst, arith}, specs.Prelude.{option_map}}
+use Rattle.nntp_facts.specs.{declared.joins.Joins.TheVariants.{Again}, Inner.{Saying.{Lacks}, ArticleView.{is_added}, KeptSaying.{IsThereAlready}}}
+use Rattle.nntp_facts.specs.Inner.{KeptSaying.{IsArticleAdded}, SayingView.{article_said}}
 use Rattle.nntp_theory.proofs.OkResults.{if_ok}
 use Rattle.nntp_facts.proofs.articles.Articles.note.Goals as goal
 
@@ -14,17 +14,12 @@ pub returns-in-Sends-clause-added : goal.returns-in-Sends-clause-added
 returns-in-Sends-clause-added g c =
     let s = c.in-Sends in
     if_ok c.note_sent.result (λ added adds facts kept may already.
-    let fits = subst (λ p. MayBeSaid (article_said p)) s.is may in
-    subst (λ p. IsArticleAdded facts (Some (article_said p)) c.args.self.now c.note_sent.new.self (is_added added)) (sym s.is)
-    (adds facts s.what (option_map (λ b. b.now) s.block) kept (c.of.ensures.head s.id.now fits) (c.of.ensures.body s.id.now fits))) c.note_sent.ensures.added
+    grind (arith, adds facts s.what (option_map (λ b. b.now) s.block) kept, c.of.ensures.head s.id.now, c.of.ensures.body s.id.now)) c.note_sent.ensures.added
 
 pub returns-in_ok-note_lack-in-Lacks-clause-added : goal.returns-in_ok-note_lack-in-Lacks-clause-added
 returns-in_ok-note_lack-in-Lacks-clause-added g c facts kept may already =
     subst (λ p. IsArticleAdded facts (Some (article_said p)) c.args.self.now c.note_lack.new.self (is_added c.unnamed_if.result)) (sym c.in-Lacks.is)
     (subst (λ does. IsArticleAdded facts (Some (c.in-Lacks.id.now, Lacks)) c.args.self.now c.note_lack.new.self does) (sym c.unnamed_if.ensures.added) (c.in_ok-note_lack-in-Lacks.ensures facts kept))
-
-pub returns-in_ok-note_lack-in-Lacks-clause-text : goal.returns-in_ok-note_lack-in-Lacks-clause-text
-returns-in_ok-note_lack-in-Lacks-clause-text g c may other is id exists = absurd (subst (λ p. IsToExist (Some (article_said p)) id) c.in-Lacks.is exists)
 
 pub returns-in-Exists-clause-text : goal.returns-in-Exists-clause-text
 returns-in-Exists-clause-text g c = grind (arith, if_ok)
@@ -34,13 +29,8 @@ returns-in-Sends-clause-text g c = grind (arith, if_ok)
 
 pub returns-in-Describes-clause-added : goal.returns-in-Describes-clause-added
 returns-in-Describes-clause-added g c =
-    let s = c.in-Describes in
-    if_ok c.note_told.result (λ added adds facts kept may already.
-    subst (λ p. IsArticleAdded facts (Some (article_said p)) c.args.self.now c.note_told.new.self (is_added added)) (sym s.is)
-    (adds facts s.id.now kept (subst (λ p. MayBeSaid (article_said p)) s.is may))) c.note_told.ensures.added
+    if_ok c.note_told.result (λ added adds facts kept may already. grind (arith, adds facts c.in-Describes.id.now kept)) c.note_told.ensures.added
 
 pub returns-in-Describes-clause-text : goal.returns-in-Describes-clause-text
 returns-in-Describes-clause-text g c =
-    let s = c.in-Describes in
-    if_ok c.note_told.result (λ added gives may other is id exists.
-    gives s.id.now (subst (λ p. MayBeSaid (article_said p)) s.is may) is ∙ ap (λ id. Some id) (subst (λ p. IsToExist (Some (article_said p)) id) s.is exists)) c.note_told.ensures.text
+    if_ok c.note_told.result (λ added gives may other is id exists. grind (arith, gives c.in-Describes.id.now)) c.note_told.ensures.text

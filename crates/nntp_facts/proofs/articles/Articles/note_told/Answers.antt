@@ -1,16 +1,13 @@
-use Rattle.std.{proofs.Common.{true, Some, sym, subst, ◌∙◌}, specs.{Prelude.{IfSome}, List.{AllByRecursion}}}
+use Rattle.std.proofs.Common.{arith, true, sym, subst, ◌∙◌}
 use Rattle.nntp_wire.specs.{Listing.{OverviewValue, overviews_of}, Inner.View.{overview_value}}
-use Rattle.nntp_article.{specs.Inner.Fields.{AreWords, TellsWords}, proofs.ArticleLemmas.WordsOfLines.{overviews_words}}
+use Rattle.nntp_article.proofs.ArticleLemmas.WordsOfLines.{overviews_words}
 use Rattle.nntp_theory.proofs.OkResults.{if_ok}
 use Rattle.nntp_facts.specs.Inner.{Articles.{telling}, ArticleView.{is_added}, KeptSaying.{IsSaidAdded, said_alone}}
 use Rattle.nntp_facts.proofs.Keeping.SaidOfArticles.{first_said}
 use Rattle.nntp_facts.proofs.articles.Articles.note_told.Goals as goal
 
 pub tell-requires : goal.tell-requires
-tell-requires g c =
-    let all = subst (AllByRecursion TellsWords) (sym c.overviews.ensures.listed ∙ c.in-Some.ensures.steps)
-    (overviews_words c.args.block.now c.overviews.ensures.clean c.overviews.ensures.octets) in
-    subst (λ told. IfSome told AreWords) (sym c.of_overview.ensures) all.0
+tell-requires g c = grind (arith, overviews_words)
 
 pub returns-in-Some-clause-added : goal.returns-in-Some-clause-added
 returns-in-Some-clause-added g c = if_ok c.tell.result (λ added adds facts id kept may.

@@ -6,7 +6,6 @@ use Rattle.nntp_facts.proofs.articles.Articles.shown.Goals as goal
 
 pub returns : goal.returns
 returns g c =
-    let es = c.self.inside.known.entries in
     let listed = entries-shown (slice_cmp nat_cmp) (λ k. rc_str_bytes k) known_article nat_list_cmp_total
-    (finite.slice_cmp-IsAntisymmetric finite.nat_cmp-IsAntisymmetric) es c.iter.ensures.ordered in
+    (finite.slice_cmp-IsAntisymmetric finite.nat_cmp-IsAntisymmetric) c.self.inside.known.entries c.iter.ensures.ordered in
     grind (arith, articles-with_denied)

@@ -1,19 +1,10 @@
-use Rattle.std.{proofs.Common.{◌≡◌, ◌∙◌, ◌+◌, ◌++◌, ap, refl, add-one, arith, ℕ, [], ◌∷◌, List, Option, unwrap_or}, specs.Option.{option_map_or}}
+use Rattle.std.{proofs.Common.{◌≡◌, ◌∙◌, ◌+◌, ◌++◌, ap, arith, ℕ, List, Option, unwrap_or}, specs.Option.{option_map_or}}
 use Rattle.nntp_theory.specs.Conflict.{below, places_of}
 use Rattle.nntp_facts.proofs.conflict.Core.all_places.Goals as goal
-
-one-more : (n : ℕ) → below n ++ (n ∷ []) ≡ below (n + 1)
-one-more n = rw add-one refl
 
 -- the places below the bound, where there is one, and those that were found
 all_told : (rest : Option ℕ) (n : ℕ) (front places : List ℕ) → n ≡ unwrap_or rest 0 → front ≡ below n → front ++ places ≡ option_map_or (λ bound. below bound ++ places) rest places
 all_told rest n front places e f = grind arith
-
-pub loop-place-init : goal.loop-place-init
-loop-place-init g c = c.new-all.ensures.items
-
-pub loop-place-preserved : goal.loop-place-preserved
-loop-place-preserved g c = c.in_ok-push.ensures.items ∙ ap (λ places. places ++ (c.loop-place.place ∷ [])) c.loop-place.invariant ∙ one-more c.loop-place.place
 
 pub returns : goal.returns
 returns g c =

@@ -17,29 +17,19 @@ loop-places-init g c =
 
 pub returns-then-len-most-clause-found : goal.returns-then-len-most-clause-found
 returns-then-len-most-clause-found g c =
-    let profile = profile_of c.args.limit c.args.marks in
-    let bad = stands_of c.args.bad.now in
-    let answers = map stands_of c.args.answers.now in
     let fit = c.requires.fit in
     let now = c.loop-places.invariant in
-    let bound = c.loop-places.bound in
-    let places = c.loop-places.places.items in
     let short = few c.args.answers.now (search rules) in
-    let told = kept_told profile bad answers c.in_ok-kept.field-0 c.in-Some.kept c.deref.result.now places c.in-Some.is c.deref.ensures.value (c.in_ok-kept.ensures fit) in
-    end_found profile bad answers fit.0 fit.1 bound places now.1 short now.0 (alone profile bad answers fit.0 fit.1 bound places now.1 short now.0 c.in-Some.kept told)
+    let told = kept_told _ _ _ c.in_ok-kept.field-0 c.in-Some.kept c.deref.result.now _ c.in-Some.is c.deref.ensures.value (c.in_ok-kept.ensures fit) in
+    end_found _ _ _ fit.0 fit.1 _ _ now.1 short now.0 (alone _ _ _ fit.0 fit.1 _ _ now.1 short now.0 c.in-Some.kept told)
 
 pub first_refused-requires : goal.first_refused-requires
 first_refused-requires g c =
-    let profile = profile_of c.args.limit c.args.marks in
-    let bad = stands_of c.args.bad.now in
-    let answers = map stands_of c.args.answers.now in
     let fit = c.requires.fit in
     let now = c.loop-places.invariant in
-    let bound = c.loop-places.bound in
-    let places = c.loop-places.places.items in
     let short = few c.args.answers.now (search rules) in
-    let told = kept_told profile bad answers c.in_ok-kept.field-0 c.in-Some.kept c.deref.result.now places c.in-Some.is c.deref.ensures.value (c.in_ok-kept.ensures fit) in
-    some_left profile bad answers fit.0 fit.1 bound places now.1 short now.0 c.in-Some.kept told
+    let told = kept_told _ _ _ c.in_ok-kept.field-0 c.in-Some.kept c.deref.result.now _ c.in-Some.is c.deref.ensures.value (c.in_ok-kept.ensures fit) in
+    some_left _ _ _ fit.0 fit.1 _ _ now.1 short now.0 c.in-Some.kept told
 
 pub returns-clause-found : goal.returns-clause-found
 returns-clause-found g c =
@@ -70,12 +60,9 @@ loop-places-preserved g c =
     let short = few c.args.answers.now (search rules) in
     let told = kept_told profile bad answers c.in_ok-kept.field-0 c.in-Some.kept c.deref.result.now places c.in-Some.is c.deref.ensures.value (c.in_ok-kept.ensures fit) in
     let part = c.in_ok-bound.ensures.found bad places fit told now.1 short now.0 in
-    let lower = c.in_ok-bound.ensures.below in
-    let within = now.1 in
     let few = now.2 in
-    let count = c.len.ensures in
     let one_more = ap length c.in_ok-insert.ensures.items in (
       subst (λ these. IsPartOfCore profile bad answers c.in_ok-bound.bound these) (sym c.in_ok-insert.ensures.items) part,
-      omega (arith, lower, within),
-      omega (arith, one_more, few, count, c.if-len-most.false),
+      omega (arith, c.in_ok-bound.ensures.below, now.1),
+      omega (arith, one_more, few, c.len.ensures, c.if-len-most.false),
     )

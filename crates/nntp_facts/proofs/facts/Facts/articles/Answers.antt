@@ -1,12 +1,11 @@
-use Rattle.std.proofs.Common.{sym, subst, ◌∙◌, ap, arith}
+use Rattle.std.proofs.Common.{arith}
 use Rattle.nntp_theory.specs.Inner.Exchanged.{said_behind}
-use Rattle.nntp_facts.{specs.Inner.Readers.{AreShownArticles, shown_articles}, proofs.Keeping.ArticleReaders.{articles_shown}}
+use Rattle.nntp_facts.proofs.Keeping.ArticleReaders.{articles_shown}
 use Rattle.nntp_facts.proofs.facts.Facts.articles.Goals as goal
 
 pub returns-clause-noted : goal.returns-clause-noted
 returns-clause-noted g c profile earlier past stands =
-    let facts = said_behind profile.marks earlier past in
-    subst (AreShownArticles facts) (sym (c.articles.ensures ∙ ap (λ f. shown_articles f.kept.articles) c.self.view_is)) (articles_shown facts c.args.self.now.kept.articles stands.kept.articles)
+    grind (arith, articles_shown (said_behind profile.marks earlier past) c.args.self.now.kept.articles stands.kept.articles)
 
 pub returns-clause-kept : goal.returns-clause-kept
 returns-clause-kept g c facts kept = grind (arith, articles_shown facts c.args.self.now.kept.articles kept)

@@ -2,8 +2,8 @@ use Rattle.std.proofs.Common.{[], ◌∷◌, ◌++◌, None, map, take, take_all
 use Rattle.nntp_wire.specs.{Listing.{ActiveValue}, Inner.View.{active_value}}
 use Rattle.nntp_article.proofs.SessionLemmas.LinesLeft.{one_more}
 use Rattle.nntp_said.specs.{Asks.{Bounds}, Facts.{GroupsAre}}
-use Rattle.nntp_facts.specs.Inner.{Kept.{AreKeptGroups, told, with_part, Changes, Agree, MayShow}, KeptSaying.{IsTextOf}}
-use Rattle.nntp_facts.proofs.Keeping.BoundGroups.{none_bound, one_more_bound, listing}
+use Rattle.nntp_facts.{specs.Inner.{Kept.{AreKeptGroups, told, Agree, MayShow}, KeptSaying.{IsTextOf}}, proofs.Keeping.BoundGroups.{none_bound, one_more_bound}}
+use Rattle.nntp_facts.proofs.Keeping.BoundGroups.{listing}
 use Rattle.nntp_facts.proofs.groups.Groups.bound_all.Goals as goal
 
 pub loop-group-init : goal.loop-group-init
@@ -23,8 +23,7 @@ loop-group-preserved g c facts wildmat kept =
     (c.in_ok-add.ensures before (Bounds line.low line.high ∷ []) (subst (IsTextOf None) (sym none) tt)
     (c.loop-group.invariant facts wildmat kept) c.of_bounds.ensures.numbers (λ _. c.of_bounds.ensures.bounded)
     (subst (λ id. Agree (before part.name.now).ids (before part.name.now).places id) (sym none) tt) (subst (MayShow (before part.name.now)) (sym none) tt) after
-    (subst (λ id. Changes before after part.name.now (with_part (before part.name.now) (Bounds line.low line.high ∷ []) id)) (sym none)
-    (subst (λ name. Changes before after name (with_part (before name) (Bounds line.low line.high ∷ []) None)) (sym c.of_bounds.ensures.name) (one_more_bound facts wildmat so_far line))))
+    (grind (arith, none, c.of_bounds.ensures.name, one_more_bound facts wildmat so_far line)))
 
 pub returns : goal.returns
 returns g c facts wildmat kept = grind (arith, take_all)

@@ -1,9 +1,7 @@
-use Rattle.std.{proofs.Common.{ap, sym, ◌∙◌}, specs.{Ordering.{nat_cmp}, Cmp.Lexicographic.{slice_cmp, nat_list_cmp_total}}}
+use Rattle.std.{proofs.Common.{arith}, specs.{Ordering.{nat_cmp}, Cmp.Lexicographic.{slice_cmp, nat_list_cmp_total}}}
 use Rattle.nntp_wire.proofs.ShownMaps.{get-shown, option_map_id}
-use Rattle.std.specs.FinMap as map
 use Rattle.nntp_facts.proofs.groups.Groups.get.Goals as goal
 
 pub returns : goal.returns
 returns g c =
-    c.get.ensures.value ∙ sym (option_map_id _)
-    ∙ sym (get-shown (slice_cmp nat_cmp) (λ k. k.items) (λ v. v) nat_list_cmp_total c.self.inside.groups.entries c.args.name.now) ∙ ap (λ m. map.get m c.args.name.now) c.self.view_is
+    grind (arith, option_map_id, get-shown (slice_cmp nat_cmp) (λ k. k.items) (λ v. v) nat_list_cmp_total c.self.inside.groups.entries c.args.name.now)

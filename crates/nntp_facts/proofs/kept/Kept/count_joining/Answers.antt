@@ -5,7 +5,7 @@ use Rattle.nntp_wire.specs.{Listing.{ActiveValue}, Inner.View.{active_value}}
 use Rattle.nntp_article.proofs.SessionLemmas.LinesLeft.{next_left, none_left}
 use Rattle.nntp_said.specs.Facts.{Fact}
 use Rattle.nntp_theory.specs.Given.{is_shown_group}
-use Rattle.nntp_facts.specs.Inner.{Kept.{IsKept, told}, ListedGroups.{LineJoins, shown_lines}}
+use Rattle.nntp_facts.specs.Inner.{Kept.{IsKept, told}, ListedGroups.{shown_lines}}
 use Rattle.nntp_facts.proofs.kept.Kept.count_joining.Goals as goal
 
 -- where the next line joins, all lines join if those do that are left
@@ -25,9 +25,8 @@ pub returns-then-not-may_bound : goal.returns-then-not-may_bound
 returns-then-not-may_bound g c facts kept t all =
     let k = subst (IsKept facts) (sym c.self.view_is) kept in
     let steps = next_left active_value c.args.groups.now c.loop-line.line-index c.line-item.result c.loop-line-test.true c.line-item.is in
-    let is = c.is_shown-is_shown.ensures (told facts) k.groups ∙ ap (is_shown_group facts) c.as_slice.ensures.value in
-    let left = subst (AllByRecursion (LineJoins facts)) steps ((c.loop-line.invariant.1 facts kept t).0.1 all) in
-    true≢false (sym ((c.if-not-may_bound.ensures facts kept t is).1 left.0))
+    let joins = c.if-not-may_bound.ensures facts kept t in
+    grind (arith, steps, joins, c.is_shown-is_shown.ensures (told facts) k.groups, c.as_slice.ensures.value, c.loop-line.invariant.1 facts kept t, true≢false)
 
 pub loop-line-preserved : goal.loop-line-preserved
 loop-line-preserved g c =

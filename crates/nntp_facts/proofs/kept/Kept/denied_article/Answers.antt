@@ -1,9 +1,9 @@
-use Rattle.std.{proofs.Common.{rules, ◌≡◌, cond, ap, refl, sym, ◌∙◌, None, Some}, specs.Prelude.{option_map}}
+use Rattle.std.{proofs.Common.{rules, cond, ap, refl, sym, ◌∙◌, None, Some}, specs.Prelude.{option_map}}
 use Rattle.nntp_wire.specs.Listing.{overviews_of}
 use Rattle.nntp_theory.specs.{Given.{first_given}, Conflict.{Article}}
 use Rattle.nntp_facts.specs.Inner.{Saying.{Lacks, Exists, Sends, Describes}, SayingView.{article_said, overviews_said}, PointView.{point_of}}
-use Rattle.nntp_facts.{specs.Inner.StatementView.{statement_of}, proofs.{Keeping.KeptArticles.{shown_kept, denied_kept}, PointsFound.ArticlesBeside.{lacks}}}
-use Rattle.nntp_facts.proofs.PointsFound.ArticlesBeside.{has, listed_article, no_article}
+use Rattle.nntp_facts.{specs.Inner.StatementView.{statement_of}, proofs.{Keeping.KeptArticles.{denied_kept}, PointsFound.ArticlesBeside.{lacks, has}}}
+use Rattle.nntp_facts.proofs.PointsFound.ArticlesBeside.{listed_article, no_article}
 use Rattle.nntp_facts.proofs.kept.Kept.denied_article.Goals as goal
 
 pub returns-in-Some : goal.returns-in-Some
@@ -18,32 +18,22 @@ returns-in-None g c profile facts more h =
 
 pub returns-in-Some-Lacks : goal.returns-in-Some-Lacks
 returns-in-Some-Lacks g c profile facts more h =
-    let id = c.in-Some-Lacks.id.now in
-    let said : option_map article_said c.args.told.now.saying.article ≡ Some (id, Lacks) = search rules in
-    lacks profile facts c.args.self.now (statement_of c.args.told.now) more h id Lacks said refl (option_map point_of c.shown_article.result)
-    (c.shown_article.ensures ∙ ap (λ b. cond b (Some (Article id)) None) (sym (shown_kept facts c.args.self.now.articles id h.kept.articles)))
+    lacks profile facts c.args.self.now (statement_of c.args.told.now) more h c.in-Some-Lacks.id.now Lacks (search rules) refl
+    (option_map point_of c.shown_article.result) c.shown_article.ensures
 
 pub returns-in-Some-Exists : goal.returns-in-Some-Exists
 returns-in-Some-Exists g c profile facts more h =
-    let id = c.in-Some-Exists.id.now in
-    let said : option_map article_said c.args.told.now.saying.article ≡ Some (id, Exists) = search rules in
-    has profile facts c.args.self.now (statement_of c.args.told.now) more h id Exists said refl (option_map point_of c.lacked_article.result)
-    (c.lacked_article.ensures ∙ ap (λ b. cond b (Some (Article id)) None) (sym (denied_kept facts c.args.self.now.articles id h.kept.articles)))
+    has profile facts c.args.self.now (statement_of c.args.told.now) more h c.in-Some-Exists.id.now Exists (search rules) refl
+    (option_map point_of c.lacked_article.result) c.lacked_article.ensures
 
 pub returns-in-Some-Sends : goal.returns-in-Some-Sends
 returns-in-Some-Sends g c profile facts more h =
     let w = c.in-Some-Sends in
-    let id = w.id.now in
-    let a = Sends w.field-0-1 (option_map (λ b. b.now) w.field-0-2) in
-    let said : option_map article_said c.args.told.now.saying.article ≡ Some (id, a) = search rules in
-    has profile facts c.args.self.now (statement_of c.args.told.now) more h id a said refl (option_map point_of c.lacked_article-in-Some-Sends.result)
-    (c.lacked_article-in-Some-Sends.ensures ∙ ap (λ b. cond b (Some (Article id)) None) (sym (denied_kept facts c.args.self.now.articles id h.kept.articles)))
+    has profile facts c.args.self.now (statement_of c.args.told.now) more h w.id.now (Sends w.field-0-1 (option_map (λ b. b.now) w.field-0-2)) (search rules) refl
+    (option_map point_of c.lacked_article-in-Some-Sends.result) c.lacked_article-in-Some-Sends.ensures
 
 pub returns-in-Some-Describes : goal.returns-in-Some-Describes
 returns-in-Some-Describes g c profile facts more h =
     let w = c.in-Some-Describes in
-    let id = w.id.now in
-    let a = Describes (overviews_of w.field-0-1.now) in
-    let said : option_map article_said c.args.told.now.saying.article ≡ Some (id, a) = search rules in
-    has profile facts c.args.self.now (statement_of c.args.told.now) more h id a said refl (option_map point_of c.lacked_article-in-Some-Describes.result)
-    (c.lacked_article-in-Some-Describes.ensures ∙ ap (λ b. cond b (Some (Article id)) None) (sym (denied_kept facts c.args.self.now.articles id h.kept.articles)))
+    has profile facts c.args.self.now (statement_of c.args.told.now) more h w.id.now (Describes (overviews_of w.field-0-1.now)) (search rules) refl
+    (option_map point_of c.lacked_article-in-Some-Describes.result) c.lacked_article-in-Some-Describes.ensures

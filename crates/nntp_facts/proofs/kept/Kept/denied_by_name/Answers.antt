@@ -1,19 +1,14 @@
-use Rattle.std.{proofs.Common.{◌≡◌, Some, inl, subst}, specs.{Prelude.{MatchOption, IfSome, IsTrue, IsFalse}, List.{list_any}}}
-use Rattle.nntp_theory.specs.Together.{denies_group}
+use Rattle.std.proofs.Common.{arith, Some}
 use Rattle.nntp_facts.{specs.Inner.StatementView.{statement_of}, proofs.PointsFound.KindsOfPoints.{named_group, missing_group}}
 use Rattle.nntp_facts.proofs.kept.Kept.denied_by_name.Goals as goal
 
 pub returns-in-Some : goal.returns-in-Some
 returns-in-Some g c profile facts more h e =
     let t = statement_of c.args.told.now in
-    named_group profile facts c.args.self.now t more h e (Some c.in-Some.name) (inl
-    (subst (λ o. MatchOption o (IfSome t.group (λ name. IsFalse (list_any (denies_group name) facts))) (λ name. (t.group ≡ Some name) × IsTrue (list_any (denies_group name) facts)))
-    c.in-Some.is (c.denied_of.ensures facts h.kept h.together)))
+    named_group profile facts c.args.self.now t more h e (Some c.in-Some.name) (grind (arith, c.denied_of.ensures facts h.kept h.together))
 
 pub returns-in-None : goal.returns-in-None
 returns-in-None g c profile facts more h e =
     let t = statement_of c.args.told.now in
     missing_group profile facts c.args.self.now t more h e
-    (subst (λ o. MatchOption o (IfSome t.group (λ name. IsFalse (list_any (denies_group name) facts))) (λ name. (t.group ≡ Some name) × IsTrue (list_any (denies_group name) facts)))
-    c.in-None.is (c.denied_of.ensures facts h.kept h.together))
-    c.shown_of.result (c.shown_of.ensures facts h.kept h.together)
+    (grind (arith, c.denied_of.ensures facts h.kept h.together)) c.shown_of.result (c.shown_of.ensures facts h.kept h.together)

@@ -2,7 +2,7 @@ use Rattle.std.{proofs.Common.{◌≡◌, ℕ, false, List, Option, Bor, sym, su
 use Rattle.nntp_article.specs.Session.{Spool.{Name}, Machine.{is_same}}
 use Rattle.nntp_said.specs.Facts.{Fact}
 use Rattle.nntp_theory.{specs.Together.{denies_group}, proofs.OkResults.{on_ok}}
-use Rattle.nntp_facts.{specs.Inner.Kept.{AreKeptNames}, proofs.Keeping.KeptNamesAndGroups.{names_kept}}
+use Rattle.nntp_facts.{specs.Inner.Kept.{AreKeptNames}, proofs.Keeping.KeptNames.{names_kept}}
 use Rattle.nntp_facts.proofs.kept.Kept.deny.Goals as goal
 
 -- what more facts deny, if they deny this name

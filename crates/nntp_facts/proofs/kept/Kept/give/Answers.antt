@@ -1,8 +1,8 @@
-use Rattle.std.{proofs.{Common.{◌≡◌, ℕ, true, false, [], Some, sym, ap, subst, ◌∙◌}, lemmas.Bool.{true≢false}}, specs.Prelude.{IsFalse, IfSome, option_map}}
+use Rattle.std.{proofs.{Common.{◌≡◌, ℕ, true, false, [], Some, sym, ap, subst, ◌∙◌}, lemmas.Bool.{true≢false}}, specs.Prelude.{IsFalse, option_map}}
 use Rattle.std.specs.{List.{list_any}, Rc.{rc_str_bytes}}
 use Rattle.nntp_wire.specs.Inner.View.{overview_value}
 use Rattle.nntp_theory.{specs.{Given.{first_given, fields_in}, Together.{denies_article}, Inner.Together.{AreSame}}, proofs.OkResults.{on_ok}}
-use Rattle.nntp_article.specs.{Article.Parts.{Id}, Inner.Fields.{AreWords}}
+use Rattle.nntp_article.specs.Article.Parts.{Id}
 use Rattle.nntp_facts.specs.Inner.{Articles.{telling}, Kept.{AreKept, AreKeptArticles, AreKeptWith, Agree, MayShow}, KeptSaying.{IsSaidAdded, IsSaidKept}}
 use Rattle.nntp_facts.{specs.Inner.{KeptSaying.{IsTextOf, said_alone}, ArticleView.{is_added}, SayingView.{id_at}}, proofs.Keeping.OverviewsJoin.{surely_added}}
 use Rattle.nntp_facts.proofs.kept.Kept.give.Goals as goal
@@ -33,6 +33,3 @@ returns-clause-kept g c =
           (subst (λ name. MayShow (tells name) (id_at part.id)) (sym same_name) (subst (MayShow (tells name)) (sym same_id) may.may)))),
       subst (λ id. IsSaidKept facts (said_alone id (telling false told)) c.tell.new.self) is noted.1,
     )) c.add.ensures
-
-pub tell-requires : goal.tell-requires
-tell-requires g c = subst (λ told. IfSome told AreWords) (sym c.of_overview.ensures) c.requires

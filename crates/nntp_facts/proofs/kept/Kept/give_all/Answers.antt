@@ -1,25 +1,15 @@
-use Rattle.std.{proofs.Common.{[], ◌∷◌, ◌++◌, ◌+◌, map, take, drop, take_all, refl, sym, subst, ◌∙◌}, specs.List.{AllByRecursion}}
+use Rattle.std.{proofs.Common.{arith, [], ◌∷◌, ◌++◌, ◌+◌, map, take, drop, take_all, sym, subst, ◌∙◌}, specs.List.{AllByRecursion}}
 use Rattle.nntp_wire.specs.{Listing.{OverviewValue}, Inner.View.{overview_value}}
 use Rattle.nntp_article.{specs.Inner.Fields.{TellsWords}, proofs.SessionLemmas.LinesLeft.{next_left, one_more, between}}
-use Rattle.nntp_theory.specs.Inner.Together.{said_of}
-use Rattle.nntp_facts.{specs.Inner.{Kept.{AreKept}, KeptSaying.{MayGive, with_overviews}, ListedOverviews.{HaveOwn}}, proofs.Keeping.OverviewsJoin.{none_yet}}
-use Rattle.nntp_facts.proofs.Keeping.{OverviewsJoin.{so_far, AreGiven, said_so_far, said_next, may_give_next, one_more_given}, SaidOfArticles.{nothing_more}}
+use Rattle.nntp_facts.{specs.Inner.{KeptSaying.{MayGive, with_overviews}, ListedOverviews.{HaveOwn}}, proofs.Keeping.OverviewsJoin.{none_yet, so_far, AreGiven}}
+use Rattle.nntp_facts.proofs.Keeping.{OverviewsJoin.{said_so_far, said_next, may_give_next, one_more_given}, SaidOfArticles.{nothing_more}}
 use Rattle.nntp_facts.proofs.kept.Kept.give_all.Goals as goal
 
 pub loop-overview-init : goal.loop-overview-init
-loop-overview-init g c = (
-  c.requires,
-  refl,
-  λ facts tells kept articles shown own may. (
-    subst (λ tells. AreKept tells c.args.self.now.groups) (λ i other. sym (none_yet tells c.args.name.now shown other) i) kept,
-    λ id. nothing_more (said_of facts id) ∙ articles id,
-  ),
-)
+loop-overview-init g c = grind (arith, none_yet, nothing_more)
 
 pub give-requires : goal.give-requires
-give-requires g c =
-    (subst (AllByRecursion TellsWords) (next_left overview_value c.args.overviews.now c.loop-overview.overview-index c.overview-item.result c.loop-overview-test.true c.overview-item.is)
-    c.loop-overview.invariant.0).0
+give-requires g c = grind (arith, next_left)
 
 pub loop-overview-preserved : goal.loop-overview-preserved
 loop-overview-preserved g c =
@@ -43,8 +33,4 @@ loop-overview-preserved g c =
 
 pub returns-clause-kept : goal.returns-clause-kept
 returns-clause-kept g c facts tells kept articles shown own may =
-    subst (λ os. AreGiven facts tells c.args.name.now (map overview_value os) c.loop-overview.self) (take_all c.loop-overview.overview-index c.args.overviews.now c.loop-overview-test.false)
-    (c.loop-overview.invariant.2 facts tells kept articles shown own may)
-
-pub returns-in_err-give-clause-names : goal.returns-in_err-give-clause-names
-returns-in_err-give-clause-names g c = c.give.ensures.names ∙ c.loop-overview.invariant.1
+    grind (arith, take_all c.loop-overview.overview-index c.args.overviews.now, c.loop-overview.invariant.2 facts tells kept articles shown own may)

@@ -1,4 +1,4 @@
-use Rattle.std.{proofs.Common.{◌≡◌, ◌++◌, Some, sym, ap, subst, ◌∙◌, arith}, specs.Prelude.{◌↔◌, IfSome, IsTrue, option_map}}
+use Rattle.std.{proofs.Common.{◌≡◌, ◌++◌, Some, sym, ap, subst, ◌∙◌}, specs.Prelude.{◌↔◌, IfSome, IsTrue, option_map}}
 use Rattle.nntp_facts.specs.Inner.{SayingView.{of_group}, Saying.{asked_id, facts_in}, Kept.{joins_at_all, IsKept, AreKeptGroups, told}}
 use Rattle.nntp_facts.{specs.Inner.KeptSaying.{GroupJoins}, proofs.Keeping.PartsJoin.{agree_told, shown_told, says_then, bounded_then, group_changes}}
 use Rattle.nntp_facts.proofs.Keeping.{PartsJoin.{groups_alike}, SaidAgain.{there_before, none_there}}
@@ -25,15 +25,11 @@ returns-in-Some-clause-again g c again facts s asks is no_list kept together may
 
 pub returns-in-Some-clause-there : goal.returns-in-Some-clause-there
 returns-in-Some-clause-there g c again facts s asks is kept may =
-    let k = subst (IsKept facts) (sym c.self.view_is) kept in
-    let part = of_group c.in-Some.group in
-    there_before facts s asks c.self.inside.groups part (is ∙ ap (option_map of_group) c.in-Some.is) k.groups may (c.joins.ensures.said again)
+    there_before facts s asks c.self.inside.groups (of_group c.in-Some.group) (is ∙ ap (option_map of_group) c.in-Some.is)
+    (subst (IsKept facts) (sym c.self.view_is) kept).groups may (c.joins.ensures.said again)
 
 pub returns-in-None-clause-there : goal.returns-in-None-clause-there
 returns-in-None-clause-there g c again facts s asks is kept may = none_there facts s asks (is ∙ ap (option_map of_group) c.in-None.is) may
-
-pub returns-in-None-clause-at_all : goal.returns-in-None-clause-at_all
-returns-in-None-clause-at_all g c facts s asks is kept together may = grind arith
 
 pub returns-in-None-clause-again : goal.returns-in-None-clause-again
 returns-in-None-clause-again g c again facts s asks is no_list kept together may = groups_alike facts s asks no_list may (is ∙ ap (option_map of_group) c.in-None.is) c.args.self.now.groups kept.groups

@@ -4,6 +4,3 @@ use Rattle.nntp_facts.proofs.kept.Kept.groups_join.Goals as goal
 
 pub returns-then-may_be_missing-clause-again : goal.returns-then-may_be_missing-clause-again
 returns-then-may_be_missing-clause-again g c again facts asks no_list kept together may = c.group_joins.ensures.again again facts (saying_of c.args.saying.now) asks refl no_list kept together may
-
-pub returns-then-may_be_missing-clause-there : goal.returns-then-may_be_missing-clause-there
-returns-then-may_be_missing-clause-there g c again facts asks kept may = c.group_joins.ensures.there again facts (saying_of c.args.saying.now) asks refl kept may

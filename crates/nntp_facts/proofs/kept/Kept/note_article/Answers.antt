@@ -1,8 +1,8 @@
-use Rattle.std.{proofs.Common.{◌≡◌, true, Some, sym, subst, ◌∙◌}, specs.Prelude.{IfSome, option_map}}
+use Rattle.std.{proofs.Common.{arith, ◌≡◌, true, Some, sym, subst, ◌∙◌}, specs.Prelude.{IfSome, option_map}}
 use Rattle.nntp_theory.{specs.Inner.Together.{said_of}, proofs.OkResults.{if_ok}}
 use Rattle.nntp_facts.specs.Inner.{SayingView.{article_said}, ArticleView.{is_added}, Kept.{AreKeptArticles}, KeptSaying.{MayBeSaid, IsThereAlready}}
-use Rattle.nntp_facts.specs.{Inner.{KeptSaying.{IsArticleAdded}, Saying.{IsToExist}}, declared.joins.Joins.TheVariants.{Again}}
-use Rattle.nntp_facts.proofs.Keeping.SaidOfArticles.{nothing_more, nothing_joins}
+use Rattle.nntp_facts.{specs.{Inner.KeptSaying.{IsArticleAdded}, declared.joins.Joins.TheVariants.{Again}}, proofs.Keeping.SaidOfArticles.{nothing_more}}
+use Rattle.nntp_facts.proofs.Keeping.SaidOfArticles.{nothing_joins}
 use Rattle.nntp_facts.proofs.kept.Kept.note_article.Goals as goal
 
 pub returns-in-Some-clause-added : goal.returns-in-Some-clause-added
@@ -20,6 +20,4 @@ returns-in-None-clause-added g c facts kept may already =
     (λ id. nothing_joins (said_of facts id), λ id. nothing_more (said_of facts id) ∙ kept id)
 
 pub returns-in-Some-clause-text : goal.returns-in-Some-clause-text
-returns-in-Some-clause-text g c =
-    if_ok c.note.result (λ added gives may other is id exists.
-    gives (subst (λ o. IfSome (option_map article_said o) MayBeSaid) c.in-Some.is may) other is id (subst (λ o. IsToExist (option_map article_said o) id) c.in-Some.is exists)) c.note.ensures.text
+returns-in-Some-clause-text g c = grind (arith, if_ok)

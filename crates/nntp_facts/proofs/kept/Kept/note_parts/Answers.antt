@@ -1,7 +1,7 @@
 use Rattle.std.{proofs.Common.{◌++◌, refl, sym, subst, ◌∙◌}, specs.Prelude.{IfSome}}
 use Rattle.nntp_facts.specs.Inner.{ArticleView.{is_added}, SayingView.{saying_of}, Kept.{joins_at_all, AreKeptNames, AreKeptGroups}, Saying.{facts_in}}
 use Rattle.nntp_facts.{specs.Inner.KeptSaying.{IsTextOf, IsArticleAdded}, proofs.Keeping.NotedParts.{kept_is, may_be_said, texts_of, no_groups_join}}
-use Rattle.nntp_facts.proofs.Keeping.{NotedParts.{no_article_joins, parts_kept}, PartsJoin.{denied_only}}
+use Rattle.nntp_facts.proofs.Keeping.{NotedParts.{no_article_joins, parts_kept}, FactsOfParts.{denied_group}}
 use Rattle.nntp_facts.proofs.kept.Kept.note_parts.Goals as goal
 
 pub returns-then-not-at_all : goal.returns-then-not-at_all
@@ -31,7 +31,7 @@ returns g c no_list plain facts more kept together formed t =
     let does = sym c.at_all-2.ensures ∙ c.if-not-at_all-2.false in
     let same = c.deny.ensures.rest.0 ∙ c.note_article.ensures.rest.0 in
     let article = c.in_ok-added.ensures.added facts kept.articles (may_be_said s.group s.article t.may.article) (λ again. joins.ensures.there again facts t.asks kept t.may) in
-    let names = c.in_ok-deny.ensures.names facts (facts_in s t.asks) (subst (AreKeptNames facts) (sym c.note_article.ensures.rest.1) kept.names) (denied_only facts s t.asks no_list t.may) in
+    let names = c.in_ok-deny.ensures.names facts (facts_in s t.asks) (subst (AreKeptNames facts) (sym c.note_article.ensures.rest.1) kept.names) (denied_group s t.asks no_list) in
     let groups = c.in_ok-add_new_group.ensures.groups facts s t.asks refl no_list together t.may (test.0 passed).group (subst (AreKeptGroups facts) (sym same) kept.groups)
     (λ again. subst (AreKeptGroups all) (sym same) (joins.ensures.again again facts t.asks no_list kept together t.may))
     (λ other. subst (λ text. IfSome s.group (λ g. IsTextOf text g.id)) (sym c.text.ensures)

@@ -1,6 +1,6 @@
-use Rattle.std.{proofs.Common.{rules, ◌≡◌, None, Some, refl, ap}, specs.Prelude.{option_map}}
+use Rattle.std.{proofs.Common.{rules, None, Some, refl, ap}, specs.Prelude.{option_map}}
 use Rattle.nntp_wire.specs.Listing.{overviews_of}
-use Rattle.nntp_facts.specs.Inner.{Saying.{Lacks, Exists, Sends, Describes}, SayingView.{article_said}, PointView.{point_of}, StatementView.{statement_of}}
+use Rattle.nntp_facts.specs.Inner.{Saying.{Lacks, Exists, Describes}, SayingView.{article_said}, PointView.{point_of}, StatementView.{statement_of}}
 use Rattle.nntp_facts.proofs.PointsFound.ArticlesBeside.{Body, no_part, part_point}
 use Rattle.nntp_facts.proofs.kept.Kept.other_body.Goals as goal
 
@@ -10,25 +10,21 @@ returns-in-None g c profile facts more h =
 
 pub returns-in-Some-Lacks : goal.returns-in-Some-Lacks
 returns-in-Some-Lacks g c profile facts more h =
-    let said : option_map article_said c.args.told.now.saying.article ≡ Some (c.in-Some-Lacks.field-0-0.now, Lacks) = search rules in
-    no_part profile facts c.args.self.now (statement_of c.args.told.now) more h Body (Some (c.in-Some-Lacks.field-0-0.now, Lacks)) said refl
+    no_part profile facts c.args.self.now (statement_of c.args.told.now) more h Body (Some (c.in-Some-Lacks.field-0-0.now, Lacks)) (search rules) refl
 
 pub returns-in-Some-Exists : goal.returns-in-Some-Exists
 returns-in-Some-Exists g c profile facts more h =
-    let said : option_map article_said c.args.told.now.saying.article ≡ Some (c.in-Some-Exists.field-0-0.now, Exists) = search rules in
-    no_part profile facts c.args.self.now (statement_of c.args.told.now) more h Body (Some (c.in-Some-Exists.field-0-0.now, Exists)) said refl
+    no_part profile facts c.args.self.now (statement_of c.args.told.now) more h Body (Some (c.in-Some-Exists.field-0-0.now, Exists)) (search rules) refl
 
 pub returns-in-Some-Describes : goal.returns-in-Some-Describes
 returns-in-Some-Describes g c profile facts more h =
     let a = Describes (overviews_of c.in-Some-Describes.field-0-1.now) in
-    let said : option_map article_said c.args.told.now.saying.article ≡ Some (c.in-Some-Describes.field-0-0.now, a) = search rules in
-    no_part profile facts c.args.self.now (statement_of c.args.told.now) more h Body (Some (c.in-Some-Describes.field-0-0.now, a)) said refl
+    no_part profile facts c.args.self.now (statement_of c.args.told.now) more h Body (Some (c.in-Some-Describes.field-0-0.now, a)) (search rules) refl
 
 pub returns-in-Some-Sends : goal.returns-in-Some-Sends
 returns-in-Some-Sends g c profile facts more h =
     let w = c.in-Some-Sends in
     let id = w.id.now in
     let lines = option_map (λ b. b.now) w.block in
-    let said : option_map article_said c.args.told.now.saying.article ≡ Some (id, Sends w.what lines) = search rules in
-    part_point profile facts c.args.self.now (statement_of c.args.told.now) more h Body id w.what lines said c.of.result.body (c.of.ensures.body id)
+    part_point profile facts c.args.self.now (statement_of c.args.told.now) more h Body id w.what lines (search rules) c.of.result.body (c.of.ensures.body id)
     (option_map point_of c.other_body_sent.result) (c.other_body_sent.ensures facts h.kept)

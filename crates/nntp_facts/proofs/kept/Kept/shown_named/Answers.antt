@@ -1,4 +1,4 @@
-use Rattle.std.{proofs.{Common.{◌≡◌, inl, inr, sym, subst, ◌∙◌}, lemmas.Bool.{cases_Bool}}, specs.Prelude.{MatchOption, SomeIff, IsTrue, IsFalse}}
+use Rattle.std.{proofs.{Common.{◌≡◌, sym, subst, ◌∙◌, arith}, lemmas.Bool.{cases_Bool}}, specs.Prelude.{MatchOption, SomeIff, IsTrue, IsFalse}}
 use Rattle.nntp_wire.specs.Name.{IsGroupName}
 use Rattle.nntp_theory.{specs.Given.{is_shown_group}, proofs.Given.ShownNames.{shown_named}}
 use Rattle.nntp_facts.specs.Inner.Kept.{IsKept, told}
@@ -8,17 +8,13 @@ pub returns-in_err-group : goal.returns-in_err-group
 returns-in_err-group g c facts kept together =
     let name = c.args.name.now in
     subst (λ o. MatchOption o (IsFalse (is_shown_group facts name)) (λ group. (name ≡ group) × IsTrue (is_shown_group facts group))) (sym c.from_residual.ensures)
-    (elim (cases_Bool (is_shown_group facts name)) [
-      | inl shown ↦ absurd (subst (λ o. SomeIff o (IsGroupName name) name) c.in_err-group.was c.parse.ensures (shown_named facts name together.well_formed shown))
-      | inr hidden ↦ hidden
-    ])
+    (grind (arith, cases_Bool, subst (λ o. SomeIff o (IsGroupName name) name) c.in_err-group.was c.parse.ensures, shown_named facts name together.well_formed))
 
 pub returns-then-is_shown : goal.returns-then-is_shown
 returns-then-is_shown g c facts kept together =
     let name = c.args.name.now in
     let k = subst (IsKept facts) (sym c.self.view_is) kept in
-    let same = sym (subst (λ o. SomeIff o (IsGroupName name) name) c.in_ok-group.was c.parse.ensures).1 in
-    (same, subst (λ n. IsTrue (is_shown_group facts n)) same (sym (c.is_shown.ensures (told facts) k.groups) ∙ c.if-is_shown.true))
+    grind (arith, c.is_shown.ensures (told facts) k.groups, subst (λ o. SomeIff o (IsGroupName name) name) c.in_ok-group.was c.parse.ensures)
 
 pub returns-else-is_shown : goal.returns-else-is_shown
 returns-else-is_shown g c facts kept together =

@@ -1,5 +1,5 @@
 use Rattle.nntp_theory.proofs.OkResults.{if_ok}
-use Rattle.nntp_facts.proofs.Keeping.ToldAnswers.{nothing_added}
+use Rattle.nntp_facts.proofs.Keeping.FactsSaid.{none_added}
 use Rattle.std.proofs.Common.{arith}
 use Rattle.nntp_facts.proofs.kept.Kept.tell_group.Goals as goal
 
@@ -7,4 +7,4 @@ pub returns-in-Some : goal.returns-in-Some
 returns-in-Some g c = grind (arith, if_ok)
 
 pub returns-in-None : goal.returns-in-None
-returns-in-None g c profile facts more limit kept together tells = grind (arith, nothing_added facts c.args.self.now together kept)
+returns-in-None g c profile facts more limit kept together tells = grind (arith, none_added facts c.args.self.now kept together)

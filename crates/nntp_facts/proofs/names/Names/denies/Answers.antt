@@ -1,4 +1,4 @@
-use Rattle.std.proofs.Common.{◌||◌, sym, subst, ◌∙◌}
+use Rattle.std.proofs.Common.{arith, sym, subst}
 use Rattle.nntp_facts.{specs.Inner.Kept.{AreKeptNames}, proofs.Keeping.KeptNames.{some_matches, key_text}}
 use Rattle.nntp_facts.proofs.names.Names.denies.Goals as goal
 
@@ -6,6 +6,4 @@ pub returns : goal.returns
 returns g c facts kept not_shown =
     let before = subst (AreKeptNames facts) (sym c.self.view_is) kept in
     let name = c.args.name.now in
-    c.is_denied.ensures
-    ∙ (λ i. key_text (λ k. k.items) name c.self.inside.denied.keys i || c.is_some.ensures i || some_matches (λ k. k.items) facts name c.self.inside.wildmats.entries before.wildmats i)
-    ∙ sym (before.denied name not_shown)
+    grind (arith, key_text (λ k. k.items) name c.self.inside.denied.keys, some_matches (λ k. k.items) facts name c.self.inside.wildmats.entries before.wildmats, before.denied name)

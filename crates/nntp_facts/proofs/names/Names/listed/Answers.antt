@@ -6,6 +6,3 @@ pub returns-in-Some : goal.returns-in-Some
 returns-in-Some g c facts kept =
     let before = subst (AreKeptNames facts) (sym c.self.view_is) kept in
     grind (arith, answered_found (λ k. k.items) facts c.self.inside.wildmats.entries c.as_slice.result.now before.wildmats)
-
-pub returns-in-None : goal.returns-in-None
-returns-in-None g c facts kept = grind arith
