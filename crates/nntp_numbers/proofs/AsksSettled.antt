@@ -78,10 +78,6 @@ module _ (asks : List Ask) where
 pub met_if : (asks : List Ask) (d : Demand) → d ≡ demand asks → (w : HowMany) → PassSoMany (λ n. is_known asks n && wants d n) w → is_met d w ≡ true → MeetsDemand d (Shown asks)
 met_if asks d is w found t = grind (arith, and_parts, and_from, shown_known, second_shown, ltb-true, lt-ltb)
 
--- and back
-pub is_met_if : (asks : List Ask) (d : Demand) (w : HowMany) → PassSoMany (λ n. is_known asks n && wants d n) w → MeetsDemand d (Shown asks) → is_met d w ≡ true
-is_met_if asks d w found met = grind arith
-
 module _ (asks : List Ask) (c : ℕ) (e : Option ℕ) (within : (n : ℕ) → is_within e n ≡ is_within_all asks n) where
   -- room for one more where nothing is found
   more_of_room : (d : Demand) → d ≡ demand asks → ((n : ℕ) → (is_known asks n && wants d n) ≡ false) → (f : Option ℕ) → FirstFree (is_denied asks) f → IsTrue (has_room d f c e) → Ways asks c

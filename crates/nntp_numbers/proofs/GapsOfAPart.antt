@@ -1,10 +1,11 @@
--- The intervals that the numbers of a part leave of its own.
-use Rattle.std.proofs.Common.{◌≡◌, ℕ, ◌+◌, ◌-◌, ◌^◌, ◌<◌, ◌≤◌, Bool, true, false, cond, not, ◌&&◌, ◌||◌, ◌==◌, IsTrue, List, [], ◌∷◌, None, Some, refl, arith}
-use Rattle.std.proofs.lemmas.Bool.{and_parts, or_parts, or_from, or_right, or_cases, ltb-true, ltb-false, eq-eqb, eqb-true, Decides.{nat_tests}}
-use Rattle.std.specs.{List.{list_all}, Prelude.{◌↔◌, nat_lt}}
+-- The intervals that the numbers of a part leave of its own, and the first free number.
+use Rattle.std.proofs.lemmas.Bool.{cases_Bool, and_parts, or_parts, or_from, or_right, or_cases, ltb-true, ltb-false, eq-eqb, eqb-true, false_from_ne_true}
+use Rattle.std.proofs.{lemmas.Bool.Decides.{nat_tests}, Common.{◌≡◌, ℕ, ◌+◌, ◌-◌, ◌^◌, ◌<◌, ◌≤◌, Bool, true, false, cond, not, ◌&&◌, ◌||◌, ◌==◌, IsTrue, List}}
+use Rattle.std.{proofs.Common.{[], ◌∷◌, None, Some, refl, arith, ◌⊎◌}, specs.{List.{list_all}, Prelude.{◌↔◌, nat_lt, slice_get}}}
 use Rattle.nntp_intervals.specs.Inner.Intervals.{holds, is_between}
 use Rattle.nntp_article.specs.Session.Machine.{is_ascending}
 use Rattle.nntp_numbers.specs.Inner.{Part.{Said, IsRegular, part_denies, is_one_of}, Summary.{has, AgreesWith, denied_after, is_open, gaps}}
+use Rattle.nntp_theory.specs.Given.{IsFirstFree}
 
 -- the numbers are from a start to an end, from 1 on
 abbrev pub AreWithin : (start last : ℕ) → List ℕ → Type 0
@@ -32,8 +33,7 @@ gaps_hold start last (n ∷ ns) up within m small =
     by : (x : Bool) → (x ≡ true → n < m) → holds (gaps (Some (n + 1)) last ns) m ≡ (is_between (n + 1) last m && not x)
         → (b : Bool) → nat_lt (n + 1) (2 ^ 64) ≡ b
         → (is_between start (n - 1) m || holds (gaps (cond b (Some (n + 1)) None) last ns) m) ≡ (is_between start last m && not (m == n || x))
-    by true above later true t = grind (arith, here, nat_tests)
-    by false above later true t = grind (arith, here, nat_tests)
+    by x above later true t = grind (arith, here, nat_tests, cases_Bool x)
     by x above later false t = grind (arith, here, nat_tests, ltb-true)
 
 -- ---- what is said
@@ -73,3 +73,24 @@ module _ (shown : List ℕ) (denied : List (ℕ × ℕ)) (p : Said) where
   -- and back
   pub agrees_open : AgreesWith shown denied p → IsTrue (list_all (is_open denied p) p.numbers)
   agrees_open agrees = all_pass (is_open denied p) p.numbers (λ n t. free_open n (agrees.after n t))
+
+-- ---- the first free number, where a part has numbers
+
+-- the first number is one of them
+first_there : (ns : List ℕ) (n : ℕ) → slice_get ns 0 ≡ Some n → is_one_of ns n ≡ true
+first_there [] n head = cc
+first_there (x ∷ ns) n head = grind (arith, nat_tests)
+
+-- and none that is below it is
+none_before : (ns : List ℕ) (n : ℕ) → is_ascending ns ≡ true → slice_get ns 0 ≡ Some n → (m : ℕ) → m < n → is_one_of ns m ≡ false
+none_before [] n up head m l = cc
+none_before (x ∷ ns) n up head m l = grind (arith, nat_tests, and_parts, listed_above x ns m, false_from_ne_true)
+
+module _ (denied : List (ℕ × ℕ)) (p : Said) (regular : IsRegular p) (all : IsTrue (list_all (is_open denied p) p.numbers)) (n : ℕ) (head : slice_get p.numbers 0 ≡ Some n) where
+  pub may_begin : (1 ≤ n) × (p.low ≤ n) × (n ≤ p.high) × (p.first ≤ n) × (n ≤ p.last) × (holds denied n ≡ false)
+  may_begin = grind (arith, first_there p.numbers n head, each_passes (is_open denied p) p.numbers all n, nat_tests, regular.within n)
+
+  pub first_of_part : (r : ℕ) → 1 ≤ r → p.low ≤ r → (r < p.first) ⊎ (r ≡ n) → holds denied r ≡ false → r ≤ n
+      → ((m : ℕ) → 1 ≤ m → p.low ≤ m → m < r → m < p.first → holds denied m ≡ true) → IsFirstFree (denied_after denied p) 1 r
+  first_of_part r one above kind free up before =
+      grind (arith, may_begin, first_there p.numbers n head, nat_tests, none_before p.numbers n regular.ascends head)

@@ -1,8 +1,8 @@
 -- The hull of the strict marks: what is known is known by it, where it isn't denied.
-use Rattle.std.proofs.Common.{◌≡◌, ℕ, ◌≤◌, ◌⊎◌, Bool, true, cond, ◌&&◌, ◌||◌, ◌==◌, IsTrue, List, [], ◌∷◌, ◌++◌, Option, None, Some, inl, refl, arith}
+use Rattle.std.proofs.Common.{◌≡◌, ℕ, ◌≤◌, ◌⊎◌, Bool, true, ◌&&◌, ◌||◌, ◌==◌, IsTrue, List, [], ◌∷◌, ◌++◌, Option, None, Some, inl, refl, arith}
 use Rattle.std.{proofs.lemmas.Bool.{and_from, or_left, or_right, or_cases, eq-eqb, false_from_ne_true, Decides.{nat_tests}}, specs.List.{list_any}}
 use Rattle.std.specs.Prelude.{IsFalse, MatchOption}
-use Rattle.nntp_wire.specs.declared.{marks.Marks.TheVariants.{Lenient, Strict}, water_marks.WaterMarks.{WaterMarks}}
+use Rattle.nntp_wire.specs.declared.{marks.Marks.TheVariants.{Strict}, water_marks.WaterMarks.{WaterMarks}}
 use Rattle.nntp_said.specs.{Asks.{Ask, Estimates, ListsIn, Has, StandsAt, StepsUp, StepsDown}, declared.position.Position.TheVariants.{First}}
 use Rattle.nntp_theory.{proofs.{GivenNumbers.GivenNumbersMeet.{shows_some, no_demand}, Members.{In, any_in, found_in}}, specs.Given.{shows, is_shown}}
 use Rattle.nntp_theory.specs.{Given.{is_denied, is_known, is_end, says_some, demand_in, demand}, Inner.{Conflict.{AreApart}, OneMore.{is_demanding}}}
@@ -20,10 +20,6 @@ ends_append (ask ∷ xs) ys = grind (arith, ends_append xs ys)
 abbrev pub is_known_by : List Ask → ℕ → Bool
 is_known_by asks n = is_shown asks n || (list_any says_some asks && is_end_of (ends_of asks) n)
 
--- an end of the hull, if there is to be one
-pub end_if : (b : Bool) (e : Option Ends) (n : ℕ) → is_end_of (cond b e None) n ≡ (b && is_end_of e n)
-end_if b e n = grind arith
-
 -- one of the asks has the number as a strict mark
 abbrev HasEnd : List Ask → ℕ → Type 0
 HasEnd asks n = list_any (λ ask. is_end ask n) asks ≡ true
@@ -31,13 +27,11 @@ HasEnd asks n = list_any (λ ask. is_end ask n) asks ≡ true
 -- both ends of the hull are strict marks
 ends_are : (asks : List Ask) (e : Ends) → ends_of asks ≡ Some e → HasEnd asks e.low × HasEnd asks e.high
 ends_are [] e is = cc
-ends_are (Estimates Strict m ∷ asks) e is = by (λ b at. ends_are asks b at) (ends_of asks) refl is
-  where
-    by : ((b : Ends) → ends_of asks ≡ Some b → HasEnd asks b.low × HasEnd asks b.high) → (o : Option Ends) → ends_of asks ≡ o
-        → join_ends (ends_in (Estimates Strict m)) o ≡ Some e → HasEnd (Estimates Strict m ∷ asks) e.low × HasEnd (Estimates Strict m ∷ asks) e.high
-    by rest None at is = grind (arith, eq-eqb)
-    by rest (Some b) at is = grind (arith, rest b at, nat_tests)
-ends_are (Estimates Lenient m ∷ asks) e is = ends_are asks e is
+ends_are (Estimates Strict m ∷ asks) e is =
+    elim (ends_of asks) as (λ o. ends_of asks ≡ o → join_ends (ends_in (Estimates Strict m)) o ≡ Some e → HasEnd (Estimates Strict m ∷ asks) e.low × HasEnd (Estimates Strict m ∷ asks) e.high) [
+      | None ↦ λ at is. grind (arith, eq-eqb)
+      | Some b ↦ λ at is. grind (arith, ends_are asks b at, nat_tests)
+    ] refl is
 ends_are (ask ∷ asks) e is = ends_are asks e is
 
 -- strict marks are within a hull

@@ -1,12 +1,10 @@
 pub mod AsksSettled
 pub mod ConflictsOfNumbers
-pub mod FirstFreeOfAPart
 pub mod GapsOfAPart
 pub mod HullOfMarks
 pub mod Implied
 pub mod MoreAsks
 pub mod NumberSets
-pub mod PassingNumbers
 pub mod SaidInARange
 pub mod SaidOfAsks
 pub mod Tallies

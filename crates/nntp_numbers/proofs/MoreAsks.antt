@@ -7,14 +7,14 @@ use Rattle.std.specs.{FinMap.{keys, entries, entries_sorted, len-entries, nat_cm
 use Rattle.std.specs.{List.Sorted.{IsStrictlySortedBy}, Ordering.{nat_cmp}, Prelude.{◌↔◌, IsFalse, ◌⊎◌, ◌≤◌}}
 use Rattle.nntp_intervals.specs.Inner.Intervals.{holds}
 use Rattle.nntp_article.specs.Session.Spool.{Numbers, IsNumber}
-use Rattle.nntp_numbers.proofs.{AsksSettled.{settled, ArePossible}, HullOfMarks.{is_known_by, end_if, ends_append, some_is, apart_by_hull, stands_by_hull}}
+use Rattle.nntp_numbers.proofs.{AsksSettled.{settled, ArePossible}, HullOfMarks.{is_known_by, ends_append, some_is, apart_by_hull, stands_by_hull}}
 use Rattle.nntp_numbers.specs.Inner.{Part.{join_ends, is_end_of, is_one_of, Said, IsRegular, Says}, Summary.{IsTally, Summary, has, IsSummary, AreBounded}}
 use Rattle.nntp_numbers.specs.Inner.Summary.{shown_after, says_some_after, ends_after, known_after, denied_after, PassSoMany, FirstFree, is_settled, AreCounted}
-use Rattle.nntp_numbers.specs.{Inner.Summary.{Looks, FirstFreeBelow, AgreesWith, AreOpen, LooksAfter}, declared.{ends.Ends.{Ends}, shown.HowMany.{HowMany}}}
+use Rattle.nntp_numbers.specs.{Inner.Summary.{FirstFreeBelow, AgreesWith, AreOpen, LooksAfter}, declared.{ends.Ends.{Ends}, shown.HowMany.{HowMany}}}
 use Rattle.nntp_said.specs.Asks.{Ask}
 use Rattle.nntp_theory.proofs.{GivenNumbers.{JoinedDemands.{demand_append}, MetNumbersStand.{key_in, key_is, shown_known}}, Maps.{key_map, in_key_map}}
 use Rattle.nntp_theory.{proofs.{Maps.{of_key_map, sorted_keys}, Members.{any_in, found_in, all_both, all_back}}, specs.Given.{shows, denies, is_shown}}
-use Rattle.nntp_theory.specs.{Given.{is_denied, says_some, demand, join, wants, is_known}, Inner.{Estimates.{estimate_in, is_within}, OneMore.{is_demanding}}}
+use Rattle.nntp_theory.specs.{Given.{is_denied, says_some, demand, join, wants, is_known}, Inner.{Estimates.{is_within}, OneMore.{is_demanding}}}
 use Rattle.nntp_theory.specs.{Inner.Together.{AsksStand}, Together.{is_possible}, declared.demand.Demand.{Demand}}
 
 -- ---- maps of ascending numbers
@@ -77,16 +77,12 @@ module _ (s : Summary) (p : Said) (asks more : List Ask) (sum : IsSummary s asks
   -- whether it is said that there is a number
   some_grows : says_some_after s p ≡ list_any says_some (asks ++ more)
   some_grows = some_is (asks ++ more) (says_some_after s p)
-      (λ t. elim (one_found s.shown p.numbers (is_demanding (join s.demand p.demand)) t) [
-        | inl x ↦ inl (x.0, sym (shown_grows x.0) ∙ x.1)
-        | inr d ↦ inr (sym (ap is_demanding demand_grows) ∙ d)
-      ])
-      (λ n t. or_left _ (is_demanding (join s.demand p.demand)) (found_some s.shown p.numbers n (shown_grows n ∙ t)))
-      (λ d. or_right (not (length s.shown == 0) || not (length p.numbers == 0)) _ (ap is_demanding demand_grows ∙ d))
+      (λ t. grind (arith, one_found s.shown p.numbers (is_demanding (join s.demand p.demand)) t, shown_grows, demand_grows))
+      (λ n t. grind (arith, or_left, found_some s.shown p.numbers n, shown_grows n)) (λ d. grind (arith, or_right, demand_grows))
 
   -- what is known then is known by the hull
   hull_grows : (n : ℕ) → known_after s p n ≡ is_known_by (asks ++ more) n
-  hull_grows n = grind (arith, end_if, some_grows, shown_grows, ends_append)
+  hull_grows n = grind (arith, some_grows, shown_grows, ends_append)
 
   module _ (bounded : AreBounded (asks ++ more)) where
     -- what is said agrees, and the strict marks are open
@@ -103,16 +99,13 @@ module _ (s : Summary) (p : Said) (asks more : List Ask) (sum : IsSummary s asks
 
       -- all stands together with the asks exactly if the test passes
       settles : (d : Demand) (w : HowMany) (f : Option ℕ) (c : ℕ) (e : Option ℕ) → LooksAfter s p d w f c e → IsTrue (is_settled d w f c e) ↔ AsksStand (asks ++ more)
-      settles d w f c e l = settled (asks ++ more) d w f c e looks (grind (arith, all_both, are_possible)) (λ n t. apart_by n (sym (apart_by_hull (asks ++ more) apart_by n) ∙ t))
-        where
-          looks : Looks (asks ++ more) d w f c e
-          looks = record {
-            demanded = l.demanded ∙ demand_grows;
-            found = subst {A = ℕ → Bool} (λ known. PassSoMany (λ n. known n && wants d n) w) (λ i n. known_grows n i) l.tally.found;
-            free = free_of_all denied_grows bounded f l.free;
-            count = subst {A = ℕ → Bool} (λ known. AreCounted known c) (λ i n. known_grows n i) l.tally.count;
-            estimate = λ n. l.estimate n ∙ (λ i. sum.estimate n i && says.estimating n i) ∙ sym (list_all-append (λ ask. is_within (estimate_in ask) n) asks more);
-          }
+      settles d w f c e l = settled (asks ++ more) d w f c e (record {
+        demanded = l.demanded ∙ demand_grows;
+        found = subst {A = ℕ → Bool} (λ known. PassSoMany (λ n. known n && wants d n) w) (λ i n. known_grows n i) l.tally.found;
+        free = free_of_all denied_grows bounded f l.free;
+        count = subst {A = ℕ → Bool} (λ known. AreCounted known c) (λ i n. known_grows n i) l.tally.count;
+        estimate = grind (arith, l.estimate, sum.estimate, says.estimating, list_all-append);
+      }) (grind (arith, all_both, are_possible)) (grind (arith, apart_by, apart_by_hull (asks ++ more) apart_by))
 
     -- and back
     module _ (grown : AsksStand (asks ++ more)) where
@@ -139,14 +132,8 @@ module _ (s v : Summary) (p : Said) (b : Bool) (d : Demand) (ends : Option Ends)
       → FirstFreeBelow (denied_after v.denied p) f → ((n : ℕ) → is_within e n ≡ (is_within v.estimate n && is_within p.estimate n)) → Tells b s p
   joins_then w f c e is agrees open_ends tally free estimate =
       let at = are_ends (is_demand ∙ ap (λ s. join s.demand p.demand) view) ∙ ap (λ s. ends_after s p) (sym view) in
-      let l : LooksAfter v p d w f c e = record {
-        demanded = is_demand;
-        tally = subst (λ o. IsTally (λ n. shown_after v.shown p.numbers n || is_end_of o n) d w c) at tally;
-        free = free;
-        estimate = estimate;
-      } in
-      let open_after : AreOpen v.denied p (ends_after v p) = subst (AreOpen v.denied p) at open_ends in
-      grind (arith, settles)
+      let l : LooksAfter v p d w f c e = search (is_demand, subst (λ o. IsTally (λ n. shown_after v.shown p.numbers n || is_end_of o n) d w c) at tally, free, estimate) in
+      grind (arith, settles, subst (AreOpen v.denied p) at open_ends)
 
   pub joins_else : b ≡ false → (AgreesWith v.shown v.denied p → AreOpen v.denied p ends → ⊥) → Tells b s p
   joins_else is not_open = grind (arith, true≢false, agrees_then, free_then, or_right)

@@ -1,6 +1,6 @@
 -- Numbers that are kept as their ends and those between them.
-use Rattle.std.proofs.Common.{◌≡◌, ◌≢◌, ℕ, ◌<◌, ◌≤◌, Bool, true, false, cond, ◌&&◌, ◌||◌, ◌==◌, List, [], ◌∷◌, ◌++◌, Option, None, Some, length, inl, refl, sym}
-use Rattle.std.proofs.{Common.{ap, subst, ◌∙◌, arith}, lemmas.Bool.{or_right, cases_eq, lt-ltb, le-ltb, eq-eqb, Decides.{nat_tests}}}
+use Rattle.std.proofs.Common.{◌≡◌, ◌≢◌, ℕ, ◌<◌, ◌≤◌, true, false, cond, ◌&&◌, ◌||◌, ◌==◌, List, [], ◌∷◌, ◌++◌, Option, None, Some, length, inl, refl, sym, ap}
+use Rattle.std.proofs.{Common.{subst, ◌∙◌, arith}, lemmas.Bool.{or_right, cases_eq, lt-ltb, le-ltb, eq-eqb, Decides.{nat_tests}}}
 use Rattle.std.{proofs.lemmas.{List.Folds.{list_any-append}, Map.Keys.{le_from_not_gt}}, specs.{BTreeMap.{is_at}, Borrow.{Bor}, Cmp.{nat_cmp_total}}}
 use Rattle.std.specs.{Cmp.{eq_by_cmp_equiv}, List.Sorted.{IsStrictlySortedBy}, Option.{option_to_list, option_copied, IfSome}, Ordering.{nat_cmp, is_gt}}
 use Rattle.std.specs.{Prelude.{nat_lt, nat_le, IsTrue, ◌↔◌, unwrap_or, is_some}, declared.cmp.Ordering.TheVariants.{Less}}
@@ -9,10 +9,6 @@ use Rattle.nntp_numbers.specs.Inner.{NumberSets.{numbers_in, AreWithin, AreBetwe
 use Rattle.nntp_numbers.specs.declared.{ends.Ends.{Ends}, shown.HowMany.TheVariants.{Single, Several}}
 
 -- ---- the numbers of a list
-
--- a number is at its place, and no other
-at_is : (n k : ℕ) → is_at (nat_cmp n) k ≡ (k == n)
-at_is n k = grind (arith, nat_tests)
 
 -- an element is found
 pub one_has : (ns : List ℕ) (n : ℕ) → In n ns → has ns n ≡ true
@@ -44,25 +40,16 @@ pub record Keeps (e : Ends) (ks ns : List ℕ) : Type 0 where
 
 -- as a method finds it
 pub opened : (o : Option Ends) (ks ns : List ℕ) (e : Ends) → AreBetween o ks → numbers_in o ks ≡ ns → o ≡ Some e → Keeps e ks ns
-opened o ks ns e are view is = grind (arith, at_is, list_any-append, nat_tests)
+opened o ks ns e are view is = grind (arith, list_any-append, nat_tests)
 
 -- its numbers ascend
 ascend : (ends : Option Ends) (ks : List ℕ) → AreBetween ends ks → IsStrictlySortedBy nat_cmp (numbers_in ends ks)
 unfolding IsStrictlySortedBy
 ascend None ks are = tt
-ascend (Some e) ks are = by (nat_lt e.low e.high) refl
-  where
-    by : (b : Bool) → nat_lt e.low e.high ≡ b → IsStrictlySortedBy nat_cmp (e.low ∷ (ks ++ option_to_list (cond b (Some e.high) None)))
-    by b t = ascend_both (e.low ∷ []) (ks ++ high) (tt, tt)
-        (ascend_both ks high are.ascend (sorted b) (λ n m i j. grind (arith, are.within.1 n, at_is, nat_tests)))
-        (λ n m i j. grind (arith, list_any-append, are.within.1 m, at_is, nat_tests))
-      where
-        high : List ℕ
-        high = option_to_list (cond b (Some e.high) None)
-
-        sorted : (b : Bool) → IsStrictlySortedBy nat_cmp (option_to_list (cond b (Some e.high) None))
-        sorted true = (tt, tt)
-        sorted false = tt
+ascend (Some e) ks are =
+    let high = option_to_list (cond (nat_lt e.low e.high) (Some e.high) None) in
+    let sorted : IsStrictlySortedBy nat_cmp high = grind arith in
+    ascend_both (e.low ∷ []) (ks ++ high) (tt, tt) (ascend_both ks high are.ascend sorted (grind (arith, are.within.1, nat_tests))) (grind (arith, list_any-append, are.within.1, nat_tests))
 
 pub opened_ascend : (o : Option Ends) (ks ns : List ℕ) → AreBetween o ks → numbers_in o ks ≡ ns → IsStrictlySortedBy nat_cmp ns
 opened_ascend o ks ns are view = subst (IsStrictlySortedBy nat_cmp) view (ascend o ks are)
@@ -80,13 +67,13 @@ with_one o n = join_ends o (Some (record { low = n; high = n }))
 
 module _ (ks : List ℕ) (n : ℕ) (after : List ℕ) where
   within : (o : Option Ends) → AreWithin o ks → (k : Option ℕ) → brought_between o n ≡ k → Bring k ks after → AreWithin (with_one o n) after
-  within o are k t more = grind (arith, at_is, nat_tests)
+  within o are k t more = grind (arith, nat_tests)
 
   -- it is found too
   found : (o : Option Ends) → AreWithin o ks → (k : Option ℕ) → brought_between o n ≡ k → Bring k ks after → (m : ℕ)
       → has (numbers_in (with_one o n) after) m ≡ (has (numbers_in o ks) m || n == m)
-  found (Some e) are k t same m = grind (arith, are, t, at_is, list_any-append, nat_tests)
-  found o are k t more m = grind (arith, are, at_is, list_any-append, nat_tests)
+  found (Some e) are k t same m = grind (arith, are, t, list_any-append, nat_tests)
+  found o are k t more m = grind (arith, are, list_any-append, nat_tests)
 
 module _ (o : Option Ends) (ks ns : List ℕ) (n : ℕ) (are : AreBetween o ks) (after : List ℕ) (k : Option ℕ) (brought : k ≡ brought_between o n) (bring : Bring k ks after)
     (ends : Option Ends) (joined : ends ≡ with_one o n) where
@@ -105,15 +92,12 @@ module _ (e : Ends) (ks ns : List ℕ) (is : Keeps e ks ns) where
   high_in : has ns e.high ≡ true
   high_in = grind (arith, is.same e.high, eq-eqb)
 
-  bounded : (n : ℕ) → has ns n ≡ true → (e.low ≤ n) × (n ≤ e.high)
-  bounded n t = grind (arith, is.within n, is.order)
-
   -- none is outside the marks exactly if the high end isn't, where the low end isn't below them
   pub outside_none : (low high : ℕ) → low ≤ e.low → IsTrue (nat_le e.high high) ↔ ((n : ℕ) → has ns n ≡ true → (nat_lt n low || nat_lt high n) ≡ false)
-  outside_none low high above = grind (arith, high_in, bounded, nat_tests)
+  outside_none low high above = grind (arith, high_in, is.within, is.order, nat_tests)
 
   pub one_kept : e.low ≡ e.high → PassSoMany (has ns) Single
-  one_kept same = grind (arith, low_in, bounded)
+  one_kept same = grind (arith, low_in, is.within, is.order)
 
   pub several_kept : e.low ≢ e.high → PassSoMany (has ns) Several
   several_kept apart = (e.low, e.high, apart, low_in, high_in)
@@ -135,17 +119,11 @@ module _ (e : Ends) (ks ns : List ℕ) (is : Keeps e ks ns) where
     several_below a b = (e.low, s, (λ same. absurd (omega arith)), grind (arith, low_in, lt-ltb), grind (arith, second.there, lt-ltb))
 
     pub one_below : (e.low < s → k ≤ s) → PassSoMany (λ n. has ns n && nat_lt n k) Single
-    one_below far = (e.low, grind (arith, low_in, lt-ltb), λ m t. grind (arith, cases_eq m e.low, second.next m, second.apart, bounded m, nat_tests))
+    one_below far = (e.low, grind (arith, low_in, lt-ltb), λ m t. grind (arith, cases_eq m e.low, second.next m, second.apart, is.within m, is.order, nat_tests))
 
 -- ---- the list
 
 -- with one number
 pub listed_one : (o : Option Ends) (ks ns : List ℕ) (e : Ends) → AreBetween o ks → numbers_in o ks ≡ ns → o ≡ Some e → e.high ≤ e.low → ns ≡ e.low ∷ []
-listed_one o ks ns e are view is g =
-    let kept = opened o ks ns e are view is in
-    let none = none_found ks (λ n t. grind (arith, kept.within n)) in
-    grind (arith, none, le-ltb e.low e.high g)
-  where
-    none_found : (ks : List ℕ) → ((n : ℕ) → has ks n ≡ true → ⊥) → ks ≡ []
-    none_found [] none = refl
-    none_found (k ∷ ks) none = absurd (none k (one_has (k ∷ ks) k (inl refl)))
+listed_one o [] ns e are view is g = grind (arith, opened o [] ns e are view is, le-ltb e.low e.high g)
+listed_one o (k ∷ ks) ns e are view is g = grind (arith, (opened o (k ∷ ks) ns e are view is).within k, one_has (k ∷ ks) k (inl refl))

@@ -1,12 +1,26 @@
 -- How many numbers are shown and wanted, one number more at a time.
 use Rattle.std.proofs.Common.{◌≡◌, ℕ, suc, ◌+◌, ◌<◌, Bool, true, false, ◌&&◌, ◌||◌, ◌==◌, List, [], ◌∷◌, take, length, get_or, ap, subst, ◌∙◌, arith, Option}
-use Rattle.std.proofs.{Common.{None, Some}, Math.Seq.{take-length}, lemmas.{Bool.{and_parts, Decides.{nat_tests}}, Grind.{common_steps}}}
+use Rattle.std.proofs.{Common.{None, Some}, Math.Seq.{take-length}, lemmas.{Bool.{and_parts, or_left, Decides.{nat_tests}}, Grind.{common_steps}}}
 use Rattle.std.{proofs.lemmas.List.Folds.{list_any_more}, specs.{Cmp.{nat_cmp_total}, FinMap.{insert, get-insert, len-insert}}}
-use Rattle.std.specs.{List.Sorted.{IsStrictlySortedBy}, Ordering.{nat_cmp}}
-use Rattle.nntp_numbers.{proofs.{MoreAsks.{map_of, in_map_of, len_map_of}, PassingNumbers.{and_one_found}}, specs.Inner.Part.{is_end_of, is_one_of}}
-use Rattle.nntp_numbers.specs.{Inner.Summary.{has, PassSoMany, and_one, AreCounted, IsTally}, declared.{ends.Ends.{Ends}, shown.HowMany.{HowMany}}}
+use Rattle.std.specs.{List.Sorted.{IsStrictlySortedBy}, Ordering.{nat_cmp}, Prelude.{◌⊎◌}}
+use Rattle.nntp_numbers.{proofs.MoreAsks.{map_of, in_map_of, len_map_of}, specs.Inner.{Part.{is_end_of, is_one_of}, Summary.{has, PassSoMany, and_one}}}
+use Rattle.nntp_numbers.specs.{Inner.Summary.{AreCounted, IsTally}, declared.{ends.Ends.{Ends}, shown.HowMany.{HowMany, TheVariants.{Absent, Single, Several}}}}
 use Rattle.nntp_article.specs.Session.Machine.{is_ascending}
-use Rattle.nntp_theory.specs.{Given.{wants}, declared.demand.Demand.{Demand}}
+use Rattle.nntp_theory.specs.{Given.{wants}, declared.demand.Demand.{Demand, TheVariants.{NotEmpty, OnlyOne}}}
+
+-- ---- how many pass a test
+
+-- as many are wanted, where all are
+pub all_wanted : (p : ℕ → Bool) (d : Demand) (w : HowMany) → (d ≡ NotEmpty) ⊎ (d ≡ OnlyOne) → PassSoMany p w → PassSoMany (λ n. p n && wants d n) w
+all_wanted p d w is found = grind arith
+
+-- another number is found
+pub and_one_found : (p : ℕ → Bool) (n : ℕ) (w : HowMany) → PassSoMany p w → p n ≡ false → PassSoMany (λ m. p m || n == m) (and_one w)
+and_one_found p n Absent found fresh = (n, grind (arith, nat_tests), λ m t. grind (arith, found m, nat_tests))
+and_one_found p n Single (a, here, once) fresh = (a, n, λ same. grind arith, or_left (p a) (n == a) here, grind (arith, nat_tests))
+and_one_found p n Several (a, b, apart, at, bt) fresh = (a, b, apart, or_left (p a) (n == a) at, or_left (p b) (n == b) bt)
+
+-- ---- one number more
 
 -- one more is counted
 counted_more : (p : ℕ → Bool) (m c : ℕ) → p m ≡ false → AreCounted p c → AreCounted (λ n. p n || m == n) (c + 1)

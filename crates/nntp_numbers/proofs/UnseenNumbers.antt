@@ -1,16 +1,15 @@
 -- The numbers that are given and aren't shown, by what is kept of the group.
 use Rattle.std.proofs.Common.{◌≡◌, ℕ, zero, suc, ◌+◌, ◌^◌, ◌<◌, ◌≤◌, Bool, true, false, not, cond, ◌&&◌, ◌||◌, ◌==◌, IsTrue, List, length, Option, None, Some}
-use Rattle.std.proofs.{Common.{inl, refl, sym, ◌∙◌, arith, []}, lemmas.Bool.{true≢false, and_from, and_parts, or_right, or_cases, eq-eqb, eqb-true}}
-use Rattle.std.{proofs.lemmas.Bool.{false_from_ne_true, Decides.{nat_tests}}, specs.{List.{list_any}, Option.{IfSome}, Prelude.{MatchOption, IsFalse}}}
+use Rattle.std.proofs.{Common.{refl, sym, arith, []}, lemmas.Bool.{true≢false, and_from, and_parts, or_right, or_cases, eq-eqb, eqb-true, false_from_ne_true}}
+use Rattle.std.{proofs.lemmas.Bool.Decides.{nat_tests}, specs.{List.{list_any}, Option.{IfSome}, Prelude.{MatchOption, IsFalse}}}
 use Rattle.nntp_intervals.specs.Inner.Intervals.{holds, IsLeastFree, IsFullFrom}
-use Rattle.nntp_numbers.proofs.{HullOfMarks.{is_known_by, end_if, some_is, stands_by_hull, between_ends, ends_known}, MoreAsks.{one_found, found_some}}
-use Rattle.nntp_numbers.{proofs.{MoreAsks.{free_of_all}, NumberSets.{one_has}}, specs.Inner.{Part.{ends_of, is_end_of}, Summary.{Summary, IsSummary}}}
-use Rattle.nntp_numbers.specs.Inner.{Summary.{AreBounded, has, PassSoMany, FirstFreeBelow, FirstFree}, Unseen.{one_more_in, known_ends_in, unseen_beside}}
-use Rattle.nntp_numbers.specs.{Inner.Unseen.{unseen_in, unseen_high_beside, unseen_high_in}, declared.{ends.Ends.{Ends}, shown.HowMany.{HowMany}}}
-use Rattle.nntp_numbers.specs.declared.shown.HowMany.TheVariants.{Absent}
+use Rattle.nntp_numbers.proofs.{HullOfMarks.{is_known_by, some_is, stands_by_hull, between_ends, ends_known}, MoreAsks.{one_found, found_some, free_of_all}}
+use Rattle.nntp_numbers.{proofs.NumberSets.{one_has}, specs.Inner.{Part.{ends_of, is_end_of}, Summary.{Summary, IsSummary, AreBounded, has, PassSoMany}}}
+use Rattle.nntp_numbers.specs.Inner.{Summary.{FirstFreeBelow}, Unseen.{one_more_in, known_ends_in, unseen_beside, unseen_in, unseen_high_beside}}
+use Rattle.nntp_numbers.specs.{Inner.Unseen.{unseen_high_in}, declared.{ends.Ends.{Ends}, shown.HowMany.{HowMany, TheVariants.{Absent}}}}
 use Rattle.nntp_said.specs.Asks.{Ask}
 use Rattle.nntp_theory.proofs.{GivenNumbers.{FirstFreeNumber.{free_is, free_none, first_free_once}, MetNumbersStand.{shown_known, wants_less}}, Members.{In}}
-use Rattle.nntp_theory.{proofs.Members.{any_in, found_in}, specs.Given.{is_shown, is_denied, demand, wants, says_some, IsOneMore, IsGivenNumber, is_known}}
+use Rattle.nntp_theory.{proofs.Members.{any_in, found_in}, specs.Given.{is_shown, demand, wants, says_some, IsOneMore, IsGivenNumber, is_known}}
 use Rattle.nntp_theory.specs.Inner.{OneMore.{is_demanding, free, if_wanted, all_numbers}, Together.{AsksStand}, Unseen.{AreUnseen}}
 use Rattle.nntp_theory.specs.declared.demand.Demand.{Demand}
 
@@ -30,10 +29,6 @@ all_small = refl
 -- what is found is the first below 2^64, if there is one
 pub first_free : (denied : ℕ → Bool) → FirstFreeBelow denied (free denied all_numbers 1)
 first_free denied = grind (arith, free_none denied all_numbers 1, all_small, free_within denied all_numbers 1, free_is denied all_numbers 1)
-
--- which is one
-one_first : (denied : ℕ → Bool) (a b : Option ℕ) → FirstFreeBelow denied a → FirstFreeBelow denied b → a ≡ b
-one_first denied a b x y = grind (arith, first_free_once)
 
 -- ---- what the demand wants of the numbers that are shown
 
@@ -57,7 +52,7 @@ module _ (s v : Summary) (view : v ≡ s) (w : HowMany) (found : PassSoMany (λ 
   pub first_wanted : w ≡ Absent → (o : Option ℕ) → MatchOption o (IsFullFrom v.denied 1) (IsLeastFree v.denied 1)
       → (first : Option ℕ) → o ≡ first → IfSome first (λ n. n < 2 ^ 64) → if_wanted v.demand first ≡ one_more_in s
   first_wanted none o least first is small =
-      grind (arith, one_first (holds v.denied) first, first_free (holds v.denied), found, none, false_from_ne_true, found_in, true≢false, and_from, one_has)
+      grind (arith, first_free_once, first_free (holds v.denied), found, none, false_from_ne_true, found_in, true≢false, and_from, one_has)
 
 -- ---- what is read off
 
@@ -66,20 +61,7 @@ module _ (s : Summary) (asks : List Ask) (sum : IsSummary s asks) (bounded : Are
   pub one_more_is : (list_any (wants s.demand) s.shown ≡ false → (n : ℕ) → IsTrue (is_known asks n) → IsFalse (wants (demand asks) n))
       → MatchOption (one_more_in s) ((n : ℕ) → IsOneMore asks n → ⊥) (IsOneMore asks)
   one_more_is needed =
-      by (list_any (wants s.demand) s.shown) refl (free (holds s.denied) all_numbers 1) (free_of_all sum.denied bounded _ (first_free (holds s.denied)))
-    where
-      shown : (n : ℕ) → In n s.shown → IsTrue (is_known asks n)
-      shown n i = shown_known asks n (sym (sum.shown n) ∙ one_has s.shown n i)
-
-      by : (b : Bool) → list_any (wants s.demand) s.shown ≡ b → (o : Option ℕ) → FirstFree (is_denied asks) o
-          → MatchOption (cond b None (if_wanted s.demand o)) ((n : ℕ) → IsOneMore asks n → ⊥) (IsOneMore asks)
-      by true t o first = λ n x. grind (arith, found_in (wants s.demand) s.shown t, shown, x.needed, true≢false)
-      by false t None first = λ n x. grind (arith, first n, x.first, true≢false)
-      by false t (Some f) first = found (wants s.demand f) refl
-        where
-          found : (b : Bool) → wants s.demand f ≡ b → MatchOption (cond b (Some f) None) ((n : ℕ) → IsOneMore asks n → ⊥) (IsOneMore asks)
-          found true w = search (arith, first, needed)
-          found false w = λ n x. grind (arith, first_free_once (is_denied asks) 1 f n first x.first, x.wanted)
+      grind (arith, free_of_all sum.denied bounded _ (first_free (holds s.denied)), found_in (wants s.demand), shown_known, sum.shown, one_has, true≢false, first_free_once, false_from_ne_true)
 
   -- none is known that is wanted, where what is known is shown, and none that is shown is wanted
   shown_unwanted : ((n : ℕ) → is_known asks n ≡ is_shown asks n) → list_any (wants s.demand) s.shown ≡ false → (n : ℕ) → IsTrue (is_known asks n) → IsFalse (wants (demand asks) n)
@@ -96,7 +78,7 @@ module _ (s : Summary) (asks : List Ask) (sum : IsSummary s asks) (bounded : Are
 
   -- what is known by the hull is shown, or one of these
   pub hull_is : (n : ℕ) → is_known_by asks n ≡ (is_shown asks n || is_end_of (known_ends_in s) n)
-  hull_is n = grind (arith, end_if, some_kept)
+  hull_is n = grind (arith, some_kept)
 
   module _ (stand : AsksStand asks) where
     -- ---- with strict marks
@@ -105,13 +87,9 @@ module _ (s : Summary) (asks : List Ask) (sum : IsSummary s asks) (bounded : Are
       are_known : IsTrue (is_known asks e.low) × IsTrue (is_known asks e.high)
       are_known = let kept = ends_kept e is in ends_known asks e kept.1 kept.0
 
-      -- what isn't denied is between them
-      inside : (n : ℕ) → IsFalse (is_denied asks n) → (e.low ≤ n) × (n ≤ e.high)
-      inside = between_ends asks e (ends_kept e is).1 (stand.not_denied e.low (inl are_known.0)) (stand.not_denied e.high (inl are_known.1))
-
       -- so each given number is known, and between them
       of_given : (n : ℕ) → IsGivenNumber asks n → IsTrue (is_known asks n) × (e.low ≤ n) × (n ≤ e.high)
-      of_given n g = grind (arith, inside n, stand.not_denied n, wants_less (demand asks) n e.low, are_known)
+      of_given n g = grind (arith, between_ends, stand.not_denied n, wants_less (demand asks) n e.low, are_known)
 
       -- the low one, where it isn't shown; and the high one, where it isn't shown, and isn't the low one
       by_ends : (a : Bool) → is_shown asks e.low ≡ a → (b : Bool) → (e.high == e.low) ≡ b → (c : Bool) → is_shown asks e.high ≡ c

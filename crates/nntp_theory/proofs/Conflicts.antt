@@ -3,18 +3,17 @@ use Rattle.std.proofs.Common.{append-nil, map, length-append, ◌≡◌, ℕ, ze
 use Rattle.std.proofs.{Common.{Some, inl, inr, refl, sym, ap, subst, ◌∙◌, arith}, lemmas.{Grind.{flat_map-append}, Bool.{cases_lt, cases_eq, true≢false}}}
 use Rattle.std.{proofs.lemmas.{Bool.{not-true}, List.{length-map}}, specs.{Prelude.{Contains}, List.{AllByRecursion, flat_map}, Cmp.{nat_cmp_total}}}
 use Rattle.std.specs.FinMap.{len-entries}
-use Rattle.nntp_said.specs.{declared.position.Position.{Position, TheVariants.{Nowhere}}, Asks.{position_after}, Facts.{Fact, Holds, ThereIs, Asks, IdAt}}
-use Rattle.nntp_said.specs.{Facts.{OverviewsAre, facts_of, facts_from, group_of}, Inner.Facts.{FitsAll}}
+use Rattle.nntp_said.specs.{declared.position.Position.{Position, TheVariants.{Nowhere}}, Asks.{position_after}, Facts.{Fact, Holds, facts_of, facts_from}}
+use Rattle.nntp_said.specs.{Facts.{group_of}, Inner.Facts.{FitsAll}}
 use Rattle.nntp_theory.specs.{Classes.{visible_from, position_from, asked_next}, Inner.{Permits.{SomePermits}, Given.{size}, Together.{Together}}}
 use Rattle.nntp_theory.specs.{Inner.Conflict.{FitsThere, AreFound, IsPartOfCore}, Given.{fields_in}, Conflict.{Placed, placed_from, said as said_there}}
 use Rattle.nntp_theory.specs.Conflict.{a_group, the_group, with_group, told, SomeHas, told_at, told_with, below, IsCore, Point, Step, Group, Number, Count}
 use Rattle.nntp_theory.specs.{Conflict.{First, IdOf, PlaceOf, Article, HeadOf, BodyOf, FieldOf, ConflictAt, AreAmong, IsEndOfCore}, Together.{GiveOne}}
-use Rattle.nntp_theory.proofs.{PointsByRank.{each}, Maps.{keys_among}, Given.{GivenPermits.{said, permits}, ConstructedSpool.{made}}}
-use Rattle.nntp_theory.proofs.{Given.{GivenHasFacts.{given_of_facts, given_has}, GivenHolds.{one_given}}, Session.OneMoreAnswer.{facts_grow}}
-use Rattle.nntp_theory.proofs.Session.{NumbersOfShownGroups.{Placed as IsPlaced, Among, session_placed}, GroupOfAnAnswer.{same_selected}}
-use Rattle.nntp_theory.proofs.{Session.FittingFacts.{IsFitting, answer_fitting}, Members.{In, all_at, all_from, all_both, all_front, all_back, in_front}}
-use Rattle.nntp_theory.proofs.Members.{in_back, in_cases, in_map, found_in, to_flat, from_flat, contains_in, in_contains, all_part, all_parts, part_first}
-use Rattle.nntp_theory.proofs.Together.FactsOfASpoolStand.{stand}
+use Rattle.nntp_theory.proofs.{PointsByRank.{each}, Maps.{keys_among}, Given.{GivenPermits.{said, permits}, GivenHasFacts.{given_of_facts, given_has}}}
+use Rattle.nntp_theory.proofs.{Given.GivenHolds.{one_given}, Session.{OneMoreAnswer.{facts_grow}, NumbersOfShownGroups.{Placed as IsPlaced, Among}}}
+use Rattle.nntp_theory.proofs.Session.{NumbersOfShownGroups.{session_placed}, GroupOfAnAnswer.{same_selected}, FittingFacts.{IsFitting, answer_fitting}}
+use Rattle.nntp_theory.proofs.Members.{In, all_at, all_from, all_both, all_front, all_back, in_front, in_back, in_cases, in_map, found_in, to_flat, from_flat}
+use Rattle.nntp_theory.proofs.{Members.{contains_in, in_contains, all_part, all_parts, part_first}, Together.FactsOfASpoolStand.{stand}}
 use Rattle.nntp_wire.specs.{Answer.{Asked, Response}, declared.marks.Marks.{Marks, TheVariants.{Lenient}}}
 use Rattle.nntp_article.specs.Session.{Spool.{Spool, IsSpool, IsGroup, numbers, Name}, Machine.{Visible, visible_after, start, fits}}
 use Rattle.nntp_article.specs.{Article.Fields.{words_in}, declared.session.profile.Profile.{Profile}}
@@ -62,10 +61,9 @@ pub told_together : (profile : Profile) (facts : List Fact) → AreTold profile 
 told_together profile facts t small = (
   λ h. stand profile.limit h.0 facts h.1 h.2,
   λ together.
-      let G = made profile.limit (10 ^ 64) facts in
       let fit = told_fit profile facts t in
-      let has = given_has profile Lenient G facts fit.0 fit.1 together small (given_of_facts profile Lenient facts fit.0 fit.1 small) in
-      (G, has.0, has.1),
+      let has = given_has profile Lenient _ facts fit.0 fit.1 together small (given_of_facts profile Lenient facts fit.0 fit.1 small) in
+      (_, has.0, has.1),
 )
 
 -- what is told by answers
@@ -79,9 +77,9 @@ all_told profile answers fits = record {
 -- what is told at a place is told by an answer, or nothing is
 told_there : (profile : Profile) (answers : List Placed) (k : ℕ) → AllByRecursion (FitsThere profile) answers
     → (some : List Placed) × AllByRecursion (FitsThere profile) some × (told_at profile answers k ≡ flat_map (told profile) some)
-told_there profile [] k fits = ([], tt, refl)
 told_there profile (a ∷ answers) zero fits = (a ∷ [], (fits.0, tt), sym (append-nil (told profile a)))
 told_there profile (a ∷ answers) (suc k) fits = told_there profile answers k fits.1
+told_there profile answers k fits = ([], tt, refl)
 
 -- and so what is told at places
 told_places : (profile : Profile) (answers : List Placed) (places : List ℕ) → AllByRecursion (FitsThere profile) answers
@@ -199,18 +197,7 @@ one_behind limit (suc p) one le = in_map suc p (below limit) (in_below p limit (
 -- that there is such a group says no more of a spool that has it
 pub group_holds : (profile : Profile) (S : Spool) (name : Name) → IsSpool profile.limit S → IsGroup S name → AllByRecursion (Holds S) (a_group profile name)
 group_holds profile S name spool group =
-    let few = keys_among nat_cmp_total (numbers S name) (map suc (below profile.limit)) (λ q i. grind (arith, spool.numbers_in_limit name q i, one_behind)) in
-    grind (arith, len-entries, length-below)
-
--- that there is the group of which facts speak says no more of a spool that has them
-with_holds : (profile : Profile) (S : Spool) (all : List Fact) → IsSpool profile.limit S → AllByRecursion (Holds S) all
-    → (facts : List Fact) → AllByRecursion (IsPlaced profile.marks all) facts → AllByRecursion (Holds S) (the_group profile (group_of facts))
-with_holds profile S all spool holds [] p = tt
-with_holds profile S all spool holds (ThereIs name ∷ facts) p = group_holds profile S name spool (all_at (Holds S) (ThereIs name) all holds p.0.there)
-with_holds profile S all spool holds (Asks name ask ∷ facts) p = group_holds profile S name spool (all_at (Holds S) (ThereIs name) all holds p.0.there)
-with_holds profile S all spool holds (IdAt name n id ∷ facts) p = group_holds profile S name spool (all_at (Holds S) (ThereIs name) all holds p.0.there)
-with_holds profile S all spool holds (OverviewsAre name r os ∷ facts) p = group_holds profile S name spool (all_at (Holds S) (ThereIs name) all holds p.0.there)
-with_holds profile S all spool holds (fact ∷ facts) p = with_holds profile S all spool holds facts p.1
+    grind (arith, keys_among nat_cmp_total (numbers S name) (map suc (below profile.limit)), spool.numbers_in_limit name, one_behind, len-entries, length-below)
 
 -- what is told of a session holds where all that it says does
 told_holds : (profile : Profile) (S : Spool) (all : List Fact) → IsSpool profile.limit S → AllByRecursion (Holds S) all
@@ -219,7 +206,7 @@ told_holds : (profile : Profile) (S : Spool) (all : List Fact) → IsSpool profi
     → AllByRecursion (IsPlaced profile.marks all) (facts_from profile.marks v at ps answers)
     → AllByRecursion (Holds S) (flat_map (told profile) (placed_from v at ps answers))
 told_holds profile S all spool holds v at (q ∷ ps) (a ∷ more) h p =
-    grind (arith, told_holds profile S all spool holds (visible_after v q a) (position_after at q a) ps more, with_holds profile S all spool holds)
+    grind (arith, told_holds profile S all spool holds (visible_after v q a) (position_after at q a) ps more, group_holds, all_at)
 told_holds profile S all spool holds v at ps answers h p = tt
 
 -- a session that fits is permitted exactly if some spool has what is told of it
@@ -262,9 +249,7 @@ contradicts profile ps answers asked response comes fits none (S, spool, holds) 
     let others = flat_map (told_at profile placed) (below (length placed)) in
     let own = told_own profile S (said_there profile.marks bad) (all_front (Holds S) (told profile bad) others holds) in
     let before = session_told profile S start.visible Nowhere ps answers (all_places profile S placed (all_back (Holds S) (told profile bad) others holds)) in
-    let all : AllByRecursion (Holds S) (facts_from profile.marks start.visible Nowhere ps (answers ++ response ∷ [])) =
-    grind (arith, facts_grow profile.marks start.visible Nowhere ps answers asked response comes, all_both) in
-    none (S, spool, permits profile S ps (answers ++ response ∷ []) fits all)
+    none (S, spool, permits profile S ps (answers ++ response ∷ []) fits (grind (arith, facts_grow profile.marks start.visible Nowhere ps answers asked response comes, all_both)))
 
 -- ---- what is found is in each conflict
 

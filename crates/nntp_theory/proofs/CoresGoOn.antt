@@ -36,9 +36,7 @@ module _ (profile : Profile) (bad : Placed) (answers more : List Placed) where
   core_still places core = record {
     there = all_from (λ k. k < length (answers ++ more)) places (λ k i. longer k (all_at (λ k. k < length answers) k places core.there i));
     conflict = λ h. core.conflict (subst (SomeHas profile) (told_still places core.there) h);
-    needed = λ front back k e.
-        let all = subst (AreThere answers) e core.there in
-        still (front ++ back) (grind (arith, all, all_both, all_front, all_back)) (core.needed front back k e);
+    needed = λ front back k e. still (front ++ back) (grind (arith, core.there, all_both, all_front, all_back)) (core.needed front back k e);
   }
 
   module _ (bound : ℕ) (places : List ℕ) (some : 0 < length places) (end : IsEndOfCore profile bad answers bound places) where
@@ -58,14 +56,11 @@ module _ (profile : Profile) (bad : Placed) (answers more : List Placed) where
 
     end_still : IsEndOfCore profile bad (answers ++ more) bound places
     end_still = record {
-      there = all_from (λ k. (bound ≤ k) × (k < length (answers ++ more))) places
-          (λ k i. let here = all_at (λ k. (bound ≤ k) × (k < length answers)) k places end.there i in (here.0, longer k here.1));
+      there = all_from (λ k. (bound ≤ k) × (k < length (answers ++ more))) places (λ k i. grind (arith, all_at (λ k. (bound ≤ k) × (k < length answers)) k places end.there i, longer k));
       conflict = λ h. end.conflict (subst (SomeHas profile) (told_still (below bound ++ places) all_there) h);
       stand = still places those end.stand;
-      in_each = λ these among none.
-          let there = all_from (λ k. k < length answers) these (λ k i. all_at (λ k. k < length answers) k (below bound ++ places) all_there
-          (in_contains k (below bound ++ places) (among k (contains_in k these i)))) in
-          end.in_each these among (λ h. none (still these there h));
+      in_each = λ these among none. end.in_each these among (λ h. none (still these (all_from (λ k. k < length answers) these
+          (λ k i. grind (arith, all_at (λ k. k < length answers) k (below bound ++ places) all_there, in_contains, among k, contains_in k these i))) h));
     }
 
   pub core_goes_on : (core : Core) → HasLast core → IsFound profile bad answers core → IsFound profile bad (answers ++ more) core

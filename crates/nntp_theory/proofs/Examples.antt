@@ -1,17 +1,13 @@
 -- Small sessions: what they say, and which numbers they show, deny and need.
-use Rattle.nntp_wire.specs.declared.{marks.Marks.TheVariants.{Lenient}, water_marks.WaterMarks.{WaterMarks}, command.What.TheVariants.{Head, Stat}}
+use Rattle.nntp_wire.specs.declared.{marks.Marks.TheVariants.{Lenient}, water_marks.WaterMarks.{WaterMarks}, command.What.TheVariants.{Stat}}
 use Rattle.nntp_wire.specs.{Answer.{Response, greeting, to, group_is, numbers_are, sends, plain}, Command.{Request, by_id, by_number, current, group}}
 use Rattle.nntp_wire.specs.Command.{list_group, from_one, next, last, retrieve}
-use Rattle.std.proofs.{Common.{◌≡◌, ℕ, ◌+◌, ◌<◌, ◌≤◌, true, false, IsTrue, List, [], ◌∷◌, ◌++◌, None, Some, map, refl, ap, arith}, lemmas.Bool.{le-ltb}}
-use Rattle.std.{proofs.lemmas.{Bool.{or_cases}, Fmt.{decimal_digit}}, specs.Prelude.{codes}}
+use Rattle.std.proofs.{Common.{◌≡◌, ℕ, ◌+◌, ◌<◌, true, false, List, [], ◌∷◌, ◌++◌, None, Some, map, refl, ap, arith}, lemmas.Bool.{le-ltb, or_cases}}
+use Rattle.std.{proofs.lemmas.Fmt.{decimal_digit}, specs.Prelude.{codes}}
 use Rattle.nntp_said.specs.{Asks.{Ask, Estimates, StepsUp, StepsDown, StandsAt, IsTop, IsBottom, Has, Lacks}, declared.position.Position.TheVariants.{First}}
 use Rattle.nntp_said.specs.{declared.position.Position.TheVariants.{Known}, Facts.{Fact, ThereIs, Asks, IdAt}}
 use Rattle.nntp_theory.specs.{Inner.Together.{AsksStand, Together}, Given.{asks_of, is_shown, is_denied, demand, IsOneMore, AreInvented, invented}}
-use Rattle.nntp_theory.specs.{Given.{facts_of_session, is_mentioned, id_shown, first_given, head_in, is_known}, declared.demand.Demand.TheVariants.{NotEmpty}}
-use Rattle.nntp_theory.specs.declared.demand.Demand.TheVariants.{SecondIs}
-
-abbrev g : List ℕ
-g = codes "g"
+use Rattle.nntp_theory.specs.{Given.{facts_of_session, is_mentioned, id_shown}, declared.demand.Demand.TheVariants.{NotEmpty, SecondIs}}
 
 -- a session after its greeting
 abbrev session : List Request → List Response → List Fact
@@ -66,10 +62,6 @@ absent = session (retrieve Stat (by_id (codes "<w0@invented.invalid>")) ∷ grou
 abbrev repeated : List Fact
 repeated = session (group (codes "g") ∷ stat 1 ∷ stat 2 ∷ []) (selected 2 1 2 ∷ found 1 (codes "<a@b>") ∷ found 2 (codes "<a@b>") ∷ [])
 
--- a head that was sent
-abbrev headed : List Fact
-headed = session (retrieve Head (by_id (codes "<a@b>")) ∷ []) (sends (record { code = 221; number = 0; id = codes "<a@b>"; block = Some (codes "Subject: one" ∷ []) }) ∷ [])
-
 -- the last number
 abbrev at_limit : List Ask
 at_limit = asks (group (codes "g") ∷ stat 2147483647 ∷ next ∷ []) (selected 1 2147483647 2147483647 ∷ found 2147483647 (codes "<m@x>") ∷ plain 421 ∷ [])
@@ -83,8 +75,6 @@ returned = asks (group (codes "g") ∷ next ∷ last ∷ []) (selected 3 1 5 ∷
 record Computed : Type 0 where
   stepped_says : stepped ≡ ThereIs (codes "g") ∷ Asks (codes "g") (Estimates Lenient (marks 3 1 5)) ∷ Asks (codes "g") (StepsUp First 4) ∷ IdAt (codes "g") 4 (codes "<b@x>") ∷ []
   stepped_asks : asks_of (codes "g") stepped ≡ Estimates Lenient (marks 3 1 5) ∷ StepsUp First 4 ∷ Has 4 ∷ []
-  four_has_its_id : id_shown stepped (codes "g") 4 ≡ Some (codes "<b@x>")
-  one_has_none : id_shown stepped (codes "g") 1 ≡ None
   -- so one more is needed below 4
   stepped_demands : demand (asks_of (codes "g") stepped) ≡ SecondIs 4
   two_is_denied : is_denied denied 2 ≡ true
@@ -103,7 +93,6 @@ record Computed : Type 0 where
   empty_range_denies_none : is_denied none_listed 3 ≡ false
   absent_is_mentioned : is_mentioned absent (codes "<w0@invented.invalid>") ≡ true
   same_id : id_shown repeated (codes "g") 1 ≡ id_shown repeated (codes "g") 2
-  head_is_sent : first_given (head_in (codes "<a@b>")) headed ≡ Some (codes "Subject: one" ∷ [])
   at_limit_asks : at_limit ≡ Estimates Lenient (marks 1 2147483647 2147483647) ∷ Has 2147483647 ∷ IsTop (Known 2147483647) ∷ []
   returned_asks : returned ≡ Estimates Lenient (marks 3 1 5) ∷ StepsUp First 4 ∷ Has 4 ∷ StepsDown (Known 4) 2 ∷ Has 2 ∷ []
   step_is_a_gap : is_denied returned 3 ≡ true
@@ -112,50 +101,34 @@ record Computed : Type 0 where
 computed : Computed
 computed = assumption
 
--- ---- NEXT leads from the first number, which isn't seen, to 4
-
--- no number below 4 is shown, and none is known, as the marks are lenient
-four_is_least : (n : ℕ) → IsTrue (is_known (asks_of (codes "g") stepped) n) → 4 ≤ n
-four_is_least n t = grind (arith, or_cases)
-
--- what is needed more is 1
-one_is_given : IsOneMore (asks_of (codes "g") stepped) 1
-one_is_given = record { needed = λ n t. le-ltb n 4 (four_is_least n t); wanted = refl; first = (omega arith, refl, λ m some low. absurd (omega arith)) }
-
--- ---- then 1 and 2 are denied
-
-three_is_given : IsOneMore denied 3
-three_is_given = record { needed = λ n t. le-ltb n 4 (grind (arith, or_cases)); wanted = refl; first = (omega arith, refl, λ m some low. grind arith) }
-
--- ---- a first number that is seen, and none below it
-
-seen_needs_none : (n : ℕ) → IsOneMore seen n → ⊥
-seen_needs_none n x = let w = x.wanted in cc
-
--- ---- one number that is denied, and then one below it
-
--- so no number is left, and what is asked doesn't stand together
-emptied_falls : AsksStand emptied → ⊥
-emptied_falls h = grind arith
-
--- before LAST was answered no number was needed: the group has none
-unasked_needs_none : (n : ℕ) → IsOneMore (asks (group (codes "g") ∷ stat 5 ∷ []) (selected 1 5 5 ∷ plain 423 ∷ [])) n → ⊥
-unasked_needs_none n x = let w = x.wanted in cc
-
--- ---- ids
+-- ---- which number is given more, and what falls
 
 -- with one digit
 digit_invented : (n : ℕ) → n < 10 → invented n ≡ codes "<w" ++ ((48 + n) ∷ []) ++ codes "@invented.invalid>"
 digit_invented n small = ap (λ digits. codes "<w" ++ digits ++ codes "@invented.invalid>") (decimal_digit n small)
 
-one_is_invented : AreInvented absent 0 (codes "<w1@invented.invalid>" ∷ [])
-one_is_invented = grind (arith, digit_invented)
+record Given : Type 0 where
+  -- as no number below 4 is known, the marks being lenient
+  stepped_is_given_1 : IsOneMore (asks_of (codes "g") stepped) 1
+  denied_is_given_3 : IsOneMore denied 3
+  seen_needs_none : (n : ℕ) → IsOneMore seen n → ⊥
+  -- no number is left
+  emptied_falls : AsksStand emptied → ⊥
+  -- before LAST was answered no number was needed: the group has none
+  unasked_needs_none : (n : ℕ) → IsOneMore (asks (group (codes "g") ∷ stat 5 ∷ []) (selected 1 5 5 ∷ plain 423 ∷ [])) n → ⊥
+  one_is_invented : AreInvented absent 0 (codes "<w1@invented.invalid>" ∷ [])
+  repeated_falls : Together repeated → ⊥
+  -- 2 is shown below 4
+  returned_needs_none : (n : ℕ) → IsOneMore returned n → ⊥
 
-repeated_falls : Together repeated → ⊥
-repeated_falls h = grind (arith, (h.ids_once (codes "g") (codes "<a@b>")).1.1.1.1.1.0)
-
--- ---- NEXT from the unseen first number, and LAST back to it
-
--- 2 is shown below 4, so no number more is needed
-returned_needs_none : (n : ℕ) → IsOneMore returned n → ⊥
-returned_needs_none n x = let w = x.needed 2 refl in cc
+given : Given
+given = record {
+  stepped_is_given_1 = record { needed = λ n t. le-ltb n 4 (grind (arith, or_cases)); wanted = refl; first = (omega arith, refl, λ m some low. absurd (omega arith)) };
+  denied_is_given_3 = record { needed = λ n t. le-ltb n 4 (grind (arith, or_cases)); wanted = refl; first = (omega arith, refl, λ m some low. grind arith) };
+  seen_needs_none = λ n x. (let w = x.wanted in cc);
+  emptied_falls = λ h. grind arith;
+  unasked_needs_none = λ n x. (let w = x.wanted in cc);
+  one_is_invented = grind (arith, digit_invented);
+  repeated_falls = λ h. grind (arith, (h.ids_once (codes "g") (codes "<a@b>")).1.1.1.1.1.0);
+  returned_needs_none = λ n x. (let w = x.needed 2 refl in cc);
+}

@@ -4,7 +4,6 @@ pub mod GivenHasFacts
 pub mod GivenHolds
 pub mod GivenIsSpool
 pub mod GivenPermits
-pub mod GivenSpoolExists
 pub mod OneGivenSpool
 pub mod SessionsByFacts
 pub mod SessionsGoOn

@@ -1,10 +1,7 @@
-pub mod AskedOfAGroup
 pub mod AsksDecided
 pub mod CountOfGivenNumbers
 pub mod FirstFreeNumber
 pub mod GivenNumbersMeet
 pub mod JoinedDemands
-pub mod LeastNumber
 pub mod MetNumbersStand
 pub mod OneMoreNumber
-pub mod StrictMarks

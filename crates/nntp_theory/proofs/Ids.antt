@@ -1,6 +1,5 @@
 pub mod InventedIds
 pub mod NumbersOfInventedIds
 pub mod OnePlaceOfAnId
-pub mod MadeHead
 pub mod SizeOfASession
 pub mod SmallGivenSpool

@@ -126,6 +126,5 @@ module _ {K X : Type 0} {R : K → K → Ordering} (o : IsTotalOrder R) (same : 
   -- maps that have the same keys list them alike
   pub same_keys : (m n : FinMap R X) → ((q : K) → IsSome (get m q) → IsSome (get n q)) → ((q : K) → IsSome (get n q) → IsSome (get m q)) → keys m ≡ keys n
   same_keys m n f g =
-      let found : (q : K) → find R q (bare (entries m)) ≡ find R q (bare (entries n)) = λ q. grind (arith, find_bare, get-entries, f q, g q) in
-      let one = same_entries R o same (bare (entries m)) (bare (entries n)) (sorted_bare m) (sorted_bare n) found in
+      let one = same_entries R o same (bare (entries m)) (bare (entries n)) (sorted_bare m) (sorted_bare n) (λ q. grind (arith, find_bare, get-entries, f q, g q)) in
       sym (keys_of-map_values (λ x. []) (entries m)) ∙ ap (map (λ e. e.0)) one ∙ keys_of-map_values (λ x. []) (entries n)

@@ -109,11 +109,8 @@ first_found {A} f (x ∷ xs) y e = grind (arith, first_found f xs y)
 -- where one of them gives something, the first gives something
 pub first_there : {A B : Type 0} (f : B → Option A) (xs : List B) (x : B) (y : A) → In x xs → f x ≡ Some y → (z : A) × (first_given f xs ≡ Some z)
 first_there f [] x y i e = absurd i
-first_there {A} f (w ∷ xs) x y i e = by (f w) refl (first_there f xs x y)
-  where
-    by : (o : Option A) → f w ≡ o → (In x xs → f x ≡ Some y → (z : A) × (first_given f xs ≡ Some z)) → (z : A) × (option_or o (first_given f xs) ≡ Some z)
-    by (Some z) is rest = (z, refl)
-    by None is rest = grind arith
+first_there {A} f (w ∷ xs) x y i e =
+    elim (f w) as (λ o. f w ≡ o → (z : A) × (option_or o (first_given f xs) ≡ Some z)) [ Some z ↦ λ is. (z, refl) | None ↦ λ is. grind (arith, first_there f xs x y) ] refl
 
 -- where nothing is given, no element gives something
 pub none_there : {A B : Type 0} (f : B → Option A) (xs : List B) (x : B) → In x xs → first_given f xs ≡ None → f x ≡ None

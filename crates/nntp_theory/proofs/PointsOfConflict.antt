@@ -126,13 +126,9 @@ module _ (facts : List Fact) where
   each_given : {A K : Type 0} (keys : Fact → List K) (f : K → Fact → Option A) → ((x y : A) → Dec (x ≡ y))
       → ((k : K) (fact : Fact) (x : A) → f k fact ≡ Some x → In k (keys fact))
       → (C : Type 0) → ((k : K) → (GiveOne (f k) facts → ⊥) → C) → C ⊎ ((k : K) → GiveOne (f k) facts)
-  each_given {A} {K} keys f d keyed C point = each_key (flat_map keys facts) C (λ k. GiveOne (f k) facts) own
-      (λ k.
-      let each_first = dec_all (IsFirst (f k)) (λ fact. dec_if (f k fact) _ (dec_some d (first_given (f k) facts))) facts in
-      elim each_first [ inl one ↦ inr one | inr out ↦ inl (point k out) ])
-    where
-      own : (k : K) → In k (flat_map keys facts) ⊎ GiveOne (f k) facts
-      own k = each (In k (flat_map keys facts)) (IsFirst (f k)) facts (λ fact i. grind (arith, to_flat keys fact k facts i, keyed k fact))
+  each_given {A} {K} keys f d keyed C point = each_key (flat_map keys facts) C (λ k. GiveOne (f k) facts)
+      (λ k. each (In k (flat_map keys facts)) (IsFirst (f k)) facts (λ fact i. grind (arith, to_flat keys fact k facts i, keyed k fact)))
+      (λ k. elim (dec_all (IsFirst (f k)) (λ fact. dec_if (f k fact) _ (dec_some d (first_given (f k) facts))) facts) [ inl one ↦ inr one | inr out ↦ inl (point k out) ])
 
   -- ---- groups
 
@@ -162,9 +158,8 @@ module _ (facts : List Fact) where
         elim (cases_Bool (list_any (denies_group name) facts)) [ inl t ↦ inl (Group name, refl, (shown, t)) | inr f ↦ inr f ])
 
     known_numbers : AtRank 2 ⊎ ((name : Name) (n : ℕ) → IsTrue (is_known (asks_of name facts) n) → IsFalse (is_denied (asks_of name facts) n))
-    known_numbers = each_asked (AtRank 2) (λ asks. (n : ℕ) → IsTrue (is_known asks n) → IsFalse (is_denied asks n)) (λ n k. refl) (λ name shown.
-        elim (denied_or_not (asks_of name facts) (given name shown).0 (given name shown).1)
-        [ inl c ↦ inl (Number name c.0, refl, (c.1, c.2)) | inr all ↦ inr all ])
+    known_numbers = each_asked (AtRank 2) (λ asks. (n : ℕ) → IsTrue (is_known asks n) → IsFalse (is_denied asks n)) (λ n k. refl)
+        (λ name shown. elim (denied_or_not (asks_of name facts) (given name shown).0 (given name shown).1) [ inl c ↦ inl (Number name c.0, refl, (c.1, c.2)) | inr all ↦ inr all ])
 
     counts : AtRank 3 ⊎ ((name : Name) (N : Numbers) → HasGivenNumbers (asks_of name facts) N → AllByRecursion (IsFewFor N) (asks_of name facts))
     counts = each_asked (AtRank 3) (λ asks. (N : Numbers) → HasGivenNumbers asks N → AllByRecursion (IsFewFor N) asks) (λ N g. tt) (λ name shown.
@@ -185,10 +180,9 @@ module _ (facts : List Fact) where
         each_key (flat_map article_keys facts) (AtRank 7) (λ id. IsTrue (list_any (shows_article id) facts) → IsFalse (list_any (denies_article id) facts))
         (λ id. elim (cases_Bool (list_any (shows_article id) facts)) [
           | inl t ↦ (let f = found_in (shows_article id) facts t in inl (to_flat article_keys f.0 id facts f.1 (article_keyed id f.0 f.2)))
-          | inr f ↦ inr (λ t. absurd (true≢false (sym t ∙ f)))
+          | inr f ↦ inr (λ t. grind (arith, true≢false))
         ])
-        (λ id. elim (both_or_apart (list_any (shows_article id) facts) (list_any (denies_article id) facts))
-        [ inl h ↦ inl (Article id, refl, h) | inr free ↦ inr free ])
+        (λ id. elim (both_or_apart (list_any (shows_article id) facts) (list_any (denies_article id) facts)) [ inl h ↦ inl (Article id, refl, h) | inr free ↦ inr free ])
 
     heads : AtRank 8 ⊎ ((id : Id) → GiveOne (head_in id) facts)
     heads = each_given article_keys head_in dec_lists (λ id fact lines e. grind (arith, same_or_not)) (AtRank 8) (λ id c. (HeadOf id, refl, c))
@@ -245,19 +239,10 @@ module _ (facts : List Fact) where
 -- facts that fit and are placed stand together, or conflict at a first point
 pub stand_or_conflict : (profile : Profile) (how : Marks) (facts : List Fact) → AllByRecursion (IsFitting profile) facts → AllByRecursion (IsPlaced how facts) facts → AllByRecursion IsWellFormed facts
     → ((point : Point) × IsFirstPoint facts point) ⊎ Together facts
-stand_or_conflict profile how facts fitting placed formed = first_or_none facts how placed given formed
-    (all_from AgreesWithItself facts (λ fact i. agrees fact (all_at (IsFitting profile) fact facts fitting i)))
-  where
-    agrees : (fact : Fact) → IsFitting profile fact → AgreesWithItself fact
-    agrees (FieldsAre os) f = f
-    agrees (OverviewsAre name r os) f = f.1
-    agrees fact f = tt
-
-    given : (name : Name) → IsTrue (is_shown_group facts name) → (N : Numbers) × HasGivenNumbers (asks_of name facts) N
-    given name shown = (
-      numbers (made profile.limit (10 ^ 64) facts) name,
-      made_given profile.limit (10 ^ 64) facts name (λ e x. free_in_limit profile facts how fitting placed name shown e x.first.1) ((made_group profile.limit (10 ^ 64) facts name).1 shown),
-    )
+stand_or_conflict profile how facts fitting placed formed = first_or_none facts how placed (λ name shown. (
+  numbers (made profile.limit (10 ^ 64) facts) name,
+  made_given profile.limit (10 ^ 64) facts name (λ e x. free_in_limit profile facts how fitting placed name shown e x.first.1) ((made_group profile.limit (10 ^ 64) facts name).1 shown),
+)) formed (grind (arith, all_from, all_at))
 
 -- what answers tell, each fitting where it stands, conflicts at a first point, if no spool has it
 pub point_of_conflict : (profile : Profile) (bad : Placed) (answers : List Placed) (places : List ℕ) → FitsThere profile bad → AllByRecursion (FitsThere profile) answers

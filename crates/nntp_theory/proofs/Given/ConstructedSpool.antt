@@ -1,9 +1,10 @@
 -- A construction of the spool that is given.
 use Rattle.std.proofs.Common.{◌≡◌, ℕ, ◌+◌, ◌<◌, ◌≤◌, ◌↔◌, ◌⊎◌, true, cond, eqb, IsTrue, List, [], ◌∷◌, ◌++◌, map, length, Option, None, Some, is_some, IsSome}
-use Rattle.std.proofs.{Common.{inl, inr, refl, sym, ap, subst, ◌∙◌, arith, length-append}, lemmas.{Bool.{cases_lt}, Map.Steps.{le-length_from_below}}}
-use Rattle.std.specs.{Prelude.{unwrap_or, option_to_list}, List.{list_any, flat_map}, Ordering.{nat_cmp}, Cmp.{nat_cmp_total, IsTotalOrder}}
-use Rattle.std.specs.{Cmp.Lexicographic.{slice_cmp, same_text, nat_list_cmp_total}, FinMap.{FinMap, get, empty, keys, entries, from_sorted}}
-use Rattle.std.specs.{FinMap.{entries-from_sorted, nat_cmp-IsAntisymmetric, slice_cmp-IsAntisymmetric, IsAntisymmetric}, declared.cmp.Ordering.{Ordering}}
+use Rattle.std.proofs.{Common.{inl, inr, refl, sym, ap, subst, ◌∙◌, arith, length-append}, lemmas.Bool.{cases_lt, true≢false, false_from_ne_true}}
+use Rattle.std.{proofs.lemmas.Map.Steps.{le-length_from_below}, specs.{Prelude.{unwrap_or, option_to_list}, List.{list_any, flat_map}, Ordering.{nat_cmp}}}
+use Rattle.std.specs.{Cmp.{nat_cmp_total, IsTotalOrder, Lexicographic.{slice_cmp, same_text, nat_list_cmp_total}}, FinMap.{FinMap, get, empty, keys, entries}}
+use Rattle.std.specs.FinMap.{from_sorted, entries-from_sorted, nat_cmp-IsAntisymmetric, slice_cmp-IsAntisymmetric, IsAntisymmetric}
+use Rattle.std.specs.declared.cmp.Ordering.{Ordering}
 use Rattle.nntp_article.specs.{Session.{Spool.{Spool, Text, Numbers, IsNumber, IsGroup, numbers, Name}, Machine.{is_same}}, Article.Parts.{Id}}
 use Rattle.nntp_article.specs.Article.Fields.{made_head}
 use Rattle.nntp_said.specs.Facts.{Fact, TextIs, FieldsAre}
@@ -13,8 +14,8 @@ use Rattle.nntp_theory.specs.{Given.{body_in, is_mentioned, invented, unshown_in
 use Rattle.nntp_theory.proofs.Members.{In, in_front, in_back, in_cases, in_map, from_map, to_flat, from_flat, any_in, found_in, any_back}
 use Rattle.nntp_theory.proofs.Ids.{SmallGivenSpool.{names_of, shown_name, name_shown}, InventedIds.{invented_number}, NumbersOfInventedIds.{mentioned, counted}}
 use Rattle.nntp_theory.proofs.{Together.FactsOfASpoolStand.{same_itself}, Given.GivenHolds.{group_of_number}, GivenNumbers.FirstFreeNumber.{free_is, free_none}}
-use Rattle.nntp_theory.proofs.{GivenNumbers.OneMoreNumber.{known_list, in_known_list, from_known_list, more, more_is, more_found}, Maps.{sorted_as, get_in}}
-use Rattle.nntp_theory.proofs.Maps.{in_get, key_of, of_key, made_of, get-made_of, in-made_of, key_map, in_key_map, of_key_map}
+use Rattle.nntp_theory.proofs.{GivenNumbers.OneMoreNumber.{known_list, in_known_list, from_known_list, more, more_found}, Maps.{sorted_as, get_in, in_get}}
+use Rattle.nntp_theory.proofs.Maps.{key_of, of_key, made_of, get-made_of, in-made_of, key_map, in_key_map, of_key_map}
 
 -- only equal names tie
 pub names_apart : IsAntisymmetric (slice_cmp nat_cmp)
@@ -122,8 +123,7 @@ module _ (limit : ℕ) (B : ℕ) (facts : List Fact) where
   pub made_group : (name : Name) → IsGroup made name ↔ IsTrue (is_shown_group facts name)
   unfolding made
   made_group name =
-      let all_keys = ap (map (λ e. e.0)) entries_groups ∙ keys_groups 0 (keys name_map) in
-      let listed = key_listed nat_list_cmp_total names_apart made_groups (names_of facts) all_keys name in
+      let listed = key_listed nat_list_cmp_total names_apart made_groups (names_of facts) (ap (map (λ e. e.0)) entries_groups ∙ keys_groups 0 (keys name_map)) name in
       (λ i. name_shown facts name (listed.0 i), λ t. listed.1 (shown_name facts name t))
 
   -- each group was made from some number on
@@ -147,7 +147,7 @@ module _ (limit : ℕ) (B : ℕ) (facts : List Fact) where
       let listed = key_listed nat_cmp_total nat_cmp-IsAntisymmetric (group_from name g.0) (numbers_of name) (keys_group name g.0) in
       subst (HasGivenNumbers asks) (sym g.1) (λ n.
       let there = in_cases n (option_to_list (more limit asks)) (known_list asks) in
-      grind (arith, listed n, there, in_front, in_back, more_is limit asks n, from_known_list, in_known_list, more_found limit asks n, low n))
+      grind (arith, listed n, there, in_front, in_back, false_from_ne_true, true≢false, any_in, known_list, free_is, from_known_list, in_known_list, more_found limit asks n, low n))
 
   -- ---- ids
 
@@ -169,10 +169,8 @@ module _ (limit : ℕ) (B : ℕ) (facts : List Fact) where
   -- one of the ids that are sent
   sent_if : (id : Id) (fact : Fact) → In id (sent_in fact) ↔ (gives_article id fact ≡ true)
   sent_if id (FieldsAre os) = (
-    λ h. (let f = from_map (λ (o : OverviewValue). o.id) id os h in
-        any_in (λ o. is_same o.id id) f.0 os f.1 (subst (λ other. is_same f.0.id other ≡ true) f.2 (same_itself f.0.id))),
-    λ t. (let f = found_in (λ o. is_same o.id id) os t in
-        subst (λ other. In other (map (λ (o : OverviewValue). o.id) os)) (same_text f.0.id id (sym f.2)) (in_map (λ (o : OverviewValue). o.id) f.0 os f.1)),
+    λ h. (let f = from_map (λ (o : OverviewValue). o.id) id os h in grind (arith, f, any_in (λ o. is_same o.id id) f.0 os, same_itself)),
+    λ t. (let f = found_in (λ o. is_same o.id id) os t in grind (arith, f, same_text f.0.id id, in_map (λ (o : OverviewValue). o.id) f.0 os)),
   )
   sent_if id fact = (λ h. grind (arith, same_itself), λ t. grind (arith, same_text))
 
@@ -180,28 +178,23 @@ module _ (limit : ℕ) (B : ℕ) (facts : List Fact) where
   id_made : (id : Id) → In id made_ids ↔ (IsUsed made id ⊎ IsTrue (is_sent facts id))
   unfolding made
   id_made id = (
-    λ i. elim (in_cases id used (flat_map sent_in facts) i) [
+    λ i. elim (in_cases id (flat_map ids_of (entries made_groups)) (flat_map sent_in facts) i) [
       | inl j ↦
           let g = from_flat ids_of id (entries made_groups) j in
           let e = from_map (λ (e : ℕ × Id). e.1) id (entries g.0.1) g.2 in
           let at = in_get nat_list_cmp_total names_apart made_groups g.0.0 g.0.1 g.1 in
-          let there : get g.0.1 e.0.0 ≡ Some id = in_get nat_cmp_total nat_cmp-IsAntisymmetric g.0.1 e.0.0 id (subst (λ id. In (e.0.0, id) (entries g.0.1)) e.2 e.1) in
-          inl (g.0.0, e.0.0, ap (λ o. get (unwrap_or o empty) e.0.0) at ∙ there)
+          inl (g.0.0, e.0.0, grind (arith, at, e, in_get nat_cmp_total nat_cmp-IsAntisymmetric g.0.1 e.0.0 e.0.1))
       | inr j ↦ (let f = from_flat sent_in id facts j in inr (any_in (gives_article id) f.0 facts f.1 ((sent_if id f.0).0 f.2)))
     ],
     λ h. elim h [
       | inl u ↦
           let g = group_of_number made u.0 u.1 (ap is_some u.2) in
-          let e : get g.0 u.1 ≡ Some id = subst (λ N. get N u.1 ≡ Some id) g.2 u.2 in
-          in_front id used (flat_map sent_in facts) (to_flat ids_of (u.0, g.0) id (entries made_groups) (get_in nat_list_cmp_total names_apart made_groups u.0 g.0 g.1)
-          (in_map (λ (e : ℕ × Id). e.1) (u.1, id) (entries g.0) (get_in nat_cmp_total nat_cmp-IsAntisymmetric g.0 u.1 id e)))
+          let there = to_flat ids_of (u.0, g.0) id (entries made_groups) (get_in nat_list_cmp_total names_apart made_groups u.0 g.0 g.1) in
+          grind (arith, in_front, there, g, in_map (λ (e : ℕ × Id). e.1) (u.1, id) (entries g.0), get_in nat_cmp_total nat_cmp-IsAntisymmetric g.0 u.1 id)
       | inr t ↦ (let f = found_in (gives_article id) facts t in
-          in_back id used (flat_map sent_in facts) (to_flat sent_in f.0 id facts f.1 ((sent_if id f.0).1 f.2)))
+          in_back id (flat_map ids_of (entries made_groups)) (flat_map sent_in facts) (to_flat sent_in f.0 id facts f.1 ((sent_if id f.0).1 f.2)))
     ],
   )
-    where
-      used : List Id
-      used = flat_map ids_of (entries made_groups)
 
   -- those ids have articles
   pub made_article : (id : Id) → IsSome (get made.articles id) ↔ (IsUsed made id ⊎ IsTrue (is_sent facts id))

@@ -1,11 +1,11 @@
 -- Some spool permits a session, or exactly one answer is the first that none does.
 use Rattle.nntp_wire.specs.{declared.marks.Marks.{Marks}, Answer.{Asked, Response}}
-use Rattle.std.proofs.Common.{◌≡◌, ℕ, zero, suc, ◌+◌, ◌<◌, ◌≤◌, ◌^◌, ◌⊎◌, List, [], ◌∷◌, ◌++◌, length, take, inl, inr, sym, subst, arith}
-use Rattle.std.{proofs.{Math.Seq.{take-length}, lemmas.Bool.{true≢false}}, specs.FinMap.{empty, get-empty}}
+use Rattle.std.proofs.{Common.{◌≡◌, ℕ, zero, suc, ◌+◌, ◌<◌, ◌≤◌, ◌^◌, ◌⊎◌, List, [], ◌∷◌, ◌++◌, length, take, inl, sym, subst, arith}, Math.Seq.{take-length}}
+use Rattle.std.{proofs.lemmas.Bool.{true≢false}, specs.FinMap.{empty, get-empty}}
 use Rattle.nntp_article.specs.{Session.{Spool.{Spool}, Machine.{State, Visible, Run, start, visible_after}}, declared.session.profile.Profile.{Profile}}
 use Rattle.nntp_said.specs.{Asks.{position_after}, declared.position.Position.{Position, TheVariants.{Nowhere}}, Facts.{Fact, facts_from}}
 use Rattle.nntp_theory.specs.{Given.{facts_of_session}, Inner.{Given.{size}, Permits.{SomePermits, IsFirstUnpermitted}}}
-use Rattle.nntp_theory.proofs.Given.GivenSpoolExists.{some_or_none}
+use Rattle.nntp_theory.proofs.Given.SessionsByFacts.{some_or_none}
 
 -- ---- fewer answers
 
@@ -49,13 +49,7 @@ EndsAt Q m k = (k < m) × Q k × (Q (k + 1) → ⊥)
 -- what holds of 0 holds of m, or ends below
 pub holds_or_ends : (Q : ℕ → Type 0) (m : ℕ) → Q 0 → ((n : ℕ) → n ≤ m → Q n ⊎ (Q n → ⊥)) → Q m ⊎ ((k : ℕ) × EndsAt Q m k)
 holds_or_ends Q zero base decided = inl base
-holds_or_ends Q (suc m) base decided = elim (holds_or_ends Q m base (λ n le. decided n (omega arith))) [
-  | inr (k, (less, good, none)) ↦ inr (k, (omega arith, good, none))
-  | inl good ↦ elim (decided (suc m) (omega arith)) [
-    | inl more ↦ inl more
-    | inr none ↦ (let next : suc m ≡ m + 1 = omega arith in inr (m, (omega arith, good, subst (λ n. Q n → ⊥) next none)))
-  ]
-]
+holds_or_ends Q (suc m) base decided = grind (arith, holds_or_ends Q m base (λ n le. decided n (omega arith)), decided (suc m) (omega arith))
 
 -- some spool permits the session, or an answer is bad
 pub permitted_or_bad : (profile : Profile) (ps : List Asked) (answers : List Response)
@@ -64,8 +58,7 @@ pub permitted_or_bad : (profile : Profile) (ps : List Asked) (answers : List Res
 permitted_or_bad profile ps answers small = subst
     (λ all. SomePermits profile ps all ⊎ ((k : ℕ) × IsFirstUnpermitted profile ps answers k)) (take-length answers)
     (holds_or_ends (λ n. SomePermits profile ps (take n answers)) (length answers) (none_permitted profile ps answers) (λ n le.
-    elim (some_or_none profile ps (take n answers) (omega (arith, size_fewer profile.marks start.visible Nowhere ps answers n)))
-    [ inl some ↦ inl some | inr none ↦ inr (λ h. none h.0 h.1 h.2) ]))
+    some_or_none profile ps (take n answers) (omega (arith, size_fewer profile.marks start.visible Nowhere ps answers n))))
 
 -- and never both
 pub never_both : (profile : Profile) (ps : List Asked) (answers : List Response) (k : ℕ) → SomePermits profile ps answers → IsFirstUnpermitted profile ps answers k → ⊥

@@ -6,9 +6,9 @@ use Rattle.nntp_said.specs.{Asks.{Meets}, Facts.{Fact, Holds}}
 use Rattle.nntp_theory.specs.{Given.{IsGiven, unshown_ids, asks_of, HasAtLeast}, Inner.{Given.{size}, Together.{Together}}}
 use Rattle.nntp_theory.proofs.Session.{FittingFacts.{IsFitting}, NumbersOfShownGroups.{Placed}, NumbersWithinLimit.{free_in_limit}}
 use Rattle.nntp_theory.proofs.Ids.{SmallGivenSpool.{few_enough, unshown_ids_few}, InventedIds.{number-invented, invented_is_id}}
-use Rattle.nntp_theory.proofs.{Together.FactsOfASpoolStand.{group_in_S, id_in_S, head_in_S, fields_in_S, body_in_S}, Given.ConstructedSpool.{made, made_group}}
-use Rattle.nntp_theory.proofs.Given.{ConstructedSpool.{made_given, made_is_given}, GivenHolds.{Setting, all_hold}, GivenIsSpool.{given_is_spool}}
-use Rattle.nntp_theory.proofs.GivenNumbers.{MetNumbersStand.{shown_are_numbers, as_few}, AskedOfAGroup.{met_by_facts}}
+use Rattle.nntp_theory.proofs.Together.FactsOfASpoolStand.{group_in_S, id_in_S, head_in_S, fields_in_S, body_in_S, met_by_facts}
+use Rattle.nntp_theory.proofs.Given.{ConstructedSpool.{made, made_group, made_given, made_is_given}, GivenHolds.{Setting, all_hold}}
+use Rattle.nntp_theory.proofs.{Given.GivenIsSpool.{given_is_spool}, GivenNumbers.MetNumbersStand.{shown_are_numbers, as_few}}
 
 -- a spool is given for facts that fit and are placed
 pub given_of_facts : (profile : Profile) (how : Marks) (facts : List Fact) → AllByRecursion (IsFitting profile) facts → AllByRecursion (Placed how facts) facts

@@ -3,9 +3,9 @@ use Rattle.std.proofs.Common.{◌≡◌, ℕ, ◌+◌, ◌<◌, ◌⊎◌, true,
 use Rattle.std.proofs.{Common.{◌∙◌, arith}, lemmas.{Bool.{true≢false, false_from_ne_true, eqb-true}, List.Elements.{All-from_recursion}}}
 use Rattle.std.specs.{Prelude.{IsFalse, IfSome, IsSome, unwrap_or}, List.{AllByRecursion, list_any}, FinMap.{get, empty, entries, get-entries, get-empty}}
 use Rattle.std.specs.FinMap.{nat_cmp-IsAntisymmetric, slice_cmp-IsAntisymmetric}
-use Rattle.nntp_article.specs.{Article.{Parts.{head_part, body_part, is_empty, Id, Line}, Fields.{fields_of_head, made_head}}, Session.Spool.{Spool, Text}}
-use Rattle.nntp_article.specs.Session.{Spool.{Numbers, IsNumber, IsGroup, numbers, text_of, Lists, Name}, Machine.{is_same, overview_numbers, head_fits}}
-use Rattle.nntp_article.specs.{Session.Machine.{active_fits, ActivesAgree, HasOverview}, Inner.Fields.{AreWords}, declared.session.profile.Profile.{Profile}}
+use Rattle.nntp_article.specs.{Article.{Parts.{head_part, body_part, is_empty, Id, Line}, Fields.{fields_of_head}}, Session.Spool.{Spool, Text, Numbers}}
+use Rattle.nntp_article.specs.Session.{Spool.{IsNumber, IsGroup, numbers, text_of, Lists, Name}, Machine.{overview_numbers, head_fits, active_fits}}
+use Rattle.nntp_article.specs.{Session.Machine.{ActivesAgree, HasOverview}, Inner.Fields.{AreWords}, declared.session.profile.Profile.{Profile}}
 use Rattle.nntp_article.proofs.ArticleLemmas.FieldLemmas.{made_tells}
 use Rattle.nntp_wire.specs.{Listing.{Fields, ActiveValue, OverviewValue}, declared.{range.Range.{Range}, command.What.{What}, marks.Marks.{Marks}}}
 use Rattle.nntp_wire.{specs.{Name.{IsMessageId}, Wildmat.{MatchesName}}, proofs.OptionLemmas.{none_of, some_is}}
@@ -14,7 +14,7 @@ use Rattle.nntp_theory.specs.Given.{asks_in, asks_of, shows_group, id_in, id_sho
 use Rattle.nntp_theory.specs.{Given.{fields_of_overview, fields_in, body_in, invented, unshown_in, unshown_ids, IsGiven}, Inner.Together.{IsProperOverview}}
 use Rattle.nntp_theory.specs.{Inner.Together.{IsWellFormed, TellsOwn, AgreesWithItself, Together}, Together.{denies_group, number_in, shows_article}}
 use Rattle.nntp_theory.{specs.Together.{denies_article, GiveOne}, proofs.Members.{In, all_at, all_part, all_from, any_in, found_in, in_map, from_map}}
-use Rattle.nntp_theory.proofs.{Members.{contains_in, in_contains, first_found}, GivenNumbers.{LeastNumber.{not_number}, GivenNumbersMeet.{given_meet}}}
+use Rattle.nntp_theory.proofs.{Members.{contains_in, in_contains, first_found}, GivenNumbers.{MetNumbersStand.{not_number}, GivenNumbersMeet.{given_meet}}}
 use Rattle.nntp_theory.proofs.Together.{ListedOverviews.{overview_at}, FactsOfASpoolStand.{same_itself, in_listed, matching}}
 use Rattle.nntp_theory.proofs.{Session.{NumbersOfShownGroups.{IsSelectable, Placed}, FittingFacts.{IsFitting}}, Ids.InventedIds.{invented_number}}
 use Rattle.nntp_theory.proofs.Ids.NumbersOfInventedIds.{Numbered, numbered, of_numbered, part_numbered, unshown_there, unshown_apart, mentioned}
@@ -36,10 +36,6 @@ parts_joined lines t = cc
 -- what one of the facts gives is what the first gives
 pub one_given : {A : Type 0} (f : Fact → Option A) (facts : List Fact) → GiveOne f facts → (fact : Fact) → In fact facts → (x : A) → f fact ≡ Some x → first_given f facts ≡ Some x
 one_given f facts one fact i x e = subst (λ o. IfSome o (λ x. first_given f facts ≡ Some x)) e (all_at _ fact facts one i)
-
--- what sends a head tells what the head tells
-head_tells : (id : Id) (fact : Fact) (lines : List Line) → head_in id fact ≡ Some lines → fields_in id fact ≡ Some (fields_of_head lines)
-head_tells id fact lines e = grind arith
 
 -- the fact that shows the id for the number
 pub record ShownAt (facts : List Fact) (name : Name) (n : ℕ) (id : Id) : Type 0 where
@@ -78,10 +74,6 @@ module _ (profile : Profile) (B : ℕ) (G : Spool) (facts : List Fact) (s : Sett
       (numbered B s.small facts (unshown_ids facts G) s.few s.given.ids_invented)
       (entry_in (slice_cmp-IsAntisymmetric nat_cmp-IsAntisymmetric) name N (entries G.groups) (sym (get-entries G.groups name) ∙ e))
 
-  -- an id that isn't shown is an invented one
-  pub unshown_is : (name : Name) (n : ℕ) (id : Id) → get (numbers G name) n ≡ Some id → id_shown facts name n ≡ None → (j : ℕ) × (j < B) × (id ≡ invented j) × IsFalse (is_mentioned facts id)
-  unshown_is name n id e none = grind (arith, group_of_number, part_of, entry_of_number, of_numbered B s.small facts, unshown_there B s.small facts name n id)
-
   -- and stands at one number of a group
   pub unshown_once : (name : Name) (n m : ℕ) (id : Id) → get (numbers G name) n ≡ Some id → get (numbers G name) m ≡ Some id → id_shown facts name n ≡ None → id_shown facts name m ≡ None → n ≡ m
   unshown_once name n m id e f none none' = grind (arith, group_of_number, part_of, entry_of_number, unshown_apart B s.small facts name)
@@ -89,7 +81,7 @@ module _ (profile : Profile) (B : ℕ) (G : Spool) (facts : List Fact) (s : Sett
   -- an id at a number of G is shown, or an invented one that isn't mentioned
   pub id_cases : (name : Name) (n : ℕ) (id : Id) → get (numbers G name) n ≡ Some id
       → (id_shown facts name n ≡ Some id) ⊎ ((id_shown facts name n ≡ None) × ((j : ℕ) × (j < B) × (id ≡ invented j) × IsFalse (is_mentioned facts id)))
-  id_cases name n id e = grind (arith, unshown_is name n id e, s.given.ids_shown name n)
+  id_cases name n id e = grind (arith, group_of_number, part_of, entry_of_number, of_numbered B s.small facts, unshown_there B s.small facts name n id, s.given.ids_shown name n)
 
   -- an id that is shown is that of one of the facts
   pub shown_at : (name : Name) (n : ℕ) (id : Id) → id_shown facts name n ≡ Some id → ShownAt facts name n id
@@ -97,14 +89,12 @@ module _ (profile : Profile) (B : ℕ) (G : Spool) (facts : List Fact) (s : Sett
 
   -- what is told of an id, the head of its article in G tells
   fields_are : (id : Id) (u : Text) (fields : Fields) → get G.articles id ≡ Some u → first_given (fields_in id) facts ≡ Some fields → AreWords fields → fields_of_head u.head ≡ fields
-  fields_are id u fields at told words = ap fields_of_head (s.given.heads id u at) ∙ by (first_given (head_in id) facts) refl
-    where
-      by : (o : Option (List Line)) → first_given (head_in id) facts ≡ o → fields_of_head (unwrap_or o (made_head id (first_given (fields_in id) facts))) ≡ fields
-      by None e = ap (λ o. fields_of_head (made_head id o)) told ∙ made_tells fields words id
-      by (Some lines) e =
-          let f = first_found (head_in id) facts lines e in
-          let same : Some (fields_of_head lines) ≡ Some fields = sym (one_given (fields_in id) facts (s.together.fields id) f.0 f.1 (fields_of_head lines) (head_tells id f.0 lines f.2)) ∙ told in
-          cc
+  fields_are id u fields at told words = elim (first_given (head_in id) facts) as (λ o. first_given (head_in id) facts ≡ o → fields_of_head u.head ≡ fields) [
+    | None ↦ λ e. grind (arith, s.given.heads id u at, told, made_tells fields words id)
+    | Some lines ↦ λ e.
+        let f = first_found (head_in id) facts lines e in
+        grind (arith, s.given.heads id u at, one_given (fields_in id) facts (s.together.fields id) f.0 f.1)
+  ] refl
 
   -- an id that a fact shows to have an article isn't denied
   not_denied : (id : Id) (fact : Fact) → In fact facts → shows_article id fact ≡ true → In (NoArticle id) facts → ⊥
@@ -132,15 +122,12 @@ module _ (profile : Profile) (B : ℕ) (G : Spool) (facts : List Fact) (s : Sett
   -- a list of groups that was sent is G's
   lines_hold : (p : Option (List ℕ)) (lines : List ActiveValue) → In (GroupsAre p lines) facts → AllByRecursion (λ line. IsTrue (active_fits profile p line)) lines → ActivesAgree G p lines
   lines_hold p lines i fit =
-      let listed : (line : ActiveValue) → In line lines → IsGroup G line.name = λ line j. (s.given.groups line.name).1
-      (any_in (shows_group line.name) (GroupsAre p lines) facts i (any_in (λ other. is_same other.name line.name) line lines j (same_itself line.name))) in
+      let listed : (line : ActiveValue) → In line lines → IsGroup G line.name = λ line j. grind (arith, s.given.groups line.name, any_in, same_itself) in
       let matches : (line : ActiveValue) → In line lines → IfSome p (λ w. MatchesName w line.name) = λ line j. (matching line.name p).0
       (grind (arith, all_at (λ line. IsTrue (active_fits profile p line)) line lines fit j)) in (
         λ name. (
-          λ c. (let f = from_map (λ line. line.name) name lines (in_contains name (map (λ line. line.name) lines) c) in
-              subst (λ name. IsGroup G name × IfSome p (λ w. MatchesName w name)) f.2 (listed f.0 f.1, matches f.0 f.1)),
-          λ g. contains_in name (map (λ line. line.name) lines)
-              (in_listed name lines (grind (arith, not_denied_group name (GroupsAre p lines) i g.0, (matching name p).1 g.1))),
+          λ c. grind (arith, from_map (λ line. line.name) name lines (in_contains name (map (λ line. line.name) lines) c), listed, matches),
+          λ g. grind (arith, contains_in, in_listed, not_denied_group name (GroupsAre p lines) i, matching name p),
         ),
         All-from_recursion (λ line. Meets (numbers G line.name) (Bounds line.low line.high)) lines (all_from _ lines (λ line j.
             let met = all_part (Meets (numbers G line.name)) _ line lines j (asked line.name (GroupsAre p lines) i (listed line j)) in
@@ -174,16 +161,11 @@ module _ (profile : Profile) (B : ℕ) (G : Spool) (facts : List Fact) (s : Sett
         | inr sent ↦ (let f = found_in (gives_article id) facts sent in not_denied id f.0 f.1 (grind (arith, f.2)) i)
       ])
   fact_holds (OverviewsAre name r os) i f p =
-      let met : Lists (numbers G name) r (overview_numbers os) = grind (arith, asked name (OverviewsAre name r os) i (group_there name p), same_itself name) in (
-        met,
-        all_from _ os (λ o j. (
-          overview_holds name r os i met o j,
-          overview_tells os (OverviewsAre name r os) i (λ id. refl)
-              (all_from (TellsOwn os) os (λ o j. (all_at _ o os (all_at AgreesWithItself (OverviewsAre name r os) facts s.together.lists i) j).2))
-              (all_at IsWellFormed (OverviewsAre name r os) facts s.together.well_formed i) o j
-              ((s.given.articles o.id).1 (inl (name, o.number, overview_holds name r os i met o j))),
-        )),
-      )
+      let met : Lists (numbers G name) r (overview_numbers os) = grind (arith, asked name (OverviewsAre name r os) i (group_there name p), same_itself name) in
+      let held = overview_holds name r os i met in
+      let own = all_at AgreesWithItself (OverviewsAre name r os) facts s.together.lists i in
+      let tells = overview_tells os (OverviewsAre name r os) i (λ id. refl) (all_from (TellsOwn os) os (λ o j. (all_at _ o os own j).2)) in
+      (met, all_from _ os (λ o j. (held o j, tells (all_at IsWellFormed (OverviewsAre name r os) facts s.together.well_formed i) o j ((s.given.articles o.id).1 (inl (name, o.number, held o j))))))
   fact_holds fact i f p = grind (arith, some_is, any_in, same_itself, text_is, lines_hold, s.given.groups)
 
   -- all that is said holds of G

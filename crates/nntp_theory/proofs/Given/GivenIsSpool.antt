@@ -1,18 +1,37 @@
 -- The spool that is given is a spool.
 use Rattle.nntp_said.specs.Facts.{Fact, TextIs, FieldsAre, OverviewsAre}
-use Rattle.nntp_theory.proofs.Members.{if_some, at_some, In, all_at, all_both, any_in, found_in, first_found, none_there}
-use Rattle.nntp_theory.proofs.{GivenNumbers.MetNumbersStand.{some_counted}, Together.{FewEnough.{within_one}, ListedOverviews.{told_by}}}
-use Rattle.nntp_theory.proofs.Given.{ShownNames.{shown_named}, GivenHolds.{Setting, one_given, group_of_number, id_cases, shown_at, unshown_once}}
-use Rattle.nntp_theory.proofs.{Ids.MadeHead.{made_says_id, made_head_is_head, made_is_clean}, Session.FittingFacts.{IsFitting}}
-use Rattle.nntp_theory.{proofs.Session.NumbersWithinLimit.{free_in_limit, shown_in_limit, end_in_limit}, specs.Given.{mentions, is_mentioned, gives_article}}
-use Rattle.nntp_theory.specs.{Given.{id_shown, first_given, head_in, fields_in}, Inner.Together.{IsProperOverview, IsWellFormed}, Together.{number_in}}
-use Rattle.std.specs.{Prelude.{unwrap_or}, List.{AllByRecursion}, Option.{option_map_or}, FinMap.{get, len}, Cmp.Lexicographic.{same_text}}
-use Rattle.std.proofs.Common.{◌≡◌, ℕ, ◌≤◌, true, IsTrue, List, ◌∷◌, ◌++◌, Option, None, Some, is_some, IsSome, inl, inr, refl, sym, ap, subst, arith}
-use Rattle.std.proofs.lemmas.{Bool.{true≢false, and_parts, or_cases}, List.Elements.{All-from_recursion}}
-use Rattle.nntp_article.specs.{Article.{Parts.{is_head, said_id, head_part, body_part, Id, Line}, Fields.{made_head}}, Inner.Fields.{AreWords}}
-use Rattle.nntp_article.specs.Session.{Spool.{Spool, Text, IsNumber, numbers, IsSpool, Name, is_line}, Machine.{is_same, says_own_id}}
-use Rattle.nntp_article.specs.declared.session.profile.Profile.{Profile}
-use Rattle.nntp_wire.specs.{Listing.{Fields}, Name.{IsMessageId}}
+use Rattle.nntp_theory.proofs.{Members.{if_some, at_some, In, all_at, all_both, any_in, found_in, first_found, none_there}, Together.FewEnough.{within_one}}
+use Rattle.nntp_theory.proofs.{Together.ListedOverviews.{told_by}, Given.{ShownNames.{shown_named}, GivenHolds.{Setting, one_given, group_of_number, id_cases}}}
+use Rattle.nntp_theory.proofs.{Given.GivenHolds.{shown_at, unshown_once}, Session.{FittingFacts.{IsFitting}, NumbersWithinLimit.{free_in_limit}}}
+use Rattle.nntp_theory.{proofs.Session.NumbersWithinLimit.{shown_in_limit, end_in_limit}, specs.Given.{gives_article, first_given, head_in, fields_in}}
+use Rattle.nntp_theory.specs.{Inner.Together.{IsProperOverview, IsWellFormed}, Together.{number_in}}
+use Rattle.std.specs.{Prelude.{unwrap_or, nat_le, nat_lt}, List.{AllByRecursion, list_all}, Option.{option_map_or}, FinMap.{get, len, get-empty, empty_of_len}}
+use Rattle.std.{specs.Cmp.Lexicographic.{same_text}, proofs.Common.{◌≡◌, ℕ, ◌≤◌, true, IsTrue, List, ◌∷◌, ◌++◌, Option, None, Some, is_some, IsSome, inl, inr}}
+use Rattle.std.proofs.{Common.{refl, sym, ap, subst, arith, ◌&&◌, [], length, append-nil}, lemmas.Bool.{true≢false, and_parts, or_cases, cases_eq, and_from}}
+use Rattle.std.proofs.lemmas.List.Elements.{All-from_recursion}
+use Rattle.nntp_article.specs.Article.{Parts.{is_head, said_id, head_part, body_part, Id, Line, skip_last_blanks}, Fields.{made_head}}
+use Rattle.nntp_article.specs.{Inner.Fields.{AreWords}, Session.{Spool.{Spool, Text, IsNumber, numbers, IsSpool, Name, is_line}, Machine.{is_same}}}
+use Rattle.nntp_article.{specs.{Session.Machine.{says_own_id}, declared.session.profile.Profile.{Profile}}, proofs.ArticleLemmas.FieldLemmas.{made_is_head}}
+use Rattle.nntp_article.proofs.ArticleLemmas.FieldLemmas.{made_says, field_lines_are_lines}
+use Rattle.nntp_wire.{specs.{Listing.{Fields}, Name.{IsMessageId}, Decided.{is_id_octet, begins_id}, Octets.{is_clean}}, proofs.DecidedLemmas.{message_id-iff}}
+
+-- ---- a head that says an id, and what is told of four headers
+
+-- octets of an id make a line
+all_clean : (cs : List ℕ) → list_all is_id_octet cs ≡ true → (is_clean cs ≡ true) × (list_all (λ c. nat_lt c 256) cs ≡ true)
+all_clean [] h = (refl, refl)
+all_clean (c ∷ cs) h = grind (arith, all_clean cs (and_parts (is_id_octet c) _ h).1)
+
+-- an id has no blanks at its end
+no_last_blanks : (cs : List ℕ) → list_all is_id_octet cs ≡ true → skip_last_blanks cs ≡ cs
+no_last_blanks [] h = refl
+no_last_blanks (c ∷ cs) h = grind (arith, and_parts, no_last_blanks cs)
+
+-- a message id has octets of ids alone
+octets : (id : Id) → IsMessageId id → list_all is_id_octet id ≡ true
+octets id h = (and_parts (nat_le 3 (length id) && nat_le (length id) 250) _ (and_parts _ (begins_id id) ((message_id-iff id).1 h)).0).1
+
+-- ---- the given spool
 
 -- a head for an id, without lines that hold NUL, CR or LF, and it says no other id
 record IsHeadOf (id : Id) (head : List Line) : Type 0 where
@@ -49,20 +68,15 @@ module _ (profile : Profile) (B : ℕ) (G : Spool) (facts : List Fact) (s : Sett
       let ends = end_in_limit profile facts s.how s.fitting s.placed name n (len (numbers G name)) in
       let shown = shown_in_limit profile facts s.how s.fitting s.placed name n in
       let free = free_in_limit profile facts s.how s.fitting s.placed name ((s.given.groups name).0 (ap is_some g.1)) n in
-      grind (arith, given n, or_cases, and_parts, shown, ends, few, stand.few (numbers G name) given, all_at, some_counted (numbers G name) n i, stand.not_denied n, free)
-
-  -- an id that is shown is mentioned
-  shown_mentioned : (name : Name) (n : ℕ) (id : Id) → id_shown facts name n ≡ Some id → IsTrue (is_mentioned facts id)
-  shown_mentioned name n id e = let at = shown_at profile B G facts s name n id e in any_in (mentions id) at.fact facts at.there at.mentioned
+      grind (arith, given n, or_cases, and_parts, shown, ends, few, stand.few (numbers G name) given, all_at, cases_eq (len (numbers G name)) 0, empty_of_len, get-empty, stand.not_denied n, free)
 
   -- within a group an id has one number
   one_number : (name : Name) (n m : ℕ) (id : Id) → get (numbers G name) n ≡ Some id → get (numbers G name) m ≡ Some id → n ≡ m
   one_number name n m id e f =
-      let once = one_given (number_in name id) facts (s.together.ids_once name id) in
       let cases = id_cases profile B G facts s name in
       let shown = shown_at profile B G facts s name in
       let apart = unshown_once profile B G facts s name n m id e f in
-      grind (arith, once, cases n id e, cases m id f, shown n id, shown m id, shown_mentioned name n id, shown_mentioned name m id, apart, true≢false)
+      grind (arith, one_given (number_in name id) facts (s.together.ids_once name id), cases n id e, cases m id f, shown n id, shown m id, any_in, apart, true≢false)
 
   -- ids of articles are message ids
   is_id : (id : Id) → IsSome (get G.articles id) → IsMessageId id
@@ -97,7 +111,7 @@ module _ (profile : Profile) (B : ℕ) (G : Spool) (facts : List Fact) (s : Sett
       let words = if_some told AreWords (λ fields e.
       let f = first_found (fields_in id) facts fields e in
       told_words id f.0 fields (formed f.0 f.1) (none_there (head_in id) facts f.0 f.1 none) f.2) in
-      grind (arith, made_head_is_head id told words, made_is_clean id told is words, made_says_id id told is words)
+      grind (arith, made_is_head, field_lines_are_lines, all_clean, and_from, append-nil, and_parts, no_last_blanks, octets, message_id-iff, made_says)
 
   -- the head of an id is one
   head_is : (id : Id) (t : Text) → get G.articles id ≡ Some t → IsHeadOf id t.head

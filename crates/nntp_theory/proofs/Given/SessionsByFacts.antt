@@ -1,12 +1,14 @@
 -- Several sessions by what they say: a spool permits each of them exactly if they fit and it has all their facts; so some spool permits them exactly if they fit and all of it stands together.
-use Rattle.std.{proofs.Common.{◌<◌, ◌^◌, ◌⊎◌, ◌↔◌, List, [], ◌∷◌, inl, inr, arith}, specs.List.{AllByRecursion}}
+use Rattle.std.{proofs.Common.{◌<◌, ◌^◌, ◌⊎◌, ◌↔◌, List, [], ◌∷◌, inl, inr, arith, append-nil}, specs.List.{AllByRecursion}}
 use Rattle.nntp_article.specs.{Session.{Spool.{Spool, IsSpool}, Machine.{start}}, declared.session.profile.Profile.{Profile}}
-use Rattle.nntp_said.{proofs.{FiniteMapsDecided.{Dec, dec_both}, PermittingDecided.{dec_run}}, specs.Facts.{Fact, Holds}}
-use Rattle.nntp_theory.specs.{Given.{IsGiven, HasAtLeast}, Inner.{Given.{size}, Permits.{SomePermits}, Together.{Together}, Answered.{FitEach}}}
-use Rattle.nntp_theory.{specs.Answered.{Answered, PermitsEach, SomePermitsEach, facts_of_all}, proofs.Members.{all_from, all_both, all_front, all_back}}
-use Rattle.nntp_theory.proofs.Session.{FittingFacts.{IsFitting, session_fitting}, NumbersOfShownGroups.{Among, Placed, placed_among}}
-use Rattle.nntp_theory.proofs.{Together.FactsOfASpoolStand.{stand}, Given.{GivenHasFacts.{given_of_facts, given_has, least_of_facts}, GivenPermits.{said}}}
-use Rattle.nntp_theory.proofs.Given.{GivenPermits.{permits}, ConstructedSpool.{made}, SpoolsDecided.{dec_spool}}
+use Rattle.nntp_said.{proofs.{FiniteMapsDecided.{Dec, dec_both}, PermittingDecided.{dec_run}}, specs.{Facts.{Fact, Holds}, Inner.Facts.{FitsAll}}}
+use Rattle.nntp_theory.specs.{Given.{IsGiven, HasAtLeast, facts_of_session}, Inner.{Given.{size}, Permits.{SomePermits}, Together.{Together}}}
+use Rattle.nntp_theory.{specs.{Inner.Answered.{FitEach}, Answered.{Answered, PermitsEach, SomePermitsEach, facts_of_all}}, proofs.Members.{all_from, all_both}}
+use Rattle.nntp_theory.proofs.{Members.{all_front, all_back}, Session.{FittingFacts.{IsFitting, session_fitting}, NumbersOfShownGroups.{Among, Placed}}}
+use Rattle.nntp_theory.proofs.{Session.NumbersOfShownGroups.{placed_among, session_placed}, Together.FactsOfASpoolStand.{stand}}
+use Rattle.nntp_theory.proofs.Given.{GivenHasFacts.{given_of_facts, given_has, least_of_facts}, GivenPermits.{said, permits}, ConstructedSpool.{made}}
+use Rattle.nntp_theory.proofs.Given.SpoolsDecided.{dec_spool}
+use Rattle.nntp_wire.specs.Answer.{Asked, Response}
 
 -- ---- a spool permits sessions exactly if they fit and it has their facts
 
@@ -88,11 +90,30 @@ dec_each profile S (s ∷ more) = dec_both (dec_run profile S start s.prompts s.
 pub some_or_none_of_all : (profile : Profile) (sessions : List Answered) → size (facts_of_all profile.marks sessions) < 2 ^ 210
     → SomePermitsEach profile sessions ⊎ (SomePermitsEach profile sessions → ⊥)
 some_or_none_of_all profile sessions small =
-    elim (dec_both (dec_spool profile.limit (made_for_all profile sessions)) (dec_each profile (made_for_all profile sessions) sessions)) [
-      | inl h ↦ inl (made_for_all profile sessions, h.0, h.1)
-      | inr h ↦ grind (arith, stand_each, given_permits_all, made_for_all, given_exists_of_all)
-    ]
+    let G = made_for_all profile sessions in
+    elim (dec_both (dec_spool profile.limit G) (dec_each profile G sessions)) [ inl h ↦ inl (G, h.0, h.1) | inr h ↦ grind (arith, stand_each, given_permits_all, made_for_all, given_exists_of_all) ]
 
 -- some spool permits one session alone
 pub permits_alone : (profile : Profile) (s : Answered) → SomePermitsEach profile (s ∷ []) ↔ SomePermits profile s.prompts s.answers
 permits_alone profile s = (λ h. (h.0, h.1, h.2.0), λ h. (h.0, h.1, (h.2, tt)))
+
+-- ---- one session
+
+-- the spool that is made for a session
+pub made_for : Profile → List Asked → List Response → Spool
+made_for profile ps answers = made profile.limit (10 ^ 64) (facts_of_session profile.marks ps answers)
+
+-- it is the given one, if the session fits
+pub given_exists : (profile : Profile) (ps : List Asked) (answers : List Response) → FitsAll profile start.visible ps answers
+    → size (facts_of_session profile.marks ps answers) < 2 ^ 210 → IsGiven (facts_of_session profile.marks ps answers)
+    (made_for profile ps answers)
+unfolding made_for
+given_exists profile ps answers fits small = search (arith, given_of_facts, session_fitting, session_placed)
+
+-- some spool permits a session, or none does
+pub some_or_none : (profile : Profile) (ps : List Asked) (answers : List Response) → size (facts_of_session profile.marks ps answers) < 2 ^ 210
+    → SomePermits profile ps answers ⊎ (SomePermits profile ps answers → ⊥)
+some_or_none profile ps answers small =
+    let session : Answered = record { prompts = ps; answers = answers } in
+    let whole = append-nil (facts_of_session profile.marks ps answers) in
+    grind (arith, whole, some_or_none_of_all profile (session ∷ []), permits_alone profile session)

@@ -1,8 +1,8 @@
 -- Whether two maps are a spool can be decided.
-use Rattle.std.proofs.{Common.{◌≡◌, ℕ, ◌≤◌, IsTrue, ◌++◌, Option, None, Some, is_some, IsSome, inl, refl, sym, ap, subst, ◌∙◌}, lemmas.Bool.{cases_eq}}
-use Rattle.std.{proofs.lemmas.List.Elements.{recursion_from_All, All-from_recursion}, specs.{Prelude.{unwrap_or}, declared.cmp.Ordering.{Ordering}}}
-use Rattle.std.specs.{List.{AllByRecursion}, Cmp.{IsTotalOrder, nat_cmp_total, Lexicographic.{nat_list_cmp_total}}, FinMap.{FinMap, get, entries, empty}}
-use Rattle.std.specs.FinMap.{IsAntisymmetric, nat_cmp-IsAntisymmetric}
+use Rattle.std.proofs.{Common.{arith, ◌≡◌, ℕ, ◌≤◌, IsTrue, ◌++◌, Option, None, Some, is_some, IsSome, inl, refl, sym, ap, subst, ◌∙◌}, lemmas.Bool.{cases_eq}}
+use Rattle.std.{proofs.lemmas.List.Elements.{recursion_from_All, All-from_recursion}, specs.{declared.cmp.Ordering.{Ordering}, List.{AllByRecursion}}}
+use Rattle.std.specs.{Cmp.{IsTotalOrder, nat_cmp_total, Lexicographic.{nat_list_cmp_total}}, FinMap.{FinMap, get, entries, IsAntisymmetric}}
+use Rattle.std.specs.FinMap.{nat_cmp-IsAntisymmetric}
 use Rattle.nntp_said.proofs.FiniteMapsDecided.{Dec, dec_true, dec_le, dec_both, dec_three, dec_by, dec_to, dec_texts, dec_all}
 use Rattle.nntp_article.specs.{Article.Parts.{is_head, said_id, Id}, Session.Spool.{Spool, Text, Numbers, numbers, IsSpool, Name, is_line}}
 use Rattle.nntp_theory.proofs.{Members.{dec_each_in}, Given.{GivenHolds.{group_of_number}, ConstructedSpool.{names_apart}}, Maps.{get_in, in_get}}
@@ -40,8 +40,7 @@ dec_group : (limit : ℕ) (S : Spool) (name : Name) (N : Numbers) → Dec (GoodG
 dec_group limit S name N =
     dec_three
     (dec_both (dec_by (group_name-iff name).0 (group_name-iff name).1 (dec_true (is_group_name name))) (dec_numbers (λ n id. (1 ≤ n) × (n ≤ limit)) (λ n id. dec_both (dec_le 1 n) (dec_le n limit)) N))
-    (dec_numbers (λ n id. (m : ℕ) (other : Id) → get N m ≡ Some other → id ≡ other → n ≡ m)
-    (λ n id. dec_numbers (λ m other. id ≡ other → n ≡ m) (λ m other. dec_to (dec_texts id other) (cases_eq n m)) N) N)
+    (dec_numbers _ (λ n id. dec_numbers (λ m other. id ≡ other → n ≡ m) (λ m other. dec_to (dec_texts id other) (cases_eq n m)) N) N)
     (dec_numbers (λ n id. IsSome (get S.articles id)) (λ n id. dec_true (is_some (get S.articles id))) N)
 
 -- whether an article is good
@@ -55,29 +54,20 @@ module _ (limit : ℕ) (S : Spool) where
   -- good groups and articles are a spool
   good : ((name : Name) (N : Numbers) → get S.groups name ≡ Some N → GoodGroup limit S name N) → ((id : Id) (t : Text) → get S.articles id ≡ Some t → GoodText id t) → IsSpool limit S
   good g a = record {
-    names = λ name i. (let N = some_is (get S.groups name) i in (g name N.0 N.1).0.0);
+    names = λ name i. grind (arith, some_is (get S.groups name) i, g name);
     numbers_in_limit = λ name n i. (let N = group_of_number S name n i in let at = some_is (get (numbers S name) n) i in (g name N.0 N.1).0.1 n at.0 (subst (λ N. get N n ≡ Some at.0) N.2 at.1));
-    one_to_one = λ name n m id e f. (let N = group_of_number S name n (ap is_some e) in (g name N.0 N.1).1 n id
-        (subst (λ N. get N n ≡ Some id) N.2 e) m id (subst (λ N. get N m ≡ Some id) N.2 f) refl);
-    ids_have_articles = λ name n id e. (let N = group_of_number S name n (ap is_some e) in (g name N.0 N.1).2 n id (subst (λ N. get N n ≡ Some id) N.2 e));
+    one_to_one = λ name n m id e f. grind (arith, group_of_number S name n (ap is_some e), g name);
+    ids_have_articles = λ name n id e. grind (arith, group_of_number S name n (ap is_some e), g name);
     ids = λ id i. (let t = some_is (get S.articles id) i in (a id t.0 t.1).0);
     heads = λ id t e. ((a id t e).1.0, All-from_recursion (λ line. IsTrue (is_line line)) (t.head ++ t.body) (a id t e).1.1);
     own_ids = λ id said t e. (a id t e).2 said;
   }
 
-  -- an id of a group is one of the spool
-  in_spool : (name : Name) (N : Numbers) → get S.groups name ≡ Some N → (n : ℕ) (id : Id) → get N n ≡ Some id → get (numbers S name) n ≡ Some id
-  in_spool name N e n id at = ap (λ o. get (unwrap_or o empty) n) e ∙ at
-
   -- and back
   bad : IsSpool limit S → ((name : Name) (N : Numbers) → get S.groups name ≡ Some N → GoodGroup limit S name N) × ((id : Id) (t : Text) → get S.articles id ≡ Some t → GoodText id t)
   bad s = (
-    λ name N e. (
-      (s.names name (ap is_some e), λ n id at. s.numbers_in_limit name n (ap is_some (in_spool name N e n id at))),
-      λ n id at m other at' same. s.one_to_one name n m id (in_spool name N e n id at) (in_spool name N e m id (at' ∙ ap Some (sym same))),
-      λ n id at. s.ids_have_articles name n id (in_spool name N e n id at),
-    ),
-    λ id t e. (s.ids id (ap is_some e), ((s.heads id t e).0, recursion_from_All (λ line. IsTrue (is_line line)) (t.head ++ t.body) (s.heads id t e).1), λ said. s.own_ids id said t e),
+    λ name N e. grind (arith, s.names name, s.numbers_in_limit name, s.one_to_one name, s.ids_have_articles name),
+    λ id t e. grind (arith, s.ids id, s.heads id t e, recursion_from_All, s.own_ids id),
   )
 
   -- whether groups and articles are a spool

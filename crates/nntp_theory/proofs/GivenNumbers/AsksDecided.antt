@@ -1,36 +1,25 @@
 -- Whether each part of what is asked of a group stands can be decided, where there are the given numbers.
-use Rattle.std.proofs.{Common.{ℕ, ◌||◌, ◌==◌, ◌⊎◌, IsTrue, List, is_some, inl, inr, sym, ◌∙◌, arith}, lemmas.Bool.{cases_Bool, eqb-true, eq-eqb, leb-true}}
-use Rattle.std.{proofs.lemmas.Bool.{le-leb, or_cases, or_left, or_right, cases_lt}, specs.{Prelude.{not, nat_le, IsFalse}, List.{AllByRecursion, list_all}}}
-use Rattle.std.specs.{Cmp.{nat_cmp_total}, FinMap.{get, keys, contains_key-keys, nat_cmp-IsAntisymmetric}}
+use Rattle.std.proofs.{Common.{ℕ, ◌||◌, ◌==◌, ◌⊎◌, IsTrue, List, inl, inr, arith}, lemmas.Bool.{cases_Bool, eqb-true, eq-eqb, leb-true, le-leb, or_cases}}
+use Rattle.std.{proofs.lemmas.Bool.{or_left, or_right, cases_lt}, specs.{Prelude.{not, nat_le, IsFalse}, List.{AllByRecursion, list_all}, Cmp.{nat_cmp_total}}}
+use Rattle.std.specs.FinMap.{keys, contains_key-keys, nat_cmp-IsAntisymmetric}
 use Rattle.nntp_article.specs.Session.Spool.{Numbers, IsNumber}
-use Rattle.nntp_said.{proofs.FiniteMapsDecided.{Dec, dec_true, dec_by, dec_all, each_key, passes, fails}, specs.Asks.{Ask}}
-use Rattle.nntp_theory.specs.{declared.demand.Demand.{Demand, TheVariants.{NoDemand, NotEmpty, OnlyOne, SecondIs}}, Given.{demand, is_known, is_denied}}
-use Rattle.nntp_theory.{specs.{Given.{IsGivenNumber, HasGivenNumbers}, Together.{MeetsDemand, IsFewFor}, Conflict.{AreTooMany}}, proofs.Members.{all_at}}
-use Rattle.nntp_theory.proofs.{Members.{all_from}, GivenNumbers.{LeastNumber.{Empty, Begins, firsts}, CountOfGivenNumbers.{as_many_given}}}
+use Rattle.nntp_said.{proofs.FiniteMapsDecided.{Dec, dec_all, each_key, passes, fails}, specs.Asks.{Ask}}
+use Rattle.nntp_theory.specs.{declared.demand.Demand.{Demand, TheVariants.{OnlyOne, SecondIs}}, Given.{demand, is_known, is_denied, IsGivenNumber}}
+use Rattle.nntp_theory.{specs.{Given.{HasGivenNumbers}, Together.{MeetsDemand, IsFewFor}, Conflict.{AreTooMany}}, proofs.Members.{all_at, all_from}}
+use Rattle.nntp_theory.proofs.GivenNumbers.{MetNumbersStand.{Empty, Begins, firsts}, CountOfGivenNumbers.{as_many_given}}
 
 -- whether the numbers meet a demand
 dec_demand : (N : Numbers) (d : Demand) → Dec (MeetsDemand d (IsNumber N))
-dec_demand N NoDemand = inl tt
-dec_demand N NotEmpty = elim (firsts N) [ Empty e none ↦ inr (λ h. none h.0 h.1) | Begins c e here all ↦ inl (c, here) ]
 dec_demand N OnlyOne = elim (firsts N) [
   | Empty e none ↦ inr (λ h. none h.0 h.1)
-  | Begins c e here all ↦ dec_by (λ h. (c, here, λ m i. eqb-true m c (h m i))) (λ h m i. eq-eqb m c (h.2 m i ∙ sym (h.2 c here)))
-      (each_key nat_cmp_total nat_cmp-IsAntisymmetric (λ m. m == c) N)
+  | Begins c e here all ↦ grind (arith, each_key nat_cmp_total nat_cmp-IsAntisymmetric (λ m. m == c) N, eqb-true, eq-eqb)
 ]
 dec_demand N (SecondIs k) = elim (firsts N) [
   | Empty e none ↦ inr (λ h. none k h.0)
-  | Begins c e here all ↦ elim (dec_true (is_some (get N k))) [
-    | inr out ↦ inr (λ h. out h.0)
-    | inl there ↦ elim (cases_lt c k) [
-      | inr le ↦ inr (λ h. let l = h.2 in let least = all h.1 h.3 in absurd (omega (arith, le, l, least)))
-      | inl l ↦ dec_by
-          (λ h. (there, c, l, here, λ m low i. elim (or_cases (nat_le k m) (m == c) (h m i)) [ inl a ↦ (let b = leb-true k m a in absurd (omega (arith, b, low))) | inr a ↦ eqb-true m c a ]))
-          (λ h m i. grind (arith, cases_lt m k, h.4 m, h.4 c l here, or_left, or_right, eq-eqb, le-leb))
-          (each_key nat_cmp_total nat_cmp-IsAntisymmetric (λ m. nat_le k m || m == c) N)
-    ]
-  ]
+  | Begins c e here all ↦
+      grind (arith, cases_lt c k, each_key nat_cmp_total nat_cmp-IsAntisymmetric (λ m. nat_le k m || m == c) N, or_cases, leb-true, eqb-true, or_left, or_right, eq-eqb, le-leb)
 ]
-dec_demand N d = grind arith
+dec_demand N d = grind (arith, firsts N)
 
 -- ---- each part of what is asked
 

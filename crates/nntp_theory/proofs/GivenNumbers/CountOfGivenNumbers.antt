@@ -4,7 +4,7 @@ use Rattle.std.specs.{Cmp.{nat_cmp_total}, FinMap.{len, insert, get-insert, len-
 use Rattle.nntp_article.specs.Session.Spool.{Numbers, IsNumber}
 use Rattle.nntp_said.specs.Asks.{Ask}
 use Rattle.nntp_theory.specs.{Given.{is_known, demand, IsOneMore, IsGivenNumber, HasGivenNumbers}, Together.{MeetsDemand}}
-use Rattle.nntp_theory.proofs.{GivenNumbers.MetNumbersStand.{one_more_once, second_shown, shown_known}, Maps.{len_le}}
+use Rattle.nntp_theory.proofs.{GivenNumbers.MetNumbersStand.{second_shown, shown_known}, Maps.{len_le}}
 
 module _ (asks : List Ask) (M : Numbers) (shown : (n : ℕ) → IsNumber M n ↔ IsTrue (is_known asks n)) where
   -- where there is no more, those that are known are given
@@ -13,7 +13,7 @@ module _ (asks : List Ask) (M : Numbers) (shown : (n : ℕ) → IsNumber M n ↔
 
   -- else those, and the one more
   pub one_more_given : (e : ℕ) → IsOneMore asks e → HasGivenNumbers asks (insert M e [])
-  one_more_given e x = grind (arith, cases_eq, get-insert nat_cmp_total M e [], eq-eqb, ne_eqb, one_more_once)
+  one_more_given e x = grind (arith, cases_eq, get-insert nat_cmp_total M e [], eq-eqb, ne_eqb)
 
   -- which is one more
   pub one_more_counted : (e : ℕ) → IsOneMore asks e → len (insert M e []) ≡ len M + 1
@@ -27,7 +27,7 @@ as_many_given asks N M g h = search (arith, len_le)
 
 -- where there is one more, the demand is met
 pub more_meets : (asks : List Ask) (e : ℕ) → IsOneMore asks e → MeetsDemand (demand asks) (IsGivenNumber asks)
-more_meets asks e x = grind (arith, true≢false, one_more_once, shown_known, second_shown, ltb-true, lt-ltb)
+more_meets asks e x = grind (arith, true≢false, shown_known, second_shown, ltb-true, lt-ltb)
 
 -- else if those that are known meet it
 pub known_meet : (asks : List Ask) → ((e : ℕ) → IsOneMore asks e → ⊥) → MeetsDemand (demand asks) (IsGivenNumber asks) ↔ MeetsDemand (demand asks) (λ n. IsTrue (is_known asks n))

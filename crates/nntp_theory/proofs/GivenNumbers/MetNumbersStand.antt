@@ -1,29 +1,46 @@
 -- What numbers meet stands together.
-use Rattle.std.proofs.Common.{◌⊎◌, ◌≡◌, ℕ, ◌≤◌, Bool, true, ◌==◌, not, IsTrue, List, [], ◌∷◌, MatchOption, inl, inr, refl, sym, subst, ◌∙◌, arith, ◌&&◌}
-use Rattle.std.proofs.lemmas.Bool.{true≢false, or_left, or_right, or_cases, and_parts, eqb-true, ltb-true, cases_Bool, not-true, cases_eq, cases_order, eq-eqb}
-use Rattle.std.proofs.lemmas.{Bool.{and_from, le-leb, lt-ltb, Decides.{nat_tests}}, Map.Views.{Contains-from_any, list_any-from_Contains, tells_apart}}
-use Rattle.std.{proofs.lemmas.Map.Lookups.{exact_unsigned}, specs.{Prelude.{IsFalse, Contains}, List.{AllByRecursion, list_any}, Cmp.{nat_cmp_total}}}
-use Rattle.std.specs.{Cmp.{nat_eq_equiv, eq_by_cmp_equiv}, FinMap.{len, keys, insert, remove, get-insert, get-remove, len-insert, len-remove, empty_of_len}}
-use Rattle.std.specs.FinMap.{get-empty, contains_key-keys}
+use Rattle.nntp_theory.proofs.{GivenNumbers.FirstFreeNumber.{first_free_once, first_free}, Members.{In, all_at, all_from, any_in, found_in, contains_in}}
+use Rattle.nntp_theory.{proofs.{Members.{in_contains, every}, Maps.{len_le}}, specs.Given.{shows, is_shown, is_denied, demand, wants, IsOneMore, IsGivenNumber}}
+use Rattle.nntp_theory.specs.{Given.{HasGivenNumbers, says_some, is_known}, declared.demand.Demand.{Demand, TheVariants.{SecondIs}}, Together.{is_possible}}
+use Rattle.nntp_theory.specs.{Together.{MeetsDemand}, Inner.Together.{AsksStand}}
+use Rattle.std.proofs.Common.{◌⊎◌, ◌≡◌, ℕ, ◌≤◌, Bool, true, ◌==◌, not, IsTrue, List, [], ◌∷◌, inl, inr, refl, sym, ◌∙◌, arith, ◌&&◌, Option, None, Some}
+use Rattle.std.proofs.{Common.{is_some, ap}, lemmas.Bool.{true≢false, or_left, or_right, or_cases, and_parts, eqb-true, ltb-true, cases_Bool, not-true}}
+use Rattle.std.proofs.lemmas.{Bool.{cases_eq, cases_order, eq-eqb, and_from, le-leb, lt-ltb, Decides.{nat_tests}}, Map.Views.{Contains-from_any}}
+use Rattle.std.{proofs.lemmas.Map.{Views.{list_any-from_Contains, tells_apart}, Lookups.{exact_unsigned}}, specs.Prelude.{IsFalse, Contains}}
+use Rattle.std.specs.{List.{AllByRecursion, list_any}, Cmp.{nat_cmp_total, nat_eq_equiv, eq_by_cmp_equiv}, FinMap.{len, keys, insert, remove, get-insert}}
+use Rattle.std.specs.FinMap.{get-remove, len-insert, len-remove, empty_of_len, get-empty, contains_key-keys, get}
 use Rattle.nntp_wire.specs.declared.range.Range.{Range}
-use Rattle.nntp_article.specs.Session.{Spool.{Numbers, IsNumber, least, IsInRange}, Machine.{is_in_range}}
+use Rattle.nntp_article.specs.{Session.{Spool.{Numbers, IsNumber, IsInRange, least}, Machine.{is_in_range}}, Inner.Spool.{IsFirst}}
+use Rattle.nntp_article.proofs.SessionLemmas.LeastNumber.{first_of_map}
 use Rattle.nntp_said.specs.Asks.{Ask, Meets, ListsIn}
-use Rattle.nntp_theory.specs.Given.{shows, is_shown, is_denied, demand, wants, IsOneMore, IsGivenNumber, HasGivenNumbers, says_some, is_known}
-use Rattle.nntp_theory.specs.{declared.demand.Demand.{Demand, TheVariants.{SecondIs}}, Together.{is_possible, MeetsDemand}, Inner.Together.{AsksStand}}
-use Rattle.nntp_theory.proofs.{GivenNumbers.{FirstFreeNumber.{first_free_once, first_free}, LeastNumber.{firsts, not_number, Empty, Begins}}, Members.{In}}
-use Rattle.nntp_theory.proofs.{Members.{all_at, all_from, any_in, found_in, contains_in, in_contains, every}, Maps.{len_le}}
 
-pub first_there : (N : Numbers) (Q : ℕ → Type 0) → MatchOption (least N) ⊥ Q → (c : ℕ) × IsNumber N c × ((m : ℕ) → IsNumber N m → c ≤ m) × Q c
-first_there N Q h = grind (arith, firsts)
+-- ---- the first number, by cases
+
+-- there is no number, or there is a first one
+pub data Firsts (N : Numbers) : Type 0 where
+  Empty : least N ≡ None → ((m : ℕ) → IsNumber N m → ⊥) → Firsts N
+  Begins : (c : ℕ) → least N ≡ Some c → IsNumber N c → ((m : ℕ) → IsNumber N m → c ≤ m) → Firsts N
+
+pub not_number : (N : Numbers) (m : ℕ) → get N m ≡ None → IsNumber N m → ⊥
+not_number N m e h = true≢false (sym h ∙ ap is_some e)
+
+firsts_of : (N : Numbers) (o : Option ℕ) → least N ≡ o → IsFirst N o → Firsts N
+firsts_of N None e h = Empty e (λ m. not_number N m (h m))
+firsts_of N (Some c) e h = Begins c e h.0 h.1
+
+pub firsts : (N : Numbers) → Firsts N
+firsts N = firsts_of N (least N) refl (first_of_map N)
+
+pub least_is : (N : Numbers) (c : ℕ) → IsNumber N c → ((m : ℕ) → IsNumber N m → c ≤ m) → least N ≡ Some c
+least_is N c here all = grind (arith, firsts)
+
+-- ---- what is tested
 
 pub listed_in : (ns : List ℕ) (n : ℕ) → IsTrue (list_any (λ m. n == m) ns) → Contains ns n
 listed_in ns n h = Contains-from_any eqb-true n ns h
 
 pub finds : (ns : List ℕ) (n : ℕ) → Contains ns n → IsTrue (list_any (λ m. n == m) ns)
 finds ns n h = list_any-from_Contains nat_eq_equiv n ns h
-
-pub in_range : (r : Range) (n : ℕ) → IsTrue (is_in_range r n) → IsInRange r n
-in_range r n h = grind arith
 
 pub in_range_back : (r : Range) (n : ℕ) → IsInRange r n → IsTrue (is_in_range r n)
 in_range_back r n h = grind (arith, and_from, le-leb)
@@ -43,7 +60,7 @@ shown_are_numbers N asks n met s = grind (arith, found_in, all_at, shown_is_numb
 -- numbers that meet what is asked meet the demand
 demand_of : (N : Numbers) (asks : List Ask) → AllByRecursion (Meets N) asks → MeetsDemand (demand asks) (IsNumber N)
 demand_of N [] met = tt
-demand_of N (ask ∷ asks) met = grind (arith, first_there, cases_order, not_number, demand_of N asks met.1)
+demand_of N (ask ∷ asks) met = grind (arith, firsts, cases_order, not_number, demand_of N asks met.1)
 
 -- a second number is shown
 pub second_shown : (asks : List Ask) (k : ℕ) → demand asks ≡ SecondIs k → IsTrue (is_shown asks k)
@@ -62,7 +79,7 @@ wanted_there P d n c h = grind arith
 
 -- an ask that is met is possible
 possible_in : (N : Numbers) (ask : Ask) → Meets N ask → IsTrue (is_possible ask)
-possible_in N ask h = grind (arith, every, in_range_back, contains_in, eq-eqb, lt-ltb, first_there)
+possible_in N ask h = grind (arith, every, in_range_back, contains_in, eq-eqb, lt-ltb, firsts)
 
 -- ---- keys
 
@@ -74,14 +91,10 @@ key_in N n i = in_contains n (keys N) (Contains-from_any (tells_apart exact_unsi
 pub key_is : (N : Numbers) (n : ℕ) → In n (keys N) → IsNumber N n
 key_is N n i = grind (arith, contains_key-keys, any_in, (eq_by_cmp_equiv nat_cmp_total).refl)
 
--- where there is a number, one is counted
-pub some_counted : (N : Numbers) (n : ℕ) → IsNumber N n → 1 ≤ len N
-some_counted N n i = grind (arith, cases_eq (len N) 0, empty_of_len N, get-empty)
-
 -- to put a number in the place of another leaves how many there are
 len_replaced : (G : Numbers) (d c : ℕ) → IsNumber G d → (IsNumber G c → c ≡ d) → len (insert (remove G d) c []) ≡ len G
 len_replaced G d c there only =
-    grind (arith, get-remove nat_cmp_total G d c, some_counted G d there, len-insert nat_cmp_total (remove G d) c [], len-remove nat_cmp_total G d)
+    grind (arith, get-remove nat_cmp_total G d c, cases_eq (len G) 0, empty_of_len G, get-empty, len-insert nat_cmp_total (remove G d) c [], len-remove nat_cmp_total G d)
 
 -- ---- numbers that are known
 
@@ -101,10 +114,6 @@ known_or_more asks G given =
     let unknown = λ (n : ℕ). not (is_known asks n) in
     grind (arith, cases_Bool (list_any unknown (keys G)), any_in unknown, found_in unknown, key_in G, key_is G, given, not-true, true≢false)
 
--- there is one more number at most
-pub one_more_once : (asks : List Ask) (e d : ℕ) → IsOneMore asks e → IsOneMore asks d → e ≡ d
-one_more_once asks e d x y = first_free_once (is_denied asks) 1 e d x.first y.first
-
 -- ---- numbers that meet what is asked
 
 module _ (asks : List Ask) (N : Numbers) (met : AllByRecursion (Meets N) asks) (positive : (n : ℕ) → IsNumber N n → 1 ≤ n) where
@@ -113,7 +122,7 @@ module _ (asks : List Ask) (N : Numbers) (met : AllByRecursion (Meets N) asks) (
 
   free_in_N : (n : ℕ) → IsNumber N n → IsFalse (is_denied asks n)
   free_in_N n i =
-      grind (arith, cases_Bool (is_denied asks n), found_in, all_at, nat_tests, and_parts, true≢false, finds, in_range, not-true, eqb-true, firsts, ltb-true)
+      grind (arith, cases_Bool (is_denied asks n), found_in, all_at, nat_tests, and_parts, true≢false, finds, not-true, eqb-true, firsts, ltb-true)
 
   -- the demand wants a number that is known
   abbrev is_wanted : ℕ → Bool
@@ -136,7 +145,7 @@ module _ (asks : List Ask) (N : Numbers) (met : AllByRecursion (Meets N) asks) (
   -- given numbers that are wanted are one, where those of N are
   one_wanted : ((a b : ℕ) → IsNumber N a → IsNumber N b → wants (demand asks) a ≡ true → wants (demand asks) b ≡ true → a ≡ b)
       → (m n : ℕ) → IsGivenNumber asks m → IsGivenNumber asks n → wants (demand asks) m ≡ true → wants (demand asks) n ≡ true → m ≡ n
-  one_wanted one m n s t a b = grind (arith, one m n, known_in_N m, known_in_N n, one_more_once asks m n, true≢false)
+  one_wanted one m n s t a b = grind (arith, one m n, known_in_N m, known_in_N n, true≢false)
 
   -- the given numbers meet the demand
   demand_given : (d : Demand) → demand asks ≡ d → MeetsDemand d (IsNumber N) → MeetsDemand d (IsGivenNumber asks)
@@ -151,9 +160,7 @@ module _ (asks : List Ask) (N : Numbers) (met : AllByRecursion (Meets N) asks) (
     | inl known ↦ len_le nat_cmp_total G N (λ n i. known_in_N n (known n i))
     | inr (e, there, x) ↦
         let c = wanted_there (IsNumber N) (demand asks) e (demand_of N asks met) x.wanted in
-        let only : IsNumber G c.0 → c.0 ≡ e = grind (arith, given c.0, true≢false, one_more_once) in
-        subst (λ n. n ≤ len N) (len_replaced G e c.0 there only)
-        (len_le nat_cmp_total (insert (remove G e) c.0 []) N (λ n i. replaced_in_N G given e c.0 x c.1 n i))
+        grind (arith, len_replaced G e c.0 there, given c.0, true≢false, first_free_once, len_le nat_cmp_total (insert (remove G e) c.0 []) N, replaced_in_N G given e c.0 x c.1)
   ]
 
   -- and so what is asked stands together

@@ -1,10 +1,10 @@
 -- Whether one more number is needed, and the search for it.
-use Rattle.std.proofs.Common.{◌≡◌, ℕ, ◌≤◌, Bool, cond, IsTrue, List, Option, None, Some, inl, refl, sym, subst, arith, [], ◌∷◌}
-use Rattle.std.{proofs.lemmas.Bool.{false_from_ne_true, true≢false}, specs.List.{list_any, flat_map}}
+use Rattle.std.{proofs.Common.{◌≡◌, ℕ, ◌≤◌, Bool, cond, IsTrue, List, Option, None, Some, inl, refl, sym, subst, arith, [], ◌∷◌}, specs.List.{list_any}}
+use Rattle.std.specs.List.{flat_map}
 use Rattle.nntp_said.specs.Asks.{Ask}
 use Rattle.nntp_theory.specs.{Given.{is_known, is_denied, demand, wants, IsOneMore}, Inner.OneMore.{free, if_wanted}}
-use Rattle.nntp_theory.proofs.{GivenNumbers.FirstFreeNumber.{free_is, free_none}, Members.{In, any_in, found_in, to_flat, from_flat}}
-use Rattle.nntp_theory.proofs.Ids.SmallGivenSpool.{named_by, known_named}
+use Rattle.nntp_theory.proofs.{GivenNumbers.FirstFreeNumber.{free_is, free_none}, Members.{In, found_in, to_flat, from_flat}, Ids.SmallGivenSpool.{named_by}}
+use Rattle.nntp_theory.proofs.Ids.SmallGivenSpool.{known_named}
 
 -- ---- the numbers that are known
 
@@ -35,10 +35,6 @@ is_met asks = list_any (λ n. wants (demand asks) n) (known_list asks)
 -- the one more number, if there is one
 abbrev pub more : ℕ → List Ask → Option ℕ
 more limit asks = cond (is_met asks) None (if_wanted (demand asks) (free (is_denied asks) limit 1))
-
--- what the search finds is the one more number
-pub more_is : (limit : ℕ) (asks : List Ask) (n : ℕ) → more limit asks ≡ Some n → IsOneMore asks n
-more_is limit asks n e = grind (arith, false_from_ne_true, true≢false, any_in, known_list, in_known_list, free_is)
 
 -- and it is found, if it is within the limit
 pub more_found : (limit : ℕ) (asks : List Ask) (n : ℕ) → IsOneMore asks n → n ≤ limit → more limit asks ≡ Some n

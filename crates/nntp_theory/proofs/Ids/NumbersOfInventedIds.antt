@@ -1,7 +1,7 @@
 -- The numbers of invented ids: they are small, rise, and aren't those of ids that are mentioned.
-use Rattle.std.proofs.Common.{◌≡◌, ℕ, ◌+◌, ◌<◌, ◌≤◌, true, cond, eqb, List, [], ◌∷◌, ◌++◌, length, map, None, is_some, inl, inr, sym, ap, ◌∙◌, arith}
-use Rattle.std.proofs.{Common.{length-append}, lemmas.{Bool.{cases_lt, or_cases, or_left, or_right, eq-eqb}, Map.Steps.{le-length_from_below}}}
-use Rattle.std.{proofs.lemmas.List.Folds.{list_any-append}, specs.{Prelude.{IsFalse, ⊤}, List.{list_any, flat_map}, Cmp.Lexicographic.{same_text}}}
+use Rattle.std.proofs.Common.{◌≡◌, ℕ, ◌+◌, ◌<◌, ◌≤◌, true, cond, eqb, List, [], ◌∷◌, ◌++◌, length, map, None, is_some, sym, ap, ◌∙◌, arith, length-append}
+use Rattle.std.proofs.lemmas.{Bool.{cases_lt, or_cases, or_left, or_right, eq-eqb}, Map.Steps.{le-length_from_below}, List.Folds.{list_any-append}}
+use Rattle.std.specs.{Prelude.{IsFalse, ⊤}, List.{list_any, flat_map}, Cmp.Lexicographic.{same_text}}
 use Rattle.nntp_article.specs.{Session.{Machine.{is_same}, Spool.{Name}}, Article.Parts.{Id}}
 use Rattle.nntp_said.specs.Facts.{Fact, IdAt, TextIs, NoArticle, FieldsAre, OverviewsAre}
 use Rattle.nntp_theory.{specs.Given.{is_mentioned, invented, AreInvented, id_shown, unshown_in}, proofs.{Ids.InventedIds.{invented_number}, Members.{In}}}
@@ -42,15 +42,9 @@ module _ (B : ℕ) (small : (i : ℕ) → i < B → invented_number (invented i)
   numbered_from (id ∷ ids) k done below few (j, (from, free, passed), is, rest) =
       let used : (i : ℕ) → i < j → i < B → list_any (eqb i) (done ++ mentioned facts) ≡ true = λ i l s.
       grind (arith, below i, any_back (eqb i) done (mentioned facts), counted i facts s, passed i) in
-      let count : length (done ++ mentioned facts) ≡ length done + length (mentioned facts) = length-append done (mentioned facts) in
-      let lt : j < B = elim (cases_lt j B) [ inl l ↦ l | inr g ↦ (let le = le-length_from_below (done ++ mentioned facts) B (λ i l. used i (omega arith) l) in absurd (omega arith)) ] in (
-        j,
-        from,
-        lt,
-        is,
-        ap (is_mentioned facts) is ∙ free,
-        numbered_from ids (j + 1) (j ∷ done) (λ i l. grind (arith, or_left, or_right, used i, eq-eqb i j)) (omega arith) rest,
-      )
+      let le : B ≤ j → B ≤ length (done ++ mentioned facts) = λ g. le-length_from_below (done ++ mentioned facts) B (λ i l. used i (omega arith) l) in
+      let lt : j < B = grind (arith, cases_lt j B, le, length-append done (mentioned facts)) in
+      (j, from, lt, is, ap (is_mentioned facts) is ∙ free, numbered_from ids (j + 1) (j ∷ done) (λ i l. grind (arith, or_left, or_right, used i, eq-eqb i j)) (omega arith) rest)
 
   -- the numbers are small if few ids are mentioned and invented
   pub numbered : (ids : List Id) → length (mentioned facts) + length ids < B → AreInvented facts 0 ids → Numbered 0 ids

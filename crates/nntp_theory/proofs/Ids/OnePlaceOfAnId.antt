@@ -9,11 +9,6 @@ use Rattle.nntp_theory.proofs.{Together.FactsOfASpoolStand.{same_itself}, Given.
 
 -- ---- of facts
 
--- a fact that gives the id at the number gives the number of the id
-placed_by : (name : Name) (n : ℕ) (id : Id) (fact : Fact) → AgreesWithItself fact → id_in name n fact ≡ Some id → number_in name id fact ≡ Some n
-placed_by name n id (OverviewsAre g r os) own e = let o = overview_at g name r os n id e in grind (arith, all_at _ o.overview os own o.there, same_itself)
-placed_by name n id fact own e = grind (arith, same_itself, eqb-true)
-
 -- where facts give an id, they show the number
 pub shown_with_id : (facts : List Fact) (name : Name) (n : ℕ) → IsSome (first_given (id_in name n) facts) → IsTrue (is_shown (asks_of name facts) n)
 shown_with_id facts name n t =
@@ -23,11 +18,10 @@ shown_with_id facts name n t =
   where
     by : (fact : Fact) (id : Id) → In fact facts → id_in name n fact ≡ Some id → IsTrue (is_shown (asks_of name facts) n)
     by (OverviewsAre g r os) id i e =
-        let o = overview_at g name r os n id e in
-        grind (arith, o, any_in, in_map (λ (o : OverviewValue). o.number), to_flat (asks_in name) (OverviewsAre g r os) (ListsIn r (overview_numbers os)) facts i)
+        grind (arith, overview_at g name r os n id e, any_in, in_map (λ (o : OverviewValue). o.number), to_flat (asks_in name) (OverviewsAre g r os) (ListsIn r (overview_numbers os)) facts i)
     by fact id i e = grind (arith, any_in, to_flat (asks_in name) fact (Has n) facts i)
 
 -- facts that stand together agree
 pub agree_together : (facts : List Fact) (name : Name) (n : ℕ) (id : Id) → AllByRecursion AgreesWithItself facts → GiveOne (number_in name id) facts
     → first_given (id_in name n) facts ≡ Some id → first_given (number_in name id) facts ≡ Some n
-agree_together facts name n id lists one e = grind (arith, first_found, one_given, placed_by, all_at)
+agree_together facts name n id lists one e = grind (arith, first_found, one_given, same_itself, eqb-true, all_at)

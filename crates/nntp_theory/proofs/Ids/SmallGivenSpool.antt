@@ -1,5 +1,5 @@
 -- A session that says little is given a small spool.
-use Rattle.nntp_theory.proofs.{GivenNumbers.MetNumbersStand.{known_or_more, one_more_once}, Members.{In, any_in, found_in, to_flat, from_flat, parts_few}}
+use Rattle.nntp_theory.proofs.{GivenNumbers.MetNumbersStand.{known_or_more}, Members.{In, any_in, found_in, to_flat, from_flat, parts_few}}
 use Rattle.nntp_theory.proofs.{Ids.NumbersOfInventedIds.{mentioned}, Maps.{sorted_keys, keys_among, in_get}, Together.FactsOfASpoolStand.{same_itself, listed}}
 use Rattle.nntp_theory.{proofs.Together.FactsOfASpoolStand.{in_listed}, specs.Given.{HasGivenNumbers, asks_in, asks_of, shows_group, is_shown_group}}
 use Rattle.nntp_theory.specs.{Given.{unshown_in, unshown_ids, is_known}, Inner.Given.{size_in, size}}
@@ -129,7 +129,7 @@ given_few name facts N given = elim (known_or_more (asks_of name facts) N given)
   | inl known ↦ (let le = keys_among nat_cmp_total N (shown_numbers name facts) (λ n i. known_number name facts n (known n i)) in omega arith)
   | inr (e, there, x) ↦
       let le = keys_among nat_cmp_total N (e ∷ shown_numbers name facts)
-      (λ n i. grind (arith, known_number name facts n, one_more_once (asks_of name facts) e n x, given n)) in
+      (λ n i. grind (arith, known_number name facts n, given n)) in
       omega arith
 ]
 
@@ -144,8 +144,7 @@ pub unshown_ids_few : (facts : List Fact) (G : Spool) → ((name : Name) → IsG
     → length (unshown_ids facts G) ≤ size facts + size facts
 unshown_ids_few facts G groups given =
     let each : (g : Name × Numbers) → In g (entries G.groups) → length (unshown_in facts g.0 (entries g.1)) ≤ 1 + length (shown_numbers g.0 facts) = λ g i.
-    (let at = in_get nat_list_cmp_total (slice_cmp-IsAntisymmetric nat_cmp-IsAntisymmetric) G.groups g.0 g.1 i in
-    grind (arith, at, given g.0, unshown_few facts g.0 (entries g.1), given_few g.0 facts g.1)) in
+    grind (arith, in_get nat_list_cmp_total (slice_cmp-IsAntisymmetric nat_cmp-IsAntisymmetric) G.groups g.0 g.1 i, given g.0, unshown_few facts g.0 (entries g.1), given_few g.0 facts g.1) in
     let all = parts_few (λ (g : Name × Numbers). unshown_in facts g.0 (entries g.1)) (λ (g : Name × Numbers). shown_numbers g.0 facts) (entries G.groups) each in
     let names = keys_among nat_list_cmp_total G.groups (names_of facts) (λ name i. shown_name facts name (groups name i)) in
     let same = ap length (flat_map-map (λ name. shown_numbers name facts) (λ (g : Name × Numbers). g.0) (entries G.groups)) in

@@ -1,5 +1,5 @@
 -- The first bad answer of a reading is that of the outcome; a reading without one is explained by some spool.
-use Rattle.std.proofs.Common.{arith, ◌≡◌, ◌⊎◌, ℕ, List, [], ◌∷◌, ◌++◌, length, map, Some, inl, inr, refl, sym, ap, subst, ◌∙◌}
+use Rattle.std.proofs.Common.{arith, ◌≡◌, ◌⊎◌, ℕ, List, [], ◌∷◌, ◌++◌, length, map, Some, inl, inr, refl, ap, subst}
 use Rattle.nntp_article.specs.{declared.session.profile.Profile.{Profile}, Session.{Spool.{Spool}, Explains.{Explains}}}
 use Rattle.nntp_pair.specs.{declared.class.{PairClass.{PairClass, TheVariants.{Malformed as PairMalformed}}, Class.{Class}}, Pairing.{Paired, Ending, end, bad}}
 use Rattle.nntp_pair.{specs.{Pairing.{IsPairing, streams}, Classes.{class_of}}, proofs.PassedLemmas.{passed-ends}}
@@ -17,17 +17,15 @@ pub first_bad : (profile : Profile) (client : ClientStream) (server : List ℕ) 
 first_bad profile client server pairs (Accepted pair) more ending class reading e = cc
 first_bad profile client server pairs (Refused pair) more ending class reading e =
     let r = accepted_first (ArePermitted profile) [] (streams client server) reading.left pairs (Refused pair ∷ more) (none_accepted profile) reading.judged in
-    let same : _ ≡ class = cc in
-    subst (λ class. IsOutcome profile client server (No (length pairs) class)) same
-    (outcome_at_response profile client server pairs pair r.between r.rest.0 r.paired r.rest.1.0 ((permits_alone profile (exchanged pairs)).0 r.stand)
-    (λ h. r.rest.1.1 ((permits_alone profile (exchanged (pairs ++ pair ∷ []))).1 h)))
+    grind (
+      arith,
+      outcome_at_response profile client server pairs pair r.between r.rest.0 r.paired r.rest.1.0 ((permits_alone profile (exchanged pairs)).0 r.stand)
+          (λ h. r.rest.1.1 ((permits_alone profile (exchanged (pairs ++ pair ∷ []))).1 h)),
+    )
 first_bad profile client server pairs (Unspelled index place initial block) more ending class reading e =
     let r = accepted_first (ArePermitted profile) [] (streams client server) reading.left pairs (Unspelled index place initial block ∷ more) (none_accepted profile) reading.judged in
-    let ends = passed-ends r.between r.rest.0 place initial block r.rest.1.1 in
-    let pairing : IsPairing client server pairs (bad PairMalformed) = record { left = r.between; paired = r.paired; ends = ends } in
-    let same : class_of PairMalformed ≡ class = cc in
-    subst (λ class. IsOutcome profile client server (No (length pairs) class)) same
-    (outcome_at_octets profile client server pairs PairMalformed pairing ((permits_alone profile (exchanged pairs)).0 r.stand))
+    let pairing : IsPairing client server pairs (bad PairMalformed) = record { left = r.between; paired = r.paired; ends = passed-ends r.between r.rest.0 place initial block r.rest.1.1 } in
+    grind (arith, outcome_at_octets profile client server pairs PairMalformed pairing ((permits_alone profile (exchanged pairs)).0 r.stand))
 
 -- where all are accepted, octets that answer nothing are the first bad answer
 pub bad_at_octets : (profile : Profile) (client : ClientStream) (server : List ℕ) (pairs : List Paired) (class : PairClass)
@@ -83,7 +81,7 @@ pub explained_good : (profile : Profile) (client : ClientStream) (server : List 
 explained_good profile client server answers ending reading explained = elim (accepted_or_bad answers) [
   | inl (pairs, all) ↦
       let last = by pairs ending (subst (λ answers. IsReading profile client server answers ending) all reading) in
-      (all ∙ ap (map Accepted) (sym (accepted_all pairs)) ∙ sym (ap (λ answers. map Accepted (accepted_of answers)) all), last.0, last.1)
+      (grind (arith, all, accepted_all pairs), last.0, last.1)
   | inr first ↦
       let c = first.is_bad profile first.pairs in
       absurd (never_no profile client server (length first.pairs) c.0 explained

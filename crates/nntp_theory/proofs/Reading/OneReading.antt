@@ -4,9 +4,8 @@ use Rattle.nntp_article.specs.declared.session.profile.Profile.{Profile}
 use Rattle.nntp_pair.specs.{declared.class.PairClass.TheVariants.{Malformed as PairMalformed}, Pairing.{Paired, Unpaired, IsNext, Ending, bad, Ends, asked_of}}
 use Rattle.nntp_pair.{specs.Pairing.{responses_of, streams}, proofs.{NextLemmas.{one-end}, NextDecided.{next-or-end}, PassedLemmas.{passed-exactly}}}
 use Rattle.nntp_theory.specs.{Inner.Given.{weight}, Permitted.{exchanged, ArePermitted}, Reading.{Judged, Accepted, Refused, Unspelled, accepted_with}}
-use Rattle.nntp_theory.{specs.Reading.{IsJudged, AreJudged, IsReadingBy, IsReading}, proofs.Given.GivenSpoolExists.{some_or_none}}
-use Rattle.nntp_theory.proofs.{Given.SessionsByFacts.{permits_alone}, Ids.SizeOfASession.{session_size}, Reading.JudgedAnswers.{one_judged, judged_shorter}}
-use Rattle.nntp_theory.proofs.Reading.JudgedAnswers.{weight_next, accepted_weight}
+use Rattle.nntp_theory.{specs.Reading.{IsJudged, AreJudged, IsReadingBy, IsReading}, proofs.Given.SessionsByFacts.{some_or_none, permits_alone}}
+use Rattle.nntp_theory.proofs.{Ids.SizeOfASession.{session_size}, Reading.JudgedAnswers.{one_judged, judged_shorter, weight_next, accepted_weight}}
 use Rattle.nntp_wire.specs.Session.{ClientStream}
 
 module _ (Stand : List Paired → Type 0) where
@@ -39,9 +38,8 @@ module _ (Stand : List Paired → Type 0) where
 
     -- a pair is accepted or refused
     pair_judged : (past : List Paired) (a b : Unpaired) (pair : Paired) → weight (responses_of past) + length a.server ≤ most → IsNext a pair b → IsMore past a
-    pair_judged past a b pair small next =
-        let bound = weight_next past a b pair next in
-        elim (decided (past ++ pair ∷ []) (omega (arith, bound, small))) [ inl h ↦ (Accepted pair, b, (next, h)) | inr none ↦ (Refused pair, b, (next, none)) ]
+    pair_judged past a b pair small next = elim (decided (past ++ pair ∷ []) (omega (arith, weight_next past a b pair next, small)))
+        [ inl h ↦ (Accepted pair, b, (next, h)) | inr none ↦ (Refused pair, b, (next, none)) ]
 
     -- an end is one of the reading, or a frame is passed over
     end_judged : (past : List Paired) (a : Unpaired) (ending : Ending) → Ends a ending → IsMore past a ⊎ IsLast a
@@ -64,9 +62,8 @@ module _ (Stand : List Paired → Type 0) where
     read_on past a zero short small = grind (arith, more_or_last, judged_shorter)
     read_on past a (suc steps) short small = elim (more_or_last past a small) [
       | inl (answer, b, is) ↦
-          let less = judged_shorter Stand past a b answer is in
           let light = accepted_weight Stand past a b (answer ∷ []) (b, is, refl) in
-          let rest = read_on (accepted_with past answer) b steps (omega (arith, less, short)) (omega (arith, light, small)) in
+          let rest = read_on (accepted_with past answer) b steps (omega (arith, judged_shorter Stand past a b answer is, short)) (omega (arith, light, small)) in
           (answer ∷ rest.0, rest.1, (b, is, rest.2), rest.3)
       | inr last ↦ ([], a, refl, last)
     ]
@@ -84,4 +81,4 @@ some_reading profile client server small = some_reading_by (ArePermitted profile
     decided past light =
         let all = session_size profile.marks (asked_of past) (responses_of past) in
         elim (some_or_none profile (asked_of past) (responses_of past) (omega (arith, all, light, small)))
-        [ inl h ↦ inl ((permits_alone profile (exchanged past)).1 h) | inr none ↦ inr (λ h. none h.0 h.1 h.2.0) ]
+        [ inl h ↦ inl ((permits_alone profile (exchanged past)).1 h) | inr none ↦ inr (λ h. none ((permits_alone profile (exchanged past)).0 h)) ]

@@ -55,11 +55,6 @@ pub asked_longer : (ps qs : List Asked) (answers : List Response) (asked : Asked
 asked_longer (p ∷ ps) qs (a ∷ more) asked e = asked_longer ps qs more asked e
 asked_longer ps qs answers asked e = cc
 
--- and is behind the answers' prompts
-pub asked_count : (ps : List Asked) (answers : List Response) (asked : Asked) → asked_next ps answers ≡ Some asked → length answers + 1 ≤ length ps
-asked_count (p ∷ ps) (a ∷ more) asked e = let le = asked_count ps more asked e in omega arith
-asked_count ps answers asked e = grind arith
-
 -- and so some spool permits the answers with them, or none does
 pub permitted_longer : (profile : Profile) (ps qs : List Asked) (answers : List Response) → length answers ≤ length ps → SomePermits profile (ps ++ qs) answers ↔ SomePermits profile ps answers
 permitted_longer profile ps qs answers le = (

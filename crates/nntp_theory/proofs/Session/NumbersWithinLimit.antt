@@ -5,7 +5,7 @@ use Rattle.nntp_theory.specs.{Inner.Estimates.{estimate_in, is_within}, Given.{i
 use Rattle.nntp_theory.{specs.Given.{shows_group, is_end}, proofs.Members.{In, all_at, any_in, found_in, to_flat, from_flat}}
 use Rattle.nntp_theory.proofs.Session.{NumbersOfShownGroups.{Placed}, FittingFacts.{IsFitting}}
 use Rattle.nntp_wire.specs.{declared.marks.Marks.{Marks}, Listing.{ActiveValue}}
-use Rattle.nntp_article.specs.{Session.{Spool.{Name}, Machine.{is_same, is_article_number, active_fits}}, declared.session.profile.Profile.{Profile}}
+use Rattle.nntp_article.specs.{Session.{Spool.{Name}, Machine.{is_same, is_article_number}}, declared.session.profile.Profile.{Profile}}
 use Rattle.nntp_said.specs.{Asks.{Ask, Estimates, Bounds}, Facts.{Fact, ThereIs, Asks, GroupsAre}}
 
 module _ (profile : Profile) (facts : List Fact) (how : Marks) (fitting : AllByRecursion (IsFitting profile) facts) (placed : AllByRecursion (Placed how facts) facts) where
@@ -23,14 +23,12 @@ module _ (profile : Profile) (facts : List Fact) (how : Marks) (fitting : AllByR
       by : (fact : Fact) → In fact facts → shows_group name fact ≡ true → is_denied (asks_of name facts) n ≡ true
       by (ThereIs g) j t =
           let s = all_at (Placed how facts) (ThereIs g) facts placed j in
-          let most = (fits (Asks g (Estimates how s.marks)) s.estimated).0 in
-          grind (arith, denied_by name (Asks g (Estimates how s.marks)) s.estimated (Estimates how s.marks))
+          grind (arith, fits (Asks g (Estimates how s.marks)) s.estimated, denied_by name (Asks g (Estimates how s.marks)) s.estimated (Estimates how s.marks))
       by (GroupsAre p lines) j t =
           let f = found_in (λ line. is_same line.name name) lines t in
-          let within = all_at (λ line. IsTrue (active_fits profile p line)) f.0 lines (fits (GroupsAre p lines) j) f.1 in
           let bounds = Bounds f.0.low f.0.high in
           let there = to_flat (λ (line : ActiveValue). cond (is_same line.name name) (Bounds line.low line.high ∷ []) []) f.0 bounds lines f.1 in
-          grind (arith, within, there, f.2, denied_by name (GroupsAre p lines) j bounds, or_right, lt-ltb)
+          grind (arith, fits (GroupsAre p lines) j, all_at, there, f.2, denied_by name (GroupsAre p lines) j bounds, or_right, lt-ltb)
       by fact j t = cc
 
   -- a number that an ask shows is one
@@ -47,8 +45,7 @@ module _ (profile : Profile) (facts : List Fact) (how : Marks) (fitting : AllByR
       → IsFalse (is_denied (asks_of name facts) n) → (1 ≤ n) × (n ≤ profile.limit)
   end_in_limit name n count t few some free =
       let f = found_in (λ ask. is_end ask n) (asks_of name facts) t in
-      let g = from_flat (asks_in name) f.0 facts f.1 in
-      grind (arith, fits g.0 g.1, few f.0 f.1, any_in (λ ask. denies ask n) f.0 (asks_of name facts) f.1, from_flat)
+      grind (arith, from_flat (asks_in name) f.0 facts f.1, fits, few f.0 f.1, any_in (λ ask. denies ask n) f.0 (asks_of name facts) f.1, from_flat)
 
   -- so a number that isn't denied is within it
   pub free_in_limit : (name : Name) → IsTrue (is_shown_group facts name) → (n : ℕ) → IsFalse (is_denied (asks_of name facts) n) → n ≤ profile.limit

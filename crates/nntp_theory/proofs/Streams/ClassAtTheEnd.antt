@@ -55,9 +55,8 @@ pub has_class : (profile : Profile) (client : ClientStream) (server : List ℕ) 
     → HasClass profile client server (length pairs) class
 unfolding pairs_before
 has_class profile client server pairs left class paired h =
-    let up = paired_up start.visible (streams client server) left pairs refl paired in
     let ps = places-prompts client in
-    record { before = pairs_before client server pairs left paired; is_class = grind (arith, pairs_close) }
+    record { before = pairs_before client server pairs left paired; is_class = grind (arith, pairs_close, paired_up start.visible (streams client server) left pairs refl paired) }
 
 pub end_has_class : (profile : Profile) (client : ClientStream) (server : List ℕ) (pairs : List Paired) (left : Unpaired) (class : PairClass) → AreNext (streams client server) pairs left
     → IsBad class left

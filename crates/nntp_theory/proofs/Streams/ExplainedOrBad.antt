@@ -6,7 +6,7 @@ use Rattle.nntp_article.specs.Session.{Spool.{Spool, IsSpool}, Machine.{Run, sta
 use Rattle.nntp_article.specs.declared.session.profile.Profile.{Profile}
 use Rattle.nntp_wire.{specs.{Session.{Spelled, prompts_of, ClientStream}, Answer.{Asked, Response, Spells}}, proofs.SpellsDecided.{some-spelling}}
 use Rattle.nntp_theory.{specs.Inner.Given.{weight}, proofs.{Ids.SizeOfASession.{session_size}, Given.FirstBadAnswer.{run_fewer, none_permitted, holds_or_ends}}}
-use Rattle.nntp_theory.proofs.{Given.GivenSpoolExists.{some_or_none}, Session.LaterPrompts.{spelled_count}, Streams.OneClass.{same_first}}
+use Rattle.nntp_theory.proofs.{Given.SessionsByFacts.{some_or_none}, Session.LaterPrompts.{spelled_count}, Streams.OneClass.{same_first}}
 use Rattle.nntp_pair.proofs.PairLemmas.{lines-few}
 
 -- ---- octets read as far as they spell answers
@@ -23,32 +23,30 @@ record Reading (ps : List Asked) (octets : List ℕ) : Type 0 where
 -- the octets are read as far as they spell answers
 read : (ps : List Asked) (octets : List ℕ) → Reading ps octets
 read [] octets = record { answers = []; spelled = []; rest = octets; is = refl; whole = refl; longest = λ others sp more s e. spelled_count [] others sp s }
-read (p ∷ ps) octets = by (some-spelling p octets) (read ps)
+read (p ∷ ps) octets = elim (some-spelling p octets) [
+  | inr never ↦ record { answers = []; spelled = []; rest = octets; is = refl; whole = refl; longest = none never }
+  | inl (a, b, rest, s, e) ↦
+      let r = read ps rest in
+      record {
+        answers = a ∷ r.answers;
+        spelled = b ++ r.spelled;
+        rest = r.rest;
+        is = (b, r.spelled, s, r.is, refl);
+        whole = e ∙ ap (λ rest. b ++ rest) r.whole ∙ sym (append_assoc b r.spelled r.rest);
+        longest = longer a b rest s e r;
+      }
+]
   where
-    by : ((a : Response) × (b : List ℕ) × (rest : List ℕ) × Spells p a b × (octets ≡ b ++ rest)) ⊎ ((a : Response) (b rest : List ℕ) → Spells p a b → octets ≡ b ++ rest → ⊥)
-        → ((rest : List ℕ) → Reading ps rest) → Reading (p ∷ ps) octets
-    by (inr never) rec = record { answers = []; spelled = []; rest = octets; is = refl; whole = refl; longest = none }
-      where
-        none : (others : List Response) (sp more : List ℕ) → Spelled (p ∷ ps) others sp → octets ≡ sp ++ more → length others ≤ 0
-        none [] sp more s e = omega arith
-        none (a ∷ others) sp more (b, rest, s, more_spelled, whole) e = absurd (never a b (rest ++ more) s (e ∙ ap (λ sp. sp ++ more) whole ∙ append_assoc b rest more))
-    by (inl (a, b, rest, s, e)) rec =
-        let r = rec rest in
-        record {
-          answers = a ∷ r.answers;
-          spelled = b ++ r.spelled;
-          rest = r.rest;
-          is = (b, r.spelled, s, r.is, refl);
-          whole = e ∙ ap (λ rest. b ++ rest) r.whole ∙ sym (append_assoc b r.spelled r.rest);
-          longest = longer r;
-        }
-      where
-        longer : (r : Reading ps rest) (others : List Response) (sp more : List ℕ) → Spelled (p ∷ ps) others sp → octets ≡ sp ++ more → length others ≤ length (a ∷ r.answers)
-        longer r [] sp more t f = omega arith
-        longer r (c ∷ others) sp more (d, tail, t, tail_spelled, whole) f =
-            let same = same_first p a c b d rest tail [] more octets sp s t e whole (append-nil octets ∙ f) in
-            let le = r.longest others tail more tail_spelled (sym (append-nil rest) ∙ same.2) in
-            omega arith
+    none : ((a : Response) (b rest : List ℕ) → Spells p a b → octets ≡ b ++ rest → ⊥) → (others : List Response) (sp more : List ℕ) → Spelled (p ∷ ps) others sp
+        → octets ≡ sp ++ more → length others ≤ 0
+    none never [] sp more s e = omega arith
+    none never (a ∷ others) sp more (b, rest, s, more_spelled, whole) e = grind (arith, never a b (rest ++ more) s, append_assoc)
+
+    longer : (a : Response) (b rest : List ℕ) → Spells p a b → octets ≡ b ++ rest → (r : Reading ps rest) (others : List Response) (sp more : List ℕ) → Spelled (p ∷ ps) others sp → octets ≡ sp ++ more
+        → length others ≤ length (a ∷ r.answers)
+    longer a b rest s e r [] sp more t f = omega arith
+    longer a b rest s e r (c ∷ others) sp more (d, tail, t, tail_spelled, whole) f =
+        grind (arith, same_first p a c b d rest tail [] more octets sp s t e whole, append-nil, r.longest others tail more tail_spelled)
 
 -- of two readings the shorter is the front of the longer
 same_front : (ps : List Asked) (answers others : List Response) (sp tp rest more : List ℕ) → Spelled ps answers sp → Spelled ps others tp → sp ++ rest ≡ tp ++ more → length answers ≤ length others
@@ -95,9 +93,8 @@ module _ (P : Spool → Type 0) (profile : Profile) (client : ClientStream) (ser
         | inl l ↦ none S p (first_explained profile S client server (k + 1) n [] (omega arith) x)
         | inr g ↦
             let z = y.3 in
-            let e = sym x.whole ∙ z.whole in
-            let f = (same_front (prompts_of client) x.answers z.answers x.octets z.octets [] y.1 x.spelled z.spelled e (omega (arith, x.count, z.count))).1 in
-            y.4 (nil_from_length y.1 (omega (arith, f, ap length e, length-append x.octets [], length-append z.octets y.1)))
+            let f = same_front (prompts_of client) x.answers z.answers x.octets z.octets [] y.1 x.spelled z.spelled in
+            y.4 (nil_from_length y.1 (grind (arith, f, length-append x.octets [], length-append z.octets y.1, x.whole, z.whole, x.count, z.count)))
       ]
 
   -- one of them permits the answers
@@ -158,11 +155,8 @@ pub explained_or_bad : (profile : Profile) (client : ClientStream) (server : Lis
     → ((S : Spool) × (n : ℕ) × Explains profile S client server n) ⊎ ((k : ℕ) × Bad profile client server k)
 explained_or_bad profile client server small =
     let base = none_permitted profile (prompts_of client) [] in
-    elim (explained_or_bad_among (λ S. ⊤) profile client server (base.0, base.1, tt, tt) decided) [ inl x ↦ inl (x.0, x.1, x.3) | inr bad ↦ inr bad ]
-  where
-    decided : IsDecided (λ S. ⊤) profile client server
-    decided answers octets rest spelled whole =
-        let most = session_size profile.marks (prompts_of client) answers in
-        let all = ap length whole ∙ length-append octets rest in
-        elim (some_or_none profile (prompts_of client) answers (omega (arith, most, all, light (prompts_of client) answers octets spelled)))
-        [ inl h ↦ inl (h.0, h.1, tt, h.2) | inr none ↦ inr (λ h. none h.0 h.1 h.3) ]
+    elim (explained_or_bad_among (λ S. ⊤) profile client server (base.0, base.1, tt, tt) (λ answers octets rest spelled whole.
+    let most = session_size profile.marks (prompts_of client) answers in
+    let all = ap length whole ∙ length-append octets rest in
+    elim (some_or_none profile (prompts_of client) answers (omega (arith, most, all, light (prompts_of client) answers octets spelled)))
+    [ inl h ↦ inl (h.0, h.1, tt, h.2) | inr none ↦ inr (λ h. none (h.0, h.1, h.3)) ])) [ inl x ↦ inl (x.0, x.1, x.3) | inr bad ↦ inr bad ]

@@ -1,6 +1,6 @@
 -- The class of a bad answer: there is one, and octets that follow leave it where it is settled.
 use Rattle.std.proofs.Common.{◌≡◌, ℕ, ◌+◌, Bool, true, false, IsTrue, List, [], ◌∷◌, ◌++◌, length, Option, Some, inl, inr, refl, sym, ap, subst, ◌∙◌, arith}
-use Rattle.std.proofs.{Common.{append_assoc}, lemmas.{List.{append_cancel_left, append-nil}, Bool.{cases_Bool, true≢false}}}
+use Rattle.std.proofs.{Common.{append_assoc, length-append}, lemmas.{List.{append_cancel_left, append-nil}, Bool.{cases_Bool, true≢false}}}
 use Rattle.nntp_wire.specs.{Answer.{Asked, Response, Spells}, Frame.{frame_octets}, Session.{prompts_of, Spelled, ClientStream, further}}
 use Rattle.nntp_wire.proofs.{SpellLemmas.{spelling-frame, one-frame}, SpellsDecided.{one-spelling, dec_spelling}, FramesDecided.{dec_frame, frame-longer}}
 use Rattle.nntp_article.specs.Session.{Spool.{Spool}, Machine.{Visible, State, Run, start, fits}, Explains.{ExplainsUpTo, ExplainsFirst, BadAmong}}
@@ -8,8 +8,7 @@ use Rattle.nntp_article.specs.declared.session.profile.Profile.{Profile}
 use Rattle.nntp_pair.specs.{Pairing.{IsCut, IsMalformed}, declared.class.Class.{Class, TheVariants.{Surplus, Cut, Malformed, OutOfPlace, Contradiction}}}
 use Rattle.nntp_pair.proofs.PairingLemmas.{some-stay}
 use Rattle.nntp_theory.proofs.Session.LaterPrompts.{prompts_joined, spelled_longer, run_longer, run_shorter, spelled_count, visible_longer, asked_longer}
-use Rattle.nntp_theory.{proofs.Session.LaterPrompts.{asked_count}, specs.Classes.{visible_from, asked_next, AnswersFirst, BeginsWithAnswer, IsOpenClass}}
-use Rattle.nntp_theory.specs.Classes.{IsClass, left_visible, HasClass, IsClosedBefore, IsSettled}
+use Rattle.nntp_theory.specs.Classes.{visible_from, asked_next, AnswersFirst, BeginsWithAnswer, IsClass, left_visible, HasClass, IsClosedBefore, IsSettled}
 
 -- ---- one answer more
 
@@ -98,10 +97,7 @@ class_once closed profile v next octets c d h k = grind (arith, not_cut, not_mal
 
 some_class : (closed : Bool) (profile : Profile) (v : Visible) (next : Option Asked) (octets : List ℕ) → (class : Class) × IsClass closed profile v next octets class
 some_class false profile v (Some asked) octets = elim (dec_spelling asked octets) [
-  | inl (r, b, rest, s, e) ↦ elim (cases_Bool (fits profile v asked r)) [
-    | inl t ↦ (Contradiction, record { response = r; front = b; rest = rest; spells = s; whole = e; fitting = t })
-    | inr f ↦ (OutOfPlace, record { response = r; front = b; rest = rest; spells = s; whole = e; fitting = f })
-  ]
+  | inl (r, b, rest, s, e) ↦ elim (cases_Bool (fits profile v asked r)) [ inl t ↦ (Contradiction, search (s, e, t)) | inr f ↦ (OutOfPlace, search (s, e, f)) ]
   | inr none ↦ elim (dec_frame asked octets) [
     | inl (line, block, rest, f) ↦ (Malformed, record { initial = line; block = block; rest = rest; frame = f; nothing = λ r s. none (r, frame_octets line block, rest, s, f.whole) })
     | inr no_frame ↦ (Cut, λ line block rest f. no_frame (line, block, rest, f))
@@ -152,9 +148,6 @@ visible_stays : (client : ClientStream) (server more_client : List ℕ) (k : ℕ
 visible_stays client server more_client k b =
     grind (arith, prompts_joined client more_client, spelled_count (prompts_of client) b.answers b.octets b.spelled, visible_longer start.visible (prompts_of client))
 
-malformed_longer : (asked : Asked) (octets more : List ℕ) → IsMalformed asked octets → IsMalformed asked (octets ++ more)
-malformed_longer asked octets more m = grind (arith, frame-longer, true≢false, cases_Bool, append_assoc)
-
 -- where a frame is whole, or the connection closed
 abbrev pub settled : Class → Bool → Type 0
 settled Surplus closed = closed ≡ true
@@ -166,21 +159,16 @@ settled_by : (profile : Profile) (client : ClientStream) (server : List ℕ) (k 
 settled_by profile client server k Surplus h s = closed_before client server k h.before s.before ∙ s.closed
 settled_by profile client server k class h s = grind arith
 
-open_longer : (profile : Profile) (v : Visible) (asked : Asked) (octets more : List ℕ) (class : Class) → settled class false
-    → IsOpenClass profile v asked octets class → IsOpenClass profile v asked (octets ++ more) class
-open_longer profile v asked octets more class s h = grind (arith, malformed_longer, append_assoc)
-
 class_longer : (closed : Bool) (profile : Profile) (v : Visible) (ps qs : List Asked) (answers : List Response) (octets more : List ℕ) (class : Class) → settled class closed
     → IsClass closed profile v (asked_next ps answers) octets class → IsClass closed profile v (asked_next (ps ++ qs) answers) (octets ++ more) class
 class_longer true profile v ps qs answers octets more class s h = h
-class_longer false profile v ps qs answers octets more class s h = grind (arith, asked_longer ps qs answers, open_longer profile v)
+class_longer false profile v ps qs answers octets more class s h = grind (arith, asked_longer ps qs answers, frame-longer, true≢false, cases_Bool, append_assoc)
 
 -- a connection that is closed before an answer stays so
 closed_longer : (client : ClientStream) (server more_client more_server : List ℕ) (k : ℕ) → IsClosedBefore client server k → IsClosedBefore (further client more_client) (server ++ more_server) k
 unfolding before_longer
 closed_longer client server more_client more_server k c =
-    let same = visible_stays client server more_client k c.before in
-    record { before = before_longer client server more_client more_server k c.before; closed = ap (λ (v : Visible). v.closed) same ∙ c.closed }
+    record { before = before_longer client server more_client more_server k c.before; closed = ap (λ (v : Visible). v.closed) (visible_stays client server more_client k c.before) ∙ c.closed }
 
 -- and a settled class stays settled
 pub settled_stays : (client : ClientStream) (server more_client more_server : List ℕ) (k : ℕ) (class : Class) → IsSettled client server k class
@@ -204,8 +192,7 @@ module _ (profile : Profile) (client : ClientStream) (server more_client more_se
   explains_shorter : (T : Spool) → (ExplainsFirst profile T client server k → ⊥) → ExplainsFirst profile T (further client more_client) (server ++ more_server) k → ⊥
   unfolding before_longer class_stays
   explains_shorter T none (more, y) =
-      let next = asked_next (prompts_of client) b.answers in
-      by v.closed next refl (subst (λ class. IsClass v.closed profile v next b.rest class) same h.is_class)
+      by v.closed (asked_next (prompts_of client) b.answers) refl (subst (λ class. IsClass v.closed profile v (asked_next (prompts_of client) b.answers) b.rest class) same h.is_class)
     where
       b : AnswersFirst client server k
       b = h.before
@@ -216,26 +203,22 @@ module _ (profile : Profile) (client : ClientStream) (server more_client more_se
       same : class ≡ Contradiction
       same = contradicted profile (further client more_client) (server ++ more_server) k class class_stays T more y
 
-      m : OneMore (prompts_of (further client more_client)) b.answers y.answers (b.rest ++ more_server) more
-      m = one_answer profile (further client more_client) (server ++ more_server) k class class_stays T more y
-
       -- the same answer stands in front of the shorter octets
       by : (closed : Bool) (next : Option Asked) → asked_next (prompts_of client) b.answers ≡ next → IsClass closed profile v next b.rest Contradiction → ⊥
       by false (Some asked) e a =
           let q = prompts_joined client more_client in
-          let next = ap (λ ps. asked_next ps b.answers) q.1 ∙ asked_longer (prompts_of client) q.0 b.answers asked e in
-          let same : m.asked ≡ asked = (let f = sym m.next ∙ next in cc) in
-          let one = one-spelling asked a.response m.response a.front m.front (a.rest ++ more_server) more a.spells (subst (λ p. Spells p m.response m.front) same m.spells)
-          (sym (ap (λ o. o ++ more_server) a.whole ∙ append_assoc a.front a.rest more_server) ∙ m.whole) in
-          let answers : y.answers ≡ b.answers ++ a.response ∷ [] = m.is ∙ ap (λ r. b.answers ++ r ∷ []) (sym one.0) in
-          let few = asked_count (prompts_of client) b.answers asked e in
-          let count = y.count in
-          let kept = b.count in
-          let run = run_shorter profile T start (prompts_of client) q.0 y.answers (omega arith) (subst (λ ps. Run profile T start ps y.answers) q.1 y.run) in
-          let spelled = spelled_snoc (prompts_of client) b.answers b.octets a.front asked a.response b.spelled e a.spells in
-          let explained : ExplainsUpTo profile T client server (k + 1) a.rest =
-          search (arith, run, subst (λ answers. Spelled (prompts_of client) answers (b.octets ++ a.front)) (sym answers) spelled, y.is_spool, y.count, b.whole, a.whole, append_assoc) in
-          none (a.rest, explained)
+          let c : AnswersFirst client server (k + 1) = record {
+            answers = b.answers ++ a.response ∷ [];
+            octets = b.octets ++ a.front;
+            rest = a.rest;
+            count = omega (arith, length-append b.answers (a.response ∷ []), b.count);
+            spelled = spelled_snoc (prompts_of client) b.answers b.octets a.front asked a.response b.spelled e a.spells;
+            whole = grind (arith, b.whole, a.whole, append_assoc);
+          } in
+          let d : AnswersFirst (further client more_client) (server ++ more_server) (k + 1) =
+          record { answers = y.answers; octets = y.octets; rest = more; count = y.count; spelled = y.spelled; whole = y.whole } in
+          let answers = (one_before (further client more_client) (server ++ more_server) (k + 1) (before_longer client server more_client more_server (k + 1) c) d).0 in
+          none (a.rest, grind (arith, run_shorter profile T start (prompts_of client) q.0 c.answers, spelled_count (prompts_of client) c.answers c.octets c.spelled))
       by closed next e c = grind arith
 
   -- the answer is still bad among the same spools
@@ -243,7 +226,6 @@ module _ (profile : Profile) (client : ClientStream) (server more_client more_se
   bad_stays P ((S, rest, p, x, some), none) =
       let q = prompts_joined client more_client in
       let run = run_longer profile S start (prompts_of client) q.0 x.answers x.run in
-      let spelled = spelled_longer (prompts_of client) q.0 x.answers x.octets x.spelled in
       let longer : ExplainsUpTo profile S (further client more_client) (server ++ more_server) k (rest ++ more_server) =
-      search (arith, q.1, run, spelled, x.is_spool, x.count, x.whole, append_assoc) in
+      search (arith, q.1, run, spelled_longer (prompts_of client) q.0 x.answers x.octets x.spelled, x.is_spool, x.count, x.whole, append_assoc) in
       ((S, rest ++ more_server, p, longer, some-stay rest more_server some), λ T p. explains_shorter T (none T p))

@@ -11,8 +11,8 @@ use Rattle.nntp_theory.specs.{Given.{IsGiven, facts_of_session}, Inner.{Given.{s
 use Rattle.nntp_theory.{specs.{Classes.{visible_from}, Outcome.{Outcome, Yes, No, IsOutcome, IsLeastExplanation}}, proofs.Streams.OneClass.{before_bad}}
 use Rattle.nntp_theory.proofs.Streams.{OneClass.{class_there, one_class}, ExplainedPairs.{by_pairs, by_all_pairs}, ExplainedOrBad.{explained_or_bad}}
 use Rattle.nntp_theory.proofs.Streams.{ExplainedOrBad.{explained_not_bad, bad_once}, PairedStreams.{explained_end, bad_end, bad_answer, answer_has_class}}
-use Rattle.nntp_theory.proofs.{Streams.PairedStreams.{unfitting}, Given.{GivenSpoolExists.{made_for, given_exists}, OneGivenSpool.{given_once}}}
-use Rattle.nntp_theory.proofs.{Given.GivenPermits.{stands, given_permits, given_is_least}, Session.OneMoreAnswer.{size_by_octets, facts_by_pairs, pairs_run}}
+use Rattle.nntp_theory.proofs.{Streams.PairedStreams.{unfitting}, Given.{SessionsByFacts.{given_exists}, OneGivenSpool.{given_once}, GivenPermits.{stands}}}
+use Rattle.nntp_theory.proofs.{Given.GivenPermits.{given_permits, given_is_least}, Session.OneMoreAnswer.{size_by_octets, facts_by_pairs, pairs_run}}
 use Rattle.nntp_theory.proofs.Session.{OneMoreAnswer.{pairs_permitted, prompts_of_pairs, as_few}, LaterPrompts.{visible_longer}}
 
 -- ---- one outcome
@@ -53,10 +53,9 @@ one_outcome profile client server h k x y = search (arith, explained_not_bad)
 pub some_outcome : (profile : Profile) (client : ClientStream) (server : List ℕ) → length server < 2 ^ 210 → (h : Outcome) × IsOutcome profile client server h
 some_outcome profile client server small = elim (explained_or_bad profile client server small) [
   | inl (S, n, x) ↦
-      let G = made_for profile (prompts_of client) x.answers in
       let few = few_facts profile S client server n x small in
       let given = given_exists profile (prompts_of client) x.answers (stands profile S (prompts_of client) x.answers x.is_spool x.run).0 few in
-      (Yes G n, given_explains profile S G client server n x few given)
+      (Yes _ n, given_explains profile S _ client server n x few given)
   | inr (k, is_bad) ↦ let c = class_there profile client server k (before_bad (λ S. ⊤) profile client server k is_bad) in (No k c.0, (is_bad, c.1))
 ]
 
@@ -118,8 +117,7 @@ module _ (profile : Profile) (client : ClientStream) (server : List ℕ) (pairs 
   pub outcome_at_unfitting : SomePermits profile (asked_of pairs) (responses_of pairs) → fits profile v (asked_at pair.place) pair.response ≡ false
       → IsOutcome profile client server (No (length pairs) OutOfPlace)
   outcome_at_unfitting (S, spool, run) e =
-      let unfit = ap (λ v. fits profile v (asked_at pair.place) pair.response) same_visible ∙ e in (
-        bad_answer profile client server pairs pair before after paired next (λ S. ⊤) S spool tt ((pairs_run profile S client server pairs before paired).1 run)
-            (λ T spool u run. unfitting profile client server pairs pair before after paired next unfit (T, spool, run)),
-        answer_has_class profile client server pairs pair before after paired next false unfit,
-      )
+      let unfit = ap (λ v. fits profile v (asked_at pair.place) pair.response) same_visible ∙ e in
+      let bad = bad_answer profile client server pairs pair before after paired next (λ S. ⊤) S spool tt ((pairs_run profile S client server pairs before paired).1 run) in
+      let none = unfitting profile client server pairs pair before after paired next unfit in
+      (bad (λ T spool u run. none (T, spool, run)), answer_has_class profile client server pairs pair before after paired next false unfit)

@@ -1,20 +1,42 @@
 -- What holds of a spool stands together.
 use Rattle.nntp_theory.proofs.Members.{if_some, at_some, first_is, In, all_at, all_front, all_back, all_both, all_from, any_in, found_in, in_map, from_map}
-use Rattle.nntp_theory.proofs.{Members.{contains_in, in_contains, first_found, first_there}, Together.ListedOverviews.{overview_at, overview_of, told_by}}
-use Rattle.nntp_theory.{proofs.GivenNumbers.{MetNumbersStand.{asks_stand}, AskedOfAGroup.{met_by_facts}}, specs.Given.{asks_of, shows_group, is_shown_group}}
-use Rattle.nntp_theory.specs.Given.{first_given, id_of_overview, id_in, id_shown, has_overview_of, head_in, fields_of_overview, fields_in, body_in}
-use Rattle.nntp_theory.specs.{Inner.Together.{IsProperOverview, IsWellFormed, TellsOwn, AgreesWithItself, Together}, Together.{denies_group}}
-use Rattle.nntp_theory.specs.Together.{number_of_overview, number_in, shows_article, denies_article, GiveOne}
-use Rattle.std.proofs.Common.{◌≡◌, ℕ, ◌↔◌, Bool, true, cond, IsTrue, List, ◌++◌, map, Option, None, Some, is_some, IsSome, refl, sym, ap, subst, ◌∙◌, arith}
-use Rattle.std.proofs.lemmas.{Bool.{true≢false, and_parts, eqb-true, eq-eqb, false_from_ne_true, not-true}, List.Elements.{recursion_from_All}}
+use Rattle.nntp_theory.proofs.{Members.{contains_in, in_contains, first_found, first_there, all_parts}, Together.ListedOverviews.{overview_at, overview_of}}
+use Rattle.nntp_theory.{proofs.{Together.ListedOverviews.{told_by}, GivenNumbers.MetNumbersStand.{asks_stand}}, specs.Given.{asks_of, shows_group}}
+use Rattle.nntp_theory.specs.Given.{is_shown_group, first_given, id_of_overview, id_in, id_shown, has_overview_of, head_in, fields_of_overview, fields_in}
+use Rattle.nntp_theory.specs.{Given.{body_in, asks_in}, Inner.Together.{IsProperOverview, IsWellFormed, TellsOwn, AgreesWithItself, Together}}
+use Rattle.nntp_theory.specs.Together.{denies_group, number_of_overview, number_in, shows_article, denies_article, GiveOne}
+use Rattle.std.proofs.Common.{◌≡◌, ℕ, ◌↔◌, Bool, true, cond, IsTrue, List, ◌++◌, map, Option, None, Some, is_some, IsSome, refl, sym, ap, subst, ◌∙◌, arith, []}
+use Rattle.std.proofs.{Common.{◌∷◌}, lemmas.{Bool.{true≢false, and_parts, eqb-true, eq-eqb, false_from_ne_true, not-true}, List.Elements.{recursion_from_All}}}
 use Rattle.std.specs.{Prelude.{IfSome, option_map}, List.{AllByRecursion, list_any}, Option.{option_map_or}, Cmp.Lexicographic.{same_text, nat_list_eq_equiv}}
 use Rattle.std.specs.FinMap.{get}
 use Rattle.nntp_article.specs.{Article.{Parts.{Line, Id, body_part}, Fields.{fields_of_head}}, Session.Spool.{Spool, Text, IsGroup, numbers, IsSpool, HasText}}
-use Rattle.nntp_article.specs.{Session.{Spool.{text_of, is_line, Name}, Machine.{is_same, HasOverview}}, Inner.Fields.{AreWords}}
+use Rattle.nntp_article.specs.{Session.{Spool.{text_of, is_line, Name}, Machine.{is_same, HasOverview, overview_numbers}}, Inner.Fields.{AreWords}}
 use Rattle.nntp_article.proofs.ArticleLemmas.{HeadHasNoEmptyLine.{parts}, WordsOfLines.{head_has_words}}
 use Rattle.nntp_wire.specs.{Listing.{Fields, ActiveValue, OverviewValue}, Wildmat.{MatchesName}, Decided.{matches_name}, Name.{IsGroupName}}
 use Rattle.nntp_wire.{specs.declared.command.What.{What, TheVariants.{Article}}, proofs.DecidedLemmas.{matches_name-iff}}
-use Rattle.nntp_said.specs.Facts.{Fact, Holds, ThereIs, ThereIsNo, IdAt, TextIs, NoArticle, FieldsAre, OverviewsAre, GroupsAre}
+use Rattle.nntp_said.specs.{Facts.{Fact, Holds, ThereIs, ThereIsNo, IdAt, TextIs, NoArticle, FieldsAre, OverviewsAre, GroupsAre}, Asks.{Ask, Meets, ListsIn}}
+use Rattle.nntp_said.specs.Asks.{Has, Bounds}
+
+-- ---- what is asked of one group
+
+-- what is asked under the test of the name
+if_same : (S : Spool) (name g : Name) (ask : Ask) → Meets (numbers S g) ask → (b : Bool) → is_same g name ≡ b → AllByRecursion (Meets (numbers S name)) (cond b (ask ∷ []) [])
+if_same S name g ask h b e = grind (arith, same_text)
+
+-- what one fact asks of a group
+met_by_one : (S : Spool) (name : Name) (fact : Fact) → Holds S fact → AllByRecursion (Meets (numbers S name)) (asks_in name fact)
+met_by_one S name (IdAt g n id) h = if_same S name g (Has n) (ap is_some h) (is_same g name) refl
+met_by_one S name (OverviewsAre g r os) h = if_same S name g (ListsIn r (overview_numbers os)) h.0 (is_same g name) refl
+met_by_one S name (GroupsAre p lines) h =
+    let each = recursion_from_All _ lines h.1 in
+    all_parts (Meets (numbers S name)) _ lines (λ line i. if_same S name line.name (Bounds line.low line.high) (all_at _ line lines each i) (is_same line.name name) refl)
+met_by_one S name fact h = grind (arith, if_same)
+
+-- what all that a session says asks of a group
+pub met_by_facts : (S : Spool) (name : Name) (facts : List Fact) → AllByRecursion (Holds S) facts → AllByRecursion (Meets (numbers S name)) (asks_of name facts)
+met_by_facts S name facts h = all_parts (Meets (numbers S name)) (asks_in name) facts (λ fact i. met_by_one S name fact (all_at (Holds S) fact facts h i))
+
+-- ---- what facts say
 
 -- a text is the same as itself
 pub same_itself : (xs : List ℕ) → is_same xs xs ≡ true
@@ -99,9 +121,9 @@ module _ (limit : ℕ) (S : Spool) (facts : List Fact) (spool : IsSpool limit S)
   article_denied id (NoArticle other) h there t = grind (arith, same_text other id)
   article_denied id fact h there t = cc
 
-  -- S has an article of the id, with a part that is these lines
-  HasPart : (Text → List Line) → Id → List Line → Type 0
-  HasPart part id lines = (t : Text) × (get S.articles id ≡ Some t) × (part t ≡ lines)
+  -- S has an article of the id, with a part that is this
+  HasPart : {A : Type 0} → (Text → A) → Id → A → Type 0
+  HasPart part id x = (t : Text) × (get S.articles id ≡ Some t) × (part t ≡ x)
 
   -- and under the test of the id
   has_part : (part : Text → List Line) (id other : Id) (t : Text) (ls lines : List Line) → get S.articles other ≡ Some t
@@ -121,36 +143,30 @@ module _ (limit : ℕ) (S : Spool) (facts : List Fact) (spool : IsSpool limit S)
       has_part (λ t. t.body) id other a.0 (body_part ls) lines a.1 (grind (arith, a, parts a.0.head a.0.body)) (is_same other id) refl e
   body_by_one id lines fact h e = grind (arith, article_of, has_part)
 
-  -- S has an article of the id, whose head tells this
-  HasFields : Id → Fields → Type 0
-  HasFields id fields = (t : Text) × (get S.articles id ≡ Some t) × (fields_of_head t.head ≡ fields)
+  -- what its head tells
+  abbrev fields : Text → Fields
+  fields t = fields_of_head t.head
 
-  -- what overviews tell of an id does
-  fields_by_overviews : (id : Id) (fields : Fields) (os : List OverviewValue) → AllByRecursion (HasOverview S) os → first_given (fields_of_overview id) os ≡ Some fields → HasFields id fields
-  unfolding HasFields
-  fields_by_overviews id fields os h e = grind (arith, told_by os id fields e, overview_text, all_at (HasOverview S))
+  -- what overviews tell of an id its head does
+  fields_by_overviews : (id : Id) (told : Fields) (os : List OverviewValue) → AllByRecursion (HasOverview S) os → first_given (fields_of_overview id) os ≡ Some told → HasPart fields id told
+  unfolding HasPart
+  fields_by_overviews id told os h e = grind (arith, told_by os id told e, overview_text, all_at (HasOverview S))
 
-  -- so does what one fact tells
-  fields_by_one : (id : Id) (fields : Fields) (fact : Fact) → Holds S fact → fields_in id fact ≡ Some fields → HasFields id fields
-  unfolding HasPart HasFields
-  fields_by_one id fields (FieldsAre os) h e = fields_by_overviews id fields os h e
-  fields_by_one id fields (OverviewsAre name r os) h e = grind (arith, fields_by_overviews id fields os, all_from, all_at)
-  fields_by_one id fields fact h e = by_head (head_in id fact) refl e
-    where
-      some_same : {x y : Fields} → Some x ≡ Some y → x ≡ y
-      some_same e = cc
+  -- so does the head that is sent
+  by_head : (id : Id) (told : Fields) (o : Option (List Line)) → ((lines : List Line) → o ≡ Some lines → HasPart (λ t. t.head) id lines)
+      → option_map fields_of_head o ≡ Some told → HasPart fields id told
+  unfolding HasPart
+  by_head id told (Some lines) p e = let q = p lines refl in (q.0, q.1, grind (arith, q))
+  by_head id told None p e = cc
 
-      by_head : (o : Option (List Line)) → head_in id fact ≡ o → option_map fields_of_head o ≡ Some fields → HasFields id fields
-      by_head None is e = cc
-      by_head (Some lines) is e = let p = head_by_one id lines fact h is in (p.0, p.1, ap fields_of_head p.2 ∙ some_same e)
-
-  -- an article has one head
-  fields_once : (id : Id) (x y : Fields) → HasFields id x → HasFields id y → x ≡ y
-  unfolding HasFields
-  fields_once id x y h g = grind arith
+  -- and what one fact tells
+  fields_by_one : (id : Id) (told : Fields) (fact : Fact) → Holds S fact → fields_in id fact ≡ Some told → HasPart fields id told
+  fields_by_one id told (FieldsAre os) h e = fields_by_overviews id told os h e
+  fields_by_one id told (OverviewsAre name r os) h e = grind (arith, fields_by_overviews id told os, all_from, all_at)
+  fields_by_one id told fact h e = by_head id told (head_in id fact) (λ lines. head_by_one id lines fact h) e
 
   -- an article has one such part
-  part_once : (part : Text → List Line) (id : Id) (x y : List Line) → HasPart part id x → HasPart part id y → x ≡ y
+  part_once : {A : Type 0} (part : Text → A) (id : Id) (x y : A) → HasPart part id x → HasPart part id y → x ≡ y
   unfolding HasPart
   part_once part id x y h g = grind arith
 
@@ -160,9 +176,9 @@ module _ (limit : ℕ) (S : Spool) (facts : List Fact) (spool : IsSpool limit S)
   head_in_S id lines e = let f = first_found (head_in id) facts lines e in head_by_one id lines f.0 (of_fact f.0 f.1) f.2
 
   -- what is told of an id, its head in S tells
-  pub fields_in_S : (id : Id) (fields : Fields) → first_given (fields_in id) facts ≡ Some fields → (t : Text) × (get S.articles id ≡ Some t) × (fields_of_head t.head ≡ fields)
-  unfolding HasFields
-  fields_in_S id fields e = let f = first_found (fields_in id) facts fields e in fields_by_one id fields f.0 (of_fact f.0 f.1) f.2
+  pub fields_in_S : (id : Id) (told : Fields) → first_given (fields_in id) facts ≡ Some told → (t : Text) × (get S.articles id ≡ Some t) × (fields t ≡ told)
+  unfolding HasPart
+  fields_in_S id told e = let f = first_found (fields_in id) facts told e in fields_by_one id told f.0 (of_fact f.0 f.1) f.2
 
   -- a body that is sent is S's
   pub body_in_S : (id : Id) (lines : List Line) → first_given (body_in id) facts ≡ Some lines → (t : Text) × (get S.articles id ≡ Some t) × (t.body ≡ lines)
@@ -193,10 +209,10 @@ module _ (limit : ℕ) (S : Spool) (facts : List Fact) (spool : IsSpool limit S)
 
   -- overviews tell of an id what its article tells
   fields_given : (os : List OverviewValue) → AllByRecursion (HasOverview S) os → (o : OverviewValue) → In o os → TellsOwn os o
-  unfolding HasFields
+  unfolding HasPart
   fields_given os h o i =
       let first = first_there (fields_of_overview o.id) os o in
-      grind (arith, first, same_itself, overview_text o, all_at (HasOverview S) o os h i, fields_once o.id, fields_by_overviews)
+      grind (arith, first, same_itself, overview_text o, all_at (HasOverview S) o os h i, part_once fields o.id, fields_by_overviews)
 
   -- overviews agree with one another, as S has one id at a number, and one number for an id
   agrees_with_itself : (fact : Fact) → Holds S fact → AgreesWithItself fact
@@ -229,6 +245,6 @@ module _ (limit : ℕ) (S : Spool) (facts : List Fact) (spool : IsSpool limit S)
             (number_in name id) facts (λ fact i n e. number_by_one name id n fact (of_fact fact i) e);
         articles = grind (arith, false_from_ne_true, found_in, article_denied, of_fact, article_by_one);
         heads = λ id. give_one (HasPart (λ t. t.head) id) (part_once (λ t. t.head) id) (head_in id) facts (λ fact i lines e. head_by_one id lines fact (of_fact fact i) e);
-        fields = λ id. give_one (HasFields id) (fields_once id) (fields_in id) facts (λ fact i fields e. fields_by_one id fields fact (of_fact fact i) e);
+        fields = λ id. give_one (HasPart fields id) (part_once fields id) (fields_in id) facts (λ fact i told e. fields_by_one id told fact (of_fact fact i) e);
         bodies = λ id. give_one (HasPart (λ t. t.body) id) (part_once (λ t. t.body) id) (body_in id) facts (λ fact i lines e. body_by_one id lines fact (of_fact fact i) e);
       }

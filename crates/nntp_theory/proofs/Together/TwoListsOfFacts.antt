@@ -1,9 +1,10 @@
 -- What two lists of facts show, deny and give.
-use Rattle.std.proofs.Common.{◌≡◌, Bool, false, ◌||◌, ◌&&◌, cond, IsTrue, List, [], ◌∷◌, ◌++◌, Option, None, Some, refl, ap, ◌∙◌, arith}
-use Rattle.std.{proofs.lemmas.{Bool.{true≢false, or_left, or_right, or_cases, false_from_ne_true}, List.Folds.{list_any-append}}, specs.Prelude.{IsFalse}}
-use Rattle.std.specs.{Prelude.{IfSome}, List.{AllByRecursion, list_any}, Option.{option_or}}
+use Rattle.nntp_theory.{proofs.Members.{first_found, all_both, all_back, all_from, all_at}, specs.{Given.{first_given}, Together.{GiveOne}}}
+use Rattle.nntp_theory.specs.Inner.Together.{GiveSame}
+use Rattle.std.proofs.{Common.{◌≡◌, Bool, false, ◌||◌, cond, IsTrue, List, [], ◌∷◌, ◌++◌, Option, None, refl, ap, ◌∙◌, arith}, lemmas.Bool.{true≢false}}
+use Rattle.std.{proofs.lemmas.{Bool.{or_left, or_right, or_cases, false_from_ne_true}, List.Folds.{list_any-append}}, specs.Prelude.{IsFalse}}
+use Rattle.std.specs.{List.{list_any}, Option.{option_or}}
 use Rattle.nntp_said.specs.Facts.{Fact}
-use Rattle.nntp_theory.{specs.{Given.{first_given}, Together.{GiveOne}, Inner.Together.{GiveSame}}, proofs.Members.{all_both, all_back, all_from, all_at}}
 
 -- ---- tests
 
@@ -47,10 +48,6 @@ or_none o = grind arith
 pub none_if : {A : Type 0} (b : Bool) → cond {A = Option A} b None None ≡ None
 none_if b = grind arith
 
--- what is given under two tests is given under both
-pub both_if : {A : Type 0} (a b : Bool) (x : A) → cond a (cond b (Some x) None) None ≡ cond (a && b) (Some x) None
-both_if a b x = grind arith
-
 -- where more facts give nothing, what is given is as before
 pub given_silent : {A : Type 0} (f : Fact → Option A) (facts more : List Fact) → first_given f more ≡ None → first_given f (facts ++ more) ≡ first_given f facts
 given_silent f facts more none = given_append f facts more ∙ ap (λ o. option_or (first_given f facts) o) none ∙ or_none (first_given f facts)
@@ -61,12 +58,4 @@ give_one_both {A} f facts more one within same = grind (arith, all_both, all_fro
 
 -- and back
 pub give_same_of_both : {A : Type 0} (f : Fact → Option A) (facts more : List Fact) → GiveOne f (facts ++ more) → GiveSame f facts more
-give_same_of_both {A} f facts more one = grind (arith, found, all_back, whole)
-  where
-    whole : first_given f (facts ++ more) ≡ option_or (first_given f facts) (first_given f more)
-    whole = given_append f facts more
-
-    -- what the first of more facts that gives something gives
-    found : (xs : List Fact) (x : A) → first_given f xs ≡ Some x → AllByRecursion (λ fact. IfSome (f fact) (λ x. first_given f (facts ++ more) ≡ Some x)) xs → first_given f (facts ++ more) ≡ Some x
-    found [] x e h = cc
-    found (fact ∷ xs) x e h = grind (arith, found xs x)
+give_same_of_both {A} f facts more one = grind (arith, first_found, all_at, all_back, given_append)

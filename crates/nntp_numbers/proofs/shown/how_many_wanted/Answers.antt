@@ -1,4 +1,4 @@
-use Rattle.nntp_numbers.{proofs.PassingNumbers.{all_wanted}, specs.Inner.Summary.{has}}
+use Rattle.nntp_numbers.{proofs.Tallies.{all_wanted}, specs.Inner.Summary.{has}}
 use Rattle.nntp_numbers.proofs.shown.how_many_wanted.Goals as goal
 
 pub returns-in-NotEmpty : goal.returns-in-NotEmpty

@@ -1,5 +1,6 @@
 use Rattle.nntp_article.specs.Session.Spool.{numbers}
-use Rattle.nntp_theory.{specs.Given.{asks_of}, proofs.GivenNumbers.{MetNumbersStand.{asks_stand}, GivenNumbersMeet.{given_meet}, AskedOfAGroup.{met_by_facts}}}
+use Rattle.nntp_theory.{specs.Given.{asks_of}, proofs.GivenNumbers.{MetNumbersStand.{asks_stand}, GivenNumbersMeet.{given_meet}}}
+use Rattle.nntp_theory.proofs.Together.FactsOfASpoolStand.{met_by_facts}
 use Rattle.nntp_theory.proofs.laws.given_numbers_meet_what_is_asked.Goals as goal
 
 pub returns : goal.returns

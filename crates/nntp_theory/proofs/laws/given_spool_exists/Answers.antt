@@ -1,4 +1,4 @@
-use Rattle.nntp_theory.proofs.Given.{GivenSpoolExists.{made_for, given_exists}, GivenPermits.{stands}}
+use Rattle.nntp_theory.proofs.Given.{SessionsByFacts.{made_for, given_exists}, GivenPermits.{stands}}
 use Rattle.nntp_theory.proofs.laws.given_spool_exists.Goals as goal
 
 pub returns : goal.returns

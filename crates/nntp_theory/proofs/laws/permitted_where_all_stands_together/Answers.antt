@@ -1,4 +1,4 @@
-use Rattle.nntp_theory.proofs.{Given.{GivenPermits.{stands, given_permits}, GivenSpoolExists.{made_for, given_exists}}, Together.FactsOfASpoolStand.{stand}}
+use Rattle.nntp_theory.proofs.{Given.{GivenPermits.{stands, given_permits}, SessionsByFacts.{made_for, given_exists}}, Together.FactsOfASpoolStand.{stand}}
 use Rattle.nntp_theory.proofs.laws.permitted_where_all_stands_together.Goals as goal
 
 pub returns : goal.returns

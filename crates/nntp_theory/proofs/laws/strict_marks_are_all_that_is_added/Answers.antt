@@ -1,5 +1,6 @@
 use Rattle.std.{proofs.Common.{subst}, specs.List.{AllByRecursion}}
-use Rattle.nntp_theory.{specs.Given.{facts_of_session}, proofs.{Session.NumbersOfShownGroups.{Placed, session_placed}, GivenNumbers.StrictMarks.{none_more}}}
+use Rattle.nntp_theory.{specs.Given.{facts_of_session}, proofs.Session.NumbersOfShownGroups.{Placed, session_placed}}
+use Rattle.nntp_theory.proofs.GivenNumbers.GivenNumbersMeet.{none_more}
 use Rattle.nntp_theory.proofs.laws.strict_marks_are_all_that_is_added.Goals as goal
 
 pub returns : goal.returns

@@ -1,4 +1,4 @@
-use Rattle.std.proofs.{Common.{sym, ◌∙◌}, lemmas.Bool.{true≢false}}
+use Rattle.std.proofs.{Common.{arith, sym, ◌∙◌}, lemmas.Bool.{true≢false}}
 use Rattle.nntp_numbers.proofs.{GapsOfAPart.{agrees_open}, MoreAsks.{joins_then, joins_else}, UnseenNumbers.{first_free}}
 use Rattle.nntp_numbers.{proofs.numbers.Numbers.joins.Goals.{then-agrees, else-agrees}, specs.Inner.{PartView.{said}, Summary.{denied_after}}}
 use Rattle.nntp_numbers.proofs.numbers.Numbers.joins.Goals as goal
@@ -20,8 +20,5 @@ returns-then-leaves g c = λ asks more sum stand bounded says.
 pub returns-else-leaves : goal.returns-else-leaves
 returns-else-leaves g c = λ asks more sum stand bounded says.
     joins_else c.args.self.now _ (said c.args.part.now) c.if-agrees.value _ _ c.self.view_is c.join-demand.ensures c.ends_after-ends.ensures c.if-leaves.false
-    (λ agree opened. elim c.if-agrees.branch [
-      | then-agrees w ↦ true≢false (sym (w.leaves.ensures.1 opened) ∙ sym w.value-is ∙ c.if-leaves.false)
-      | else-agrees w ↦ true≢false (sym ((c.agrees.ensures says.regular).1 agree) ∙ w.if-agrees.false)
-    ])
+    (λ agree opened. grind (arith, c.if-agrees.branch, true≢false, c.agrees.ensures says.regular))
     asks more sum stand bounded says

@@ -1,5 +1,5 @@
 use Rattle.std.proofs.Common.{sym, arith}
-use Rattle.nntp_numbers.{proofs.FirstFreeOfAPart.{may_begin, first_of_part}, specs.Inner.PartView.{said}}
+use Rattle.nntp_numbers.{proofs.GapsOfAPart.{may_begin, first_of_part}, specs.Inner.PartView.{said}}
 use Rattle.nntp_numbers.proofs.numbers_part.NumbersPart.first_free.Goals as goal
 
 pub returns-in-Some : goal.returns-in-Some
@@ -8,7 +8,6 @@ returns-in-Some g c = λ regular all.
     let n = c.in-Some.n.now in
     let head = sym c.in-Some.ensures.value in
     let begins = may_begin c.args.denied.now p regular all n head in
-    let fits = regular.high in
     let up = c.free_before.ensures.up begins.3 in
     let from = c.free_before.ensures.from (grind (arith, c.max-start.ensures)) in (
       omega arith,

@@ -1,5 +1,5 @@
 use Rattle.std.proofs.{Common.{arith, ◌≡◌, ◌||◌, ◌==◌}, lemmas.Bool.Decides.{nat_tests}}
-use Rattle.nntp_numbers.{proofs.{Tallies.{tally_no_ends, tally_ends}, tally.Tally.of.Goals.{then-ends, else-ends}}, specs.Inner.Summary.{shown_after}}
+use Rattle.nntp_numbers.{proofs.Tallies.{tally_no_ends, tally_ends}, specs.Inner.Summary.{shown_after}}
 use Rattle.nntp_numbers.proofs.tally.Tally.of.Goals as goal
 
 pub returns-in_default-clause-tally : goal.returns-in_default-clause-tally
@@ -9,9 +9,6 @@ pub returns-clause-tally : goal.returns-clause-tally
 returns-clause-tally g c = λ up.
     let p = shown_after c.args.shown.now c.args.numbers.now in
     let e = c.in-Some.ends in
-    let there : c.if-ends.high ≡ (p e.high || e.low == e.high) = elim c.if-ends.branch [
-      | then-ends w ↦ grind (arith, nat_tests, w.high-is, w.if-ends.true)
-      | else-ends w ↦ grind (arith, nat_tests, w.high-is, w.is_shown_after-high.ensures, w.if-ends.false)
-    ] in
+    let there : c.if-ends.high ≡ (p e.high || e.low == e.high) = grind (arith, nat_tests, c.if-ends.branch) in
     tally_ends p _ e c.in-Some.is _ _ _
     (c.with-2.ensures.tally (λ n. p n || e.low == n) there (c.with.ensures.tally p c.is_shown_after-low.ensures (c.tally_shown-tally.ensures.tally up)))
