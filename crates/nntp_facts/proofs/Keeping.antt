@@ -1,5 +1,4 @@
 pub mod ArticleReaders
-pub mod BoundGroups
 pub mod CoresFound
 pub mod CountedGroups
 pub mod FactsOfOneGroup
@@ -13,11 +12,8 @@ pub mod KeptGroups
 pub mod KeptIds
 pub mod KeptNames
 pub mod ListedGroups
-pub mod ListedNames
 pub mod ListedOverviews
 pub mod MarksAlone
-pub mod NamedArticles
-pub mod NotedArticles
 pub mod NotedExchange
 pub mod NotedParts
 pub mod NotedSessions
@@ -28,6 +24,4 @@ pub mod RefusedAnswers
 pub mod SaidAgain
 pub mod SaidOfArticles
 pub mod SayingRows
-pub mod SelectedGroupIsShown
-pub mod SilentFacts
 pub mod ToldAnswers

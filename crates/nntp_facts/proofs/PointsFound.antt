@@ -1,6 +1,5 @@
 -- The points about which answers conflict, as code finds them.
-pub mod StatementsRead
-pub mod StatementsTold
+pub mod Statements
 pub mod KindsOfPoints
 pub mod NumbersBeside
 pub mod ArticlesBeside

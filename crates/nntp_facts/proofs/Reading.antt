@@ -1,4 +1,3 @@
-pub mod DueExchanges
 pub mod NotedAsJudged
 pub mod NotedContradictions
 pub mod Standings

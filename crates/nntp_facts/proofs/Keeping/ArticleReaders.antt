@@ -1,14 +1,10 @@
 -- What is shown of the articles that are kept.
-use Rattle.std.proofs.{Common.{◌≡◌, Bool, not, IsTrue, List, [], ◌∷◌, map, Option, None, Some, refl, sym, ap, subst, ◌∙◌, arith}, lemmas.Bool.{true≢false}}
-use Rattle.std.specs.{List.{list_any, filter, AllByRecursion, Sorted.{IsStrictlySortedBy}}, declared.cmp.Ordering.{Ordering, TheVariants.{Less}}}
-use Rattle.std.specs.{Ordering.{nat_cmp}, Cmp.{both_ways, Lexicographic.{slice_cmp, same_text}}, FinMap.{FinMap, get, entries, entries_sorted}}
-use Rattle.nntp_article.specs.{Article.Parts.{Id}, Session.Machine.{is_same}}
-use Rattle.nntp_said.specs.Facts.{Fact}
-use Rattle.nntp_theory.{specs.{Together.{shows_article}, Inner.Together.{said_of}}, proofs.{Maps.{sorted_keys}, Members.{in_map, from_map, any_in, found_in}}}
-use Rattle.nntp_theory.proofs.Together.FactsOfASpoolStand.{same_itself}
-use Rattle.nntp_facts.specs.Inner.{Kept.{KeptArticle, said_kept, AreKeptArticles}, Articles.{is_there, articles_in}, Readers.{ShownArticle, IsShownArticle}}
-use Rattle.nntp_facts.{specs.Inner.Readers.{AreShownArticles, shown_article, shown_articles}, proofs.Keeping.KeptArticles.{shown_kept, listed}}
-use Rattle.nntp_facts.proofs.Keeping.GroupReaders.{read_off, all_along}
+use Rattle.nntp_facts.proofs.Base.{◌≡◌, Bool, not, IsTrue, List, [], ◌∷◌, map, Some, refl, sym, ap, subst, ◌∙◌, arith, true≢false, list_any, filter}
+use Rattle.nntp_facts.proofs.Base.{AllByRecursion, Ordering, nat_cmp, slice_cmp, same_text, FinMap, get, entries, entries_sorted, Id, is_same, Fact}
+use Rattle.nntp_facts.proofs.Base.{shows_article, said_of, sorted_keys, in_map, from_map, any_in, found_in, same_itself, KeptArticle, said_kept}
+use Rattle.nntp_facts.proofs.{Base.{AreKeptArticles, articles_in, shown_article, shown_articles}, Keeping.KeptArticles.{shown_kept, listed}}
+use Rattle.nntp_facts.{proofs.Keeping.GroupReaders.{read_off, all_along}, specs.Inner.Readers.{ShownArticle, IsShownArticle, AreShownArticles}}
+use Rattle.std.specs.{List.Sorted.{IsStrictlySortedBy}, declared.cmp.Ordering.TheVariants.{Less}, Cmp.{both_ways}}
 
 -- ---- order
 
@@ -26,17 +22,14 @@ module _ {K X : Type 0} (R : K → K → Ordering) (p : K × X → Bool) where
 
 -- ---- the articles
 
--- what is shown of an article that is kept is what the facts say
-article_is : (facts : List Fact) (id : Id) (a : KeptArticle) → said_of facts id ≡ said_kept (Some a) → IsShownArticle facts (shown_article id a)
-article_is facts id a kept = grind arith
-
 -- what is shown of the articles that are kept is what the facts say
 pub articles_shown : (facts : List Fact) (articles : FinMap (slice_cmp nat_cmp) KeptArticle) → AreKeptArticles facts articles → AreShownArticles facts (shown_articles articles)
 articles_shown facts articles kept = record {
   ascending = subst (IsStrictlySortedBy (slice_cmp nat_cmp)) (sym (read_off one (λ a. a.id) (λ e. e.0) there (λ e. refl)))
       (sorted_left (slice_cmp nat_cmp) (λ e. not e.1.is_denied) (entries articles) (sorted_keys (slice_cmp nat_cmp) (entries articles) (entries_sorted articles)));
   all = λ id. both_ways _ _ (shown id) (back id);
-  each = all_along (IsShownArticle facts) one there (λ e i. article_is facts e.0 e.1 (kept e.0 ∙ ap said_kept ((listed facts articles e.0 e.1 kept).0 i).0));
+  each = all_along (IsShownArticle facts) one there (λ e i.
+      let is : said_of facts e.0 ≡ said_kept (Some e.1) = kept e.0 ∙ ap said_kept ((listed facts articles e.0 e.1 kept).0 i).0 in grind (arith, is));
 }
   where
     one : Id × KeptArticle → ShownArticle
@@ -49,12 +42,10 @@ articles_shown facts articles kept = record {
     shown id t =
         let f = found_in (λ a. is_same a.id id) (map one there) t in
         let e = from_map one f.0 there f.1 in
-        let same : e.0.0 ≡ id = ap (λ a. a.id) e.2 ∙ same_text f.0.id id (sym f.2) in
-        subst (λ q. IsTrue (list_any (shows_article q) facts)) same ((listed facts articles e.0.0 e.0.1 kept).0 e.1).1
+        grind (arith, e.2, same_text f.0.id id, listed facts articles e.0.0 e.0.1 kept)
 
     back : (id : Id) → IsTrue (list_any (shows_article id) facts) → IsTrue (list_any (λ a. is_same a.id id) (map one there))
-    back id t = by (get articles id) refl
-      where
-        by : (o : Option KeptArticle) → get articles id ≡ o → IsTrue (list_any (λ a. is_same a.id id) (map one there))
-        by None e = absurd (true≢false (sym t ∙ shown_kept facts articles id kept ∙ ap is_there e))
-        by (Some a) e = any_in (λ a. is_same a.id id) (one (id, a)) (map one there) (in_map one (id, a) there ((listed facts articles id a kept).1 (e, t))) (same_itself id)
+    back id t =
+        let at : (a : KeptArticle) → get articles id ≡ Some a → IsTrue (list_any (λ a. is_same a.id id) (map one there)) = λ a e.
+        any_in (λ a. is_same a.id id) (one (id, a)) (map one there) (in_map one (id, a) there ((listed facts articles id a kept).1 (e, t))) (same_itself id) in
+        grind (arith, at, shown_kept facts articles id kept, true≢false)

@@ -1,13 +1,11 @@
 -- Finding the answers with which a bad one conflicts.
-use Rattle.std.proofs.Common.{arith, zero, suc, ◌+◌, ◌^◌, ◌<◌, ◌≤◌, ◌≡◌, ℕ, Bool, true, false, IsTrue, Option, None, Some, inl, inr, refl, sym, ap, subst, ◌∙◌}
-use Rattle.std.proofs.{Common.{List, [], ◌∷◌, ◌++◌, length, length-append, append-nil, append_assoc, take, get_or}, lemmas.Bool.{and_from, cases_lt}}
-use Rattle.std.{proofs.lemmas.List.{take_more}, specs.{Prelude.{MatchOption}, Bool.{then_some}, List.{AllByRecursion}}}
-use Rattle.nntp_article.specs.{Session.Machine.{is_ascending}, declared.session.profile.Profile.{Profile}}
-use Rattle.nntp_theory.specs.{Inner.{Together.{Together}, Conflict.{FitsThere, AreFound, IsPartOfCore}}, Conflict.{Placed, told, told_with, SomeHas, below}}
-use Rattle.nntp_theory.{specs.Conflict.{IsFound}, proofs.Members.{In, all_at, all_from, in_front, in_back, in_cases, contains_in, in_contains, every}}
-use Rattle.nntp_theory.proofs.{Given.FirstBadAnswer.{none_permitted}, Together.FactsOfASpoolStand.{stand}, Conflicts.{with_told, told_together, fewer_places}}
-use Rattle.nntp_theory.proofs.Conflicts.{core_step, core_done, found_in_each}
-use Rattle.nntp_facts.specs.Inner.{Kept.{Kept}, Told.{AreTold, AreToldWith, PlacesTold}}
+use Rattle.nntp_facts.proofs.Base.{arith, zero, suc, ◌+◌, ◌^◌, ◌<◌, ◌≤◌, ◌≡◌, ℕ, Bool, true, false, IsTrue, Option, None, Some, inl, inr, refl, sym, ap, subst}
+use Rattle.nntp_facts.proofs.Base.{◌∙◌, List, [], ◌∷◌, ◌++◌, length, length-append, append-nil, append_assoc, take, get_or, and_from, cases_lt, AllByRecursion}
+use Rattle.nntp_facts.proofs.Base.{is_ascending, Profile, Together, FitsThere, Placed, told_with, SomeHas, below, IsFound, In, all_at, all_from, in_front}
+use Rattle.nntp_facts.proofs.Base.{in_back, in_cases, contains_in, in_contains, stand, with_told, told_together, Kept, AreTold, AreToldWith, PlacesTold}
+use Rattle.nntp_theory.{specs.{Conflict.{told}, Inner.Conflict.{AreFound, IsPartOfCore}}, proofs.{Members.{every}, Given.FirstBadAnswer.{none_permitted}}}
+use Rattle.nntp_theory.proofs.Conflicts.{fewer_places, core_step, core_done, found_in_each}
+use Rattle.std.{proofs.lemmas.List.{take_more}, specs.{Prelude.{MatchOption}, Bool.{then_some}}}
 
 -- ---- places
 

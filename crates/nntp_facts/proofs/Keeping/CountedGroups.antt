@@ -1,14 +1,13 @@
 -- How many groups that are listed are shown already: as many as are shown and match exactly if none is missing.
-use Rattle.std.proofs.Common.{◌≡◌, ℕ, Bool, true, ◌&&◌, not, IsTrue, is_some, List, [], ◌∷◌, ◌++◌, length, Option, refl, sym, ap, subst, ◌∙◌, arith}
-use Rattle.std.{proofs.lemmas.{Bool.{true≢false, and_parts, and_from}, Map.Views.{any-filter_same}}, specs.{Prelude.{◌↔◌, IsFalse}, List.{AllByRecursion}}}
-use Rattle.std.specs.{List.{list_any, list_all, filter}, Option.{option_map_or}, FinMap.{get}, Cmp.Lexicographic.{same_text, nat_list_eq_equiv}}
-use Rattle.nntp_wire.{specs.{Decided.{is_group_name, matches_name}, Inner.Decided.{is_asked}, Listing.{ActiveValue}}, proofs.DecidedLemmas.{group_name-iff}}
-use Rattle.nntp_article.{specs.Session.{Spool.{Name}, Machine.{is_same, group_names, names_differ}}, proofs.SessionLemmas.MatchingGroups.{as_many, each_listed}}
-use Rattle.nntp_said.specs.Facts.{Fact, GroupsAre}
-use Rattle.nntp_theory.{specs.{Given.{shows_group, is_shown_group}, Together.{denies_group}, Inner.Together.{Together}}, proofs.Members.{In, in_contains}}
-use Rattle.nntp_theory.proofs.{Members.{contains_in, in_front, all_at, any_in, found_in}, Given.ShownNames.{shown_named}}
-use Rattle.nntp_facts.specs.Inner.{Kept.{told, AreKeptGroups, asked_count}, ListedGroups.{MayList, WereListed, is_listed, shown_lines, NoneIsMissing}}
-use Rattle.nntp_facts.proofs.Keeping.KeptGroups.{Groups, shown_kept}
+use Rattle.nntp_facts.proofs.Base.{◌≡◌, ℕ, Bool, true, ◌&&◌, not, IsTrue, is_some, List, [], ◌∷◌, ◌++◌, length, Option, refl, sym, ap, subst, ◌∙◌, arith}
+use Rattle.nntp_facts.proofs.Base.{true≢false, and_parts, and_from, ◌↔◌, IsFalse, AllByRecursion, list_any, list_all, filter, option_map_or, get, same_text}
+use Rattle.nntp_facts.proofs.Base.{nat_list_eq_equiv, matches_name, is_asked, ActiveValue, Name, is_same, group_names, names_differ, Fact, GroupsAre}
+use Rattle.nntp_facts.proofs.Base.{shows_group, is_shown_group, denies_group, Together, In, in_contains, contains_in, in_front, all_at, any_in, found_in}
+use Rattle.nntp_facts.proofs.{Base.{shown_named, told, AreKeptGroups, MayList, WereListed, is_listed, shown_lines, NoneIsMissing}, Keeping.KeptGroups.{Groups}}
+use Rattle.nntp_facts.{proofs.Keeping.KeptGroups.{shown_kept}, specs.Inner.Kept.{asked_count}}
+use Rattle.std.proofs.lemmas.Map.Views.{any-filter_same}
+use Rattle.nntp_wire.{specs.Decided.{is_group_name}, proofs.DecidedLemmas.{group_name-iff}}
+use Rattle.nntp_article.proofs.SessionLemmas.MatchingGroups.{as_many, each_listed}
 
 -- groups that were listed are so behind more facts
 pub listed_still : (facts more : List Fact) (p : Option (List ℕ)) (count : ℕ) → WereListed facts p count → WereListed (facts ++ more) p count

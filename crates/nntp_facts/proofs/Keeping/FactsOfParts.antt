@@ -1,12 +1,10 @@
 -- What the parts of an answer say, read off their facts.
-use Rattle.std.proofs.Common.{◌≡◌, ℕ, Bool, false, ◌||◌, cond, List, [], ◌∷◌, ◌++◌, map, Option, None, Some, refl, ap, ◌∙◌, append-nil, arith}
-use Rattle.std.{proofs.lemmas.List.Folds.{list_any-append}, specs.{List.{list_any}, Option.{option_map_or, option_or}}}
-use Rattle.nntp_article.specs.{Article.Parts.{Id}, Session.{Spool.{Name}, Machine.{is_same}}}
-use Rattle.nntp_said.specs.{Asks.{Ask}, Facts.{Fact, ThereIs, ThereIsNo, Asks}}
-use Rattle.nntp_theory.specs.{Given.{asks_of, shows_group, is_shown_group, first_given, id_in}, Together.{denies_group, number_in}}
-use Rattle.nntp_theory.proofs.Together.{TwoListsOfFacts.{given_append, or_none}, FactsJoin.{asks_append}}
-use Rattle.nntp_facts.specs.Inner.Saying.{OfGroup, Saying, asked_id, sent_facts, lack_facts, id_facts, group_facts, there_facts, missing_facts, groups_facts}
-use Rattle.nntp_facts.specs.Inner.{Saying.{facts_in}, Kept.{id_of, place_of}}
+use Rattle.nntp_facts.proofs.Base.{◌≡◌, Bool, false, ◌||◌, cond, List, [], ◌∷◌, ◌++◌, map, Option, None, Some, refl, ap, ◌∙◌, append-nil, arith}
+use Rattle.nntp_facts.proofs.Base.{list_any-append, list_any, option_map_or, option_or, Name, is_same, Ask, Fact, ThereIs, Asks, asks_of, shows_group}
+use Rattle.nntp_facts.proofs.Base.{is_shown_group, first_given, id_in, denies_group, number_in, given_append, or_none, asks_append, OfGroup, Saying, asked_id}
+use Rattle.nntp_facts.proofs.{Base.{sent_facts, lack_facts, id_facts, group_facts, there_facts, facts_in}, Keeping.FactsOfOneGroup.{GivesId}}
+use Rattle.nntp_facts.specs.Inner.Saying.{missing_facts, groups_facts}
+use Rattle.nntp_said.specs.Facts.{ThereIsNo}
 
 -- the id at a number of a group
 abbrev pub ids_in : Option OfGroup → List Fact
@@ -71,13 +69,11 @@ group_asks name g asks =
 -- ---- the id at a number
 
 -- the id that is given at a number of the group, and at none of another
-pub group_ids : (g : OfGroup) (asks : List Ask) (name : Name) (n : ℕ) → first_given (id_in name n) (group_facts (Some g) asks) ≡ cond (is_same g.name name) (id_of g.id n) None
-group_ids g asks name n =
-    let read = only_ids (first_given (id_in name n)) option_or None (given_is_read (id_in name n)) (λ here ask. refl) (Some g) asks in grind (arith, read)
-
-pub group_places : (g : OfGroup) (asks : List Ask) (name : Name) (id : Id) → first_given (number_in name id) (group_facts (Some g) asks) ≡ cond (is_same g.name name) (place_of g.id id) None
-group_places g asks name id =
-    let read = only_ids (first_given (number_in name id)) option_or None (given_is_read (number_in name id)) (λ here ask. refl) (Some g) asks in grind (arith, read)
+pub group_gives : (g : OfGroup) (asks : List Ask) → GivesId g.name g.id (group_facts (Some g) asks)
+group_gives g asks = record {
+  ids = λ name n. let read = only_ids (first_given (id_in name n)) option_or None (given_is_read (id_in name n)) (λ here ask. refl) (Some g) asks in grind (arith, read);
+  places = λ name id. let read = only_ids (first_given (number_in name id)) option_or None (given_is_read (number_in name id)) (λ here ask. refl) (Some g) asks in grind (arith, read);
+}
 
 -- ---- names
 

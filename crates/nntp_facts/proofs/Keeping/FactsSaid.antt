@@ -1,9 +1,8 @@
 -- Where no facts are said, nothing is added.
-use Rattle.std.{proofs.{Common.{◌≡◌, false, true, List, [], Option, None, refl, sym, subst, append-nil}, lemmas.Bool.{true≢false}}, specs.Prelude.{is_some}}
-use Rattle.std.specs.Prelude.{option_map, slice_get}
-use Rattle.nntp_said.specs.Facts.{Fact}
-use Rattle.nntp_theory.{specs.Inner.Together.{Together}, proofs.Together.FactsJoin.{together_more, none_agrees}}
-use Rattle.nntp_facts.specs.Inner.Kept.{Kept, IsKept, AreAdded}
+use Rattle.nntp_facts.proofs.Base.{◌≡◌, false, true, List, [], Option, None, refl, sym, subst, append-nil, true≢false, option_map, slice_get, Fact, Together}
+use Rattle.nntp_facts.proofs.Base.{together_more, Kept, IsKept, AreAdded}
+use Rattle.std.specs.Prelude.{is_some}
+use Rattle.nntp_theory.proofs.Together.FactsJoin.{none_agrees}
 
 -- where there is no first fact there is none
 pub no_first : {X : Type 0} (of : X → Fact) (first : Option X) (facts : List Fact) → option_map of first ≡ slice_get facts 0 → is_some first ≡ false → facts ≡ []

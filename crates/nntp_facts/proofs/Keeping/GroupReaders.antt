@@ -1,14 +1,11 @@
 -- What is shown of the groups that are kept.
-use Rattle.std.proofs.{Common.{◌≡◌, Bool, ◌==◌, ◌||◌, List, [], ◌∷◌, map, Some, refl, sym, ap, subst, ◌∙◌, arith}, lemmas.List.{map-id}}
-use Rattle.std.specs.{List.{list_any, AllByRecursion, Sorted.{IsStrictlySortedBy}}, BTreeMap.{is_at}, Ordering.{nat_cmp, eq_by_cmp}}
-use Rattle.std.specs.{Cmp.Lexicographic.{slice_cmp, nat_list_cmp_total}, FinMap.{FinMap, get, entries, entries_sorted, contains_key-keys}}
-use Rattle.std.specs.FinMap.{slice_cmp-IsAntisymmetric, nat_cmp-IsAntisymmetric}
-use Rattle.nntp_article.specs.Session.{Spool.{Name}, Machine.{is_same}}
-use Rattle.nntp_said.specs.Facts.{Fact}
-use Rattle.nntp_theory.{specs.{Given.{asks_of}, Inner.Together.{AsksStand}}, proofs.{Maps.{sorted_keys, in_get}, Members.{In, all_from, from_map}}}
-use Rattle.nntp_facts.specs.Inner.{Kept.{KeptGroup, IsKeptGroup, told, AreKeptGroups}, Readers.{AreShownNumbers, HasShownNumbers, AreShownGroups, ShownGroup}}
-use Rattle.nntp_facts.{specs.Inner.Readers.{with_ids, shown_group, shown_groups}, proofs.Keeping.KeptGroups.{kept_of, shown_kept}}
-use Rattle.nntp_facts.proofs.Keeping.FactsOfOneGroup.{flip_number, flip_text}
+use Rattle.nntp_facts.proofs.Base.{◌≡◌, Bool, ◌==◌, ◌||◌, List, [], ◌∷◌, map, Some, refl, sym, ap, subst, ◌∙◌, arith, list_any, AllByRecursion, nat_cmp}
+use Rattle.nntp_facts.proofs.Base.{eq_by_cmp, slice_cmp, nat_list_cmp_total, FinMap, get, entries, entries_sorted, slice_cmp-IsAntisymmetric}
+use Rattle.nntp_facts.proofs.Base.{nat_cmp-IsAntisymmetric, Name, is_same, Fact, asks_of, AsksStand, sorted_keys, in_get, In, all_from, from_map, KeptGroup}
+use Rattle.nntp_facts.proofs.{Base.{IsKeptGroup, told, AreKeptGroups, shown_groups}, Keeping.{KeptGroups.{kept_of, shown_kept}, FactsOfOneGroup.{flip_number}}}
+use Rattle.nntp_facts.{proofs.Keeping.FactsOfOneGroup.{flip_text}, specs.Inner.Readers.{AreShownNumbers, HasShownNumbers, AreShownGroups, ShownGroup, with_ids}}
+use Rattle.nntp_facts.specs.Inner.Readers.{shown_group}
+use Rattle.std.{specs.{List.Sorted.{IsStrictlySortedBy}, BTreeMap.{is_at}, FinMap.{contains_key-keys}}, proofs.lemmas.List.{map-id}}
 use Rattle.nntp_numbers.proofs.UnseenNumbers.{are_unseen}
 
 -- ---- lists that are made of another
@@ -29,19 +26,14 @@ all_along P f xs each = all_from P (map f xs) (λ y i. let g = from_map f y xs i
 
 -- ---- one group
 
-module _ (facts : List Fact) (name : Name) (g : KeptGroup) (stand : AsksStand (asks_of name facts)) (kept : IsKeptGroup (told facts name) g) where
-  -- its numbers, each with its id
-  shown_numbers : AreShownNumbers facts name (with_ids g g.numbers.shown)
-  shown_numbers = record {
-    ascending = subst (IsStrictlySortedBy nat_cmp) (sym (read_off (λ n. (n, get g.ids n)) (λ e. e.0) (λ n. n) g.numbers.shown (λ n. refl) ∙ map-id g.numbers.shown)) kept.numbers.ascends;
-    all = λ n. any_along (λ m. (m, get g.ids m)) (λ m. m) (λ e. e.0 == n) (is_at (nat_cmp n)) g.numbers.shown (λ m. sym (flip_number n m))
-        ∙ ap (list_any (is_at (nat_cmp n))) (map-id g.numbers.shown) ∙ kept.numbers.shown n;
-    ids = all_along (λ e. e.1 ≡ (told facts name).ids e.0) (λ n. (n, get g.ids n)) g.numbers.shown (λ n i. kept.ids n);
-  }
-
-  -- and those that are given beside them
-  has_shown : HasShownNumbers facts (shown_group name g)
-  has_shown = record { numbers = shown_numbers; unseen = are_unseen g.numbers (asks_of name facts) kept.numbers kept.bounded stand }
+-- its numbers, each with its id
+shown_numbers : (facts : List Fact) (name : Name) (g : KeptGroup) → IsKeptGroup (told facts name) g → AreShownNumbers facts name (with_ids g g.numbers.shown)
+shown_numbers facts name g kept = record {
+  ascending = subst (IsStrictlySortedBy nat_cmp) (sym (read_off (λ n. (n, get g.ids n)) (λ e. e.0) (λ n. n) g.numbers.shown (λ n. refl) ∙ map-id g.numbers.shown)) kept.numbers.ascends;
+  all = λ n. any_along (λ m. (m, get g.ids m)) (λ m. m) (λ e. e.0 == n) (is_at (nat_cmp n)) g.numbers.shown (λ m. sym (flip_number n m))
+      ∙ ap (list_any (is_at (nat_cmp n))) (map-id g.numbers.shown) ∙ kept.numbers.shown n;
+  ids = all_along (λ e. e.1 ≡ (told facts name).ids e.0) (λ n. (n, get g.ids n)) g.numbers.shown (λ n i. kept.ids n);
+}
 
 -- ---- all groups
 
@@ -54,7 +46,8 @@ groups_shown facts groups stand kept = record {
       ∙ sym (contains_key-keys groups name) ∙ shown_kept (told facts) groups name kept;
   each = all_along (HasShownNumbers facts) one (entries groups) (λ e i.
       let at = in_get nat_list_cmp_total (slice_cmp-IsAntisymmetric nat_cmp-IsAntisymmetric) groups e.0 e.1 i in
-      has_shown facts e.0 e.1 (stand e.0) (kept_of (told facts) groups e.0 (Some e.1) at kept));
+      let is = kept_of (told facts) groups e.0 (Some e.1) at kept in
+      record { numbers = shown_numbers facts e.0 e.1 is; unseen = are_unseen e.1.numbers (asks_of e.0 facts) is.numbers is.bounded (stand e.0) });
 }
   where
     one : Name × KeptGroup → ShownGroup

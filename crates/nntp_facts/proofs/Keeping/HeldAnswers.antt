@@ -1,14 +1,12 @@
 -- What is held of answers that conflict: all but the last of them stand together.
-use Rattle.std.proofs.Common.{◌≡◌, ℕ, ◌<◌, ◌≤◌, ◌^◌, List, [], ◌∷◌, ◌++◌, Option, None, Some, length, slice_get, Bool, IsTrue, arith, refl, sym, ap, subst}
-use Rattle.std.{proofs.{Common.{append-nil, length-append, inl, inr}, lemmas.Bool.{and_parts, Decides.{nat_tests}}}, specs.Prelude.{⊤, MatchOption, nat_lt}}
-use Rattle.std.specs.{List.{AllByRecursion, list_all}, Option.{option_map_or}}
-use Rattle.nntp_article.specs.{Session.Machine.{is_ascending}, declared.session.profile.Profile.{Profile}}
-use Rattle.nntp_pair.specs.Inner.Pairing.{lines_in}
-use Rattle.nntp_theory.specs.{Conflict.{Placed, SomeHas, IsCore, IsEndOfCore, IsFound, Core, places_of, below, told, told_with}, Inner.Conflict.{FitsThere}}
-use Rattle.nntp_theory.{specs.Inner.{Conflict.{HasLast}, Given.{size}, Together.{Together}}, proofs.Conflicts.{told_together, with_told, from_below}}
-use Rattle.nntp_theory.proofs.{Given.FirstBadAnswer.{size-append}, Members.{In, all_at, each_of, in_front, in_back, in_cases, in_contains, contains_in}}
-use Rattle.nntp_facts.specs.Inner.{Kept.{Kept, IsKept}, Points.{Answers, AreHeld, with_numbers}, Told.{AreToldWith, PlacesTold}}
+use Rattle.nntp_facts.proofs.Base.{◌≡◌, ℕ, ◌<◌, ◌≤◌, ◌^◌, List, [], ◌∷◌, ◌++◌, Option, None, Some, length, Bool, IsTrue, arith, refl, sym, ap, subst}
+use Rattle.nntp_facts.proofs.Base.{append-nil, length-append, inl, inr, and_parts, ⊤, AllByRecursion, list_all, option_map_or, is_ascending, Profile, lines_in}
+use Rattle.nntp_facts.proofs.Base.{Placed, SomeHas, IsFound, below, told_with, FitsThere, size, Together, told_together, with_told, size-append, In, all_at}
+use Rattle.nntp_facts.proofs.Base.{each_of, in_front, in_back, in_cases, in_contains, contains_in, Kept, IsKept, AreHeld, AreToldWith, PlacesTold}
 use Rattle.nntp_facts.proofs.{Keeping.{CoresFound.{nothing_together}, ToldAnswers.{told_size, with_place, fits_at}}, PointsFound.PointsChained.{none_at_all}}
+use Rattle.nntp_facts.specs.Inner.Points.{Answers, with_numbers}
+use Rattle.nntp_theory.{specs.{Conflict.{told, IsCore, IsEndOfCore, Core, places_of}, Inner.Conflict.{HasLast}}, proofs.Conflicts.{from_below}}
+use Rattle.std.{proofs.{Common.{slice_get}, lemmas.Bool.Decides.{nat_tests}}, specs.Prelude.{MatchOption, nat_lt}}
 
 -- ---- the last place
 

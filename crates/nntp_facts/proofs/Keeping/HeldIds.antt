@@ -1,8 +1,6 @@
 -- An id that is held beside maps of ids.
-use Rattle.std.{proofs.Common.{◌≡◌, ℕ, Option, None, Some, refl, arith}, specs.{Option.{option_or}, FinMap.{FinMap, get, get-insert}, Ordering.{nat_cmp}}}
-use Rattle.std.specs.Cmp.{nat_cmp_total, Lexicographic.{slice_cmp, nat_list_cmp_total}}
-use Rattle.nntp_article.specs.Article.Parts.{Id}
-use Rattle.nntp_facts.{specs.Inner.Kept.{ids_with, places_with, id_of, place_of}, proofs.Keeping.FactsOfOneGroup.{flip_number, flip_text}}
+use Rattle.nntp_facts.proofs.Base.{◌≡◌, ℕ, Option, None, Some, refl, arith, option_or, FinMap, get, get-insert, nat_cmp, nat_cmp_total, slice_cmp}
+use Rattle.nntp_facts.proofs.{Base.{nat_list_cmp_total, Id, ids_with, places_with, id_of, place_of}, Keeping.FactsOfOneGroup.{flip_number, flip_text}}
 
 -- what is found at a number is the id that is held, if that is there, or else what the map has
 pub id_beside : (ids : FinMap nat_cmp Id) (held : Option (ℕ × Id)) (n : ℕ) → get (ids_with ids held) n ≡ option_or (id_of held n) (get ids n)

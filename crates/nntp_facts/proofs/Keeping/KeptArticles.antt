@@ -1,15 +1,14 @@
--- What is kept of articles, and what once something is said of an id.
-use Rattle.std.proofs.Common.{◌≡◌, ◌↔◌, Bool, true, false, cond, ◌||◌, not, IsTrue, List, [], ◌∷◌, Option, None, Some, is_some, refl, sym, ap, subst, ◌∙◌}
-use Rattle.std.{proofs.{Common.{arith}, lemmas.Bool.{true≢false}}, specs.{Prelude.{MatchOption, ⊤, unwrap_or}, List.{list_any, filter}, Option.{option_or}}}
-use Rattle.std.specs.{Option.{option_map_or}, Cmp.{eq_by_cmp_equiv, Lexicographic.{slice_cmp, same_text, nat_list_cmp_total}}, Ordering.{nat_cmp}}
-use Rattle.std.specs.FinMap.{FinMap, get, entries, IsAntisymmetric, insert, get-insert, slice_cmp-IsAntisymmetric, nat_cmp-IsAntisymmetric}
-use Rattle.nntp_article.specs.{Article.Parts.{Id}, Session.Machine.{is_same}}
-use Rattle.nntp_said.specs.Facts.{Fact}
-use Rattle.nntp_theory.specs.{Given.{is_mentioned}, Together.{shows_article, denies_article}, Inner.Together.{said_of, said_nothing, join_said, AreSame}}
-use Rattle.nntp_theory.{specs.Inner.Together.{JoinArticle}, proofs.{Maps.{get_in, in_get}, Members.{In}, Together.FactsOfASpoolStand.{same_itself}}}
-use Rattle.nntp_facts.specs.Inner.{Kept.{KeptArticle, said_kept, AreKeptArticles}, Articles.{is_there, with_new, articles_in}, KeptSaying.{said_alone}}
-use Rattle.nntp_facts.{specs.Inner.KeptSaying.{SaidJoins, IsSaidKept}, proofs.Keeping.SaidOfArticles.{nothing_more, nothing_joins}}
-use Rattle.nntp_facts.proofs.Keeping.FactsOfOneGroup.{flip_text}
+-- What is kept of articles, and what once something is said of an id, or it is noted.
+use Rattle.nntp_facts.proofs.Base.{◌≡◌, Bool, true, false, cond, ◌||◌, not, IsTrue, List, [], ◌∷◌, Option, None, Some, is_some, refl, ap, ◌∙◌, arith}
+use Rattle.nntp_facts.proofs.Base.{true≢false, ⊤, unwrap_or, list_any, filter, option_or, option_map_or, slice_cmp, same_text, nat_list_cmp_total, nat_cmp}
+use Rattle.nntp_facts.proofs.Base.{FinMap, get, entries, insert, get-insert, slice_cmp-IsAntisymmetric, nat_cmp-IsAntisymmetric, Id, Line, is_same, Fact}
+use Rattle.nntp_facts.proofs.Base.{shows_article, denies_article, said_of, join_said, AreSame, JoinArticle, in_get, In, same_itself, What, insert-same}
+use Rattle.nntp_facts.proofs.Base.{KeptArticle, said_kept, AreKeptArticles, IsAddedIf, is_there, with_new, articles_in, head_sent, body_sent, unsent}
+use Rattle.nntp_facts.proofs.Base.{said_alone, IsSaidKept, kept_by, IsSaidAdded, IsArticleAdded, Sends, or_none, telling, Fields, sym, subst, said_nothing}
+use Rattle.nntp_facts.proofs.{Base.{MayBeSent, MayBeTold, with_sent}, Keeping.{SaidOfArticles.{nothing_more, nothing_joins}, FactsOfOneGroup.{flip_text}}}
+use Rattle.nntp_facts.specs.Inner.{Articles.{with_told}, KeptSaying.{SaidJoins}}
+use Rattle.std.{proofs.Common.{◌↔◌}, specs.{Prelude.{MatchOption}, Cmp.{eq_by_cmp_equiv}, FinMap.{IsAntisymmetric}}}
+use Rattle.nntp_theory.{specs.Given.{is_mentioned}, proofs.Maps.{get_in}}
 
 abbrev pub Articles : Type 0
 Articles = FinMap (slice_cmp nat_cmp) KeptArticle
@@ -104,3 +103,56 @@ listed facts articles id a kept =
     let passes = in_filter (λ e. not e.1.is_denied) (id, a) (entries articles) in
     let same : IsAntisymmetric (slice_cmp nat_cmp) = slice_cmp-IsAntisymmetric nat_cmp-IsAntisymmetric in
     grind (arith, passes, in_get nat_list_cmp_total same articles id a, get_in nat_list_cmp_total same articles id a, shown_kept facts articles id kept)
+
+-- ---- an id is noted
+
+-- what is kept of an id of which nothing was sent
+abbrev bare : Bool → KeptArticle
+bare is_denied = record { is_denied = is_denied; is_sent = false; head = None; fields = None; body = None }
+
+module _ (facts : List Fact) (old : Articles) (id : Id) (more : KeptArticle) (kept : AreKeptArticles facts old) where
+  -- what may be kept of an id is kept, if nothing was
+  pub new_kept : (b : Bool) → more ≡ bare b → (new : Articles) → new ≡ with_new old id (bare b) → MayKeep (get old id) more → IsSaidAdded facts (said_alone id more) old new true
+  new_kept b plain new is may = (
+    (article_joins facts old id more kept).1 may,
+    article_kept facts old id more kept new may (grind (arith, is, plain, new_there old id (bare b))) (λ q e. ap (λ m. get m q) is ∙ new_elsewhere old id q (bare b) e),
+  )
+
+  -- what may not changes nothing
+  pub refused : (MayKeep (get old id) more → ⊥) → IsSaidAdded facts (said_alone id more) old old false
+  refused never = (λ j. never ((article_joins facts old id more kept).0 j), refl)
+
+  -- so an article of an id that is denied
+  pub of_denied : more.is_denied ≡ false → option_map_or (λ a. a.is_denied) (get old id) false ≡ true → IsSaidAdded facts (said_alone id more) old old false
+  of_denied has is_denied = grind (arith, refused, true≢false)
+
+  -- what is said of an article is added to what is known of it, if anything is
+  added_to : (May : Type 0) (with a b : KeptArticle) (new : Articles) → a ≡ unwrap_or (get old id) unsent → new ≡ insert old id b → May ↔ MayKeep (get old id) more
+      → with ≡ kept_with (get old id) more → (does : Bool) → IsAddedIf May (λ k. k ≡ with) a b does → IsSaidAdded facts (said_alone id more) old new does
+  added_to May with a b new was is may then does = by does
+    where
+      by : (does : Bool) → IsAddedIf May (λ k. k ≡ with) a b does → IsSaidAdded facts (said_alone id more) old new does
+      by true added = (
+        (article_joins facts old id more kept).1 (may.0 added.0),
+        article_kept facts old id more kept new (may.0 added.0) (grind (arith, is, get_there old id b, added.1, then)) (λ q e. ap (λ m. get m q) is ∙ get_elsewhere old id q b e),
+      )
+      by false added = (
+        λ j. added.0 (may.1 ((article_joins facts old id more kept).0 j)),
+        grind (arith, was, is, added.1, added.0, may.1, insert-same, nat_list_cmp_total, slice_cmp-IsAntisymmetric, nat_cmp-IsAntisymmetric),
+      )
+
+-- what is sent of an article is added to what is known of it, if anything is
+pub sent_noted : (facts : List Fact) (old new : Articles) (what : What) (id : Id) (lines : Option (List Line)) (head body : Option (List Line)) (a b : KeptArticle) (does : Bool)
+    → AreKeptArticles facts old → a ≡ unwrap_or (get old id) unsent → new ≡ insert old id b → head ≡ head_sent what lines → body ≡ body_sent what lines
+    → IsAddedIf (MayBeSent a head body) (λ k. k ≡ with_sent a head body) a b does → IsArticleAdded facts (Some (id, Sends what lines)) old new does
+sent_noted facts old new what id lines head body a b does kept was is heads bodies =
+    added_to facts old id (kept_by (Sends what lines)) kept (MayBeSent a head body) (with_sent a head body) a b new was is
+    (grind (arith, was, heads, bodies)) (grind (arith, was, heads, bodies)) does
+
+-- what an overview tells is too
+pub told_noted : (facts : List Fact) (old new : Articles) (id : Id) (is_sent : Bool) (told : Option Fields) (a b : KeptArticle) (does : Bool)
+    → AreKeptArticles facts old → a ≡ unwrap_or (get old id) unsent → new ≡ insert old id b
+    → IsAddedIf (MayBeTold a told) (λ k. k ≡ with_told a is_sent told) a b does → IsSaidAdded facts (said_alone id (telling is_sent told)) old new does
+told_noted facts old new id is_sent told a b does kept was is =
+    added_to facts old id (telling is_sent told) kept (MayBeTold a told) (with_told a is_sent told) a b new was is
+    (grind (arith, was)) (grind (arith, was, or_none)) does

@@ -1,15 +1,11 @@
 -- What is kept of groups, once more is told of one.
-use Rattle.std.proofs.Common.{◌≡◌, ℕ, Bool, true, List, ◌++◌, Option, None, Some, is_some, MatchOption, refl, sym, ap, subst, ◌∙◌, arith}
-use Rattle.std.{proofs.lemmas.{Bool.{true≢false, eqb-true, or_left}, List.Folds.{list_any-append}}, specs.{Option.{option_or}, FinMap.{FinMap, get, insert}}}
-use Rattle.std.specs.{FinMap.{empty, get-insert, get-empty, slice_cmp-IsAntisymmetric, nat_cmp-IsAntisymmetric}, Ordering.{nat_cmp}, Cmp.{nat_cmp_total}}
-use Rattle.std.specs.{Cmp.Lexicographic.{slice_cmp, same_text, nat_list_cmp_total}, Prelude.{◌↔◌}, List.{list_any}}
-use Rattle.nntp_wire.proofs.ShownMaps.{insert-same}
-use Rattle.nntp_article.specs.{Article.Parts.{Id}, Session.Spool.{Name}}
-use Rattle.nntp_said.specs.Asks.{Ask}
-use Rattle.nntp_numbers.specs.Inner.Summary.{IsSummary, AreBounded}
-use Rattle.nntp_facts.specs.Inner.Kept.{KeptGroup, Told, IsKeptGroup, IsUntold, AreKept, with_part, Changes, Agree, MayHave, MayShow, ids_with, places_with}
-use Rattle.nntp_facts.{specs.Inner.Kept.{id_of, place_of}, proofs.Keeping.{FactsOfOneGroup.{IsOr, flip_number, flip_text}, SilentFacts.{kept_at}}}
-use Rattle.nntp_theory.{specs.Given.{denies}, proofs.Together.TwoListsOfFacts.{or_none}}
+use Rattle.nntp_facts.proofs.Base.{◌≡◌, ℕ, Bool, true, List, ◌++◌, Option, None, Some, is_some, MatchOption, refl, sym, ap, subst, ◌∙◌, arith, true≢false}
+use Rattle.nntp_facts.proofs.Base.{eqb-true, or_left, list_any-append, option_or, FinMap, get, insert, get-insert, get-empty, slice_cmp-IsAntisymmetric}
+use Rattle.nntp_facts.proofs.Base.{nat_cmp-IsAntisymmetric, nat_cmp, nat_cmp_total, slice_cmp, same_text, nat_list_cmp_total, ◌↔◌, list_any, insert-same, Id}
+use Rattle.nntp_facts.proofs.Base.{Name, Ask, IsSummary, AreBounded, or_none, KeptGroup, Told, IsKeptGroup, IsUntold, AreKept, with_part, Changes, Agree}
+use Rattle.nntp_facts.proofs.Base.{MayHave, MayShow, ids_with, places_with, id_of, place_of, option_map_or, false, empty, IfSome}
+use Rattle.nntp_facts.proofs.Keeping.FactsOfOneGroup.{flip_number, flip_text, kept_at}
+use Rattle.nntp_theory.specs.Given.{denies}
 
 abbrev pub Groups : Type 0
 Groups = FinMap (slice_cmp nat_cmp) KeptGroup
@@ -37,33 +33,28 @@ ids_grown t ids places (Some e) had was free = (
   λ i. grind (arith, get-insert nat_list_cmp_total places e.1 e.0 i, flip_text i e.1, was i, same_text e.1 i, free.1),
 )
 
--- more is said of a group that is kept
-pub part_kept : (before after : Name → Told) (groups : Groups) (name : Name) (g h : KeptGroup) (asks : List Ask) (id : Option (ℕ × Id)) → AreKept before groups → get groups name ≡ Some g
-    → MayShow (before name) id → Changes before after name (with_part (before name) asks id)
-    → IsSummary h.numbers ((before name).asks ++ asks) → h.ids ≡ ids_with g.ids id → h.places ≡ places_with g.places id
-    → AreKept after (insert groups name h)
-part_kept before after groups name g h asks id kept is free changes sum ids places =
-    let was = kept_of before groups name (Some g) is kept in
-    let grows = ids_grown (before name) g.ids g.places id was.ids was.places free in
-    kept_at before after groups name h kept changes.elsewhere (subst (λ t. IsKeptGroup t h) (sym changes.here) (record {
-      shown = refl;
-      bounded = bounded_more (before name).asks asks was.bounded;
-      numbers = sum;
-      ids = λ n. ap (λ m. get m n) ids ∙ grows.0 n;
-      places = λ i. ap (λ m. get m i) places ∙ grows.1 i;
-    }))
+-- what was kept of the group, if anything was
+was_kept : (t : Told) (o : Option KeptGroup) (asks : List Ask) → MatchOption o (IsUntold t) (IsKeptGroup t) → (t.is_shown ≡ false → AreBounded asks)
+    → AreBounded (t.asks ++ asks) × ((n : ℕ) → get (option_map_or (λ g. g.ids) o empty) n ≡ t.ids n) × ((i : Id) → get (option_map_or (λ g. g.places) o empty) i ≡ t.places i)
+was_kept t (Some g) asks was bounded = (bounded_more t.asks asks was.bounded, was.ids, was.places)
+was_kept t None asks was bounded = (
+  subst (λ asked. AreBounded (asked ++ asks)) (sym was.no_asks) (bounded was.not_shown),
+  λ n. get-empty nat_cmp n ∙ sym (was.no_ids n),
+  λ i. get-empty (slice_cmp nat_cmp) i ∙ sym (was.no_places i),
+)
 
--- a group is kept that wasn't
-pub new_kept : (before after : Name → Told) (groups : Groups) (name : Name) (h : KeptGroup) (asks : List Ask) (id : Option (ℕ × Id)) → AreKept before groups → get groups name ≡ None
-    → AreBounded asks → MayShow (before name) id → Changes before after name (with_part (before name) asks id) → IsSummary h.numbers asks → h.ids ≡ ids_with empty id → h.places ≡ places_with empty id
+-- more is said of a group, whether it was kept or not
+pub part_kept : (before after : Name → Told) (groups : Groups) (name : Name) (o : Option KeptGroup) (h : KeptGroup) (asks : List Ask) (id : Option (ℕ × Id)) → AreKept before groups
+    → get groups name ≡ o → ((before name).is_shown ≡ false → AreBounded asks) → MayShow (before name) id → Changes before after name (with_part (before name) asks id)
+    → IsSummary h.numbers ((before name).asks ++ asks) → h.ids ≡ ids_with (option_map_or (λ g. g.ids) o empty) id → h.places ≡ places_with (option_map_or (λ g. g.places) o empty) id
     → AreKept after (insert groups name h)
-new_kept before after groups name h asks id kept none bounded free changes sum ids places =
-    let was = kept_of before groups name None none kept in
-    let grows = ids_grown (before name) empty empty id (λ n. get-empty nat_cmp n ∙ sym (was.no_ids n)) (λ i. get-empty (slice_cmp nat_cmp) i ∙ sym (was.no_places i)) free in
+part_kept before after groups name o h asks id kept is bounded free changes sum ids places =
+    let was = was_kept (before name) o asks (kept_of before groups name o is kept) bounded in
+    let grows = ids_grown (before name) _ _ id was.1 was.2 free in
     kept_at before after groups name h kept changes.elsewhere (subst (λ t. IsKeptGroup t h) (sym changes.here) (record {
       shown = refl;
-      bounded = subst (λ asked. AreBounded (asked ++ asks)) (sym was.no_asks) bounded;
-      numbers = subst (λ asked. IsSummary h.numbers (asked ++ asks)) (sym was.no_asks) sum;
+      bounded = was.0;
+      numbers = sum;
       ids = λ n. ap (λ m. get m n) ids ∙ grows.0 n;
       places = λ i. ap (λ m. get m i) places ∙ grows.1 i;
     }))
@@ -77,8 +68,8 @@ pub empty_agree : (g : KeptGroup) (id : Option (ℕ × Id)) → g.ids ≡ empty 
 empty_agree g id no_ids = grind (arith, get-empty)
 
 -- an id that is at its number already is put there again
-pub same_id : (g : KeptGroup) (n : ℕ) (id : Id) (there : Bool) → is_some (get g.ids n) ≡ there → there ≡ true → IsOr (get g.ids n) id → (get g.ids n ≡ Some id → get g.places id ≡ Some n)
-    → (g.ids ≡ insert g.ids n id) × (g.places ≡ insert g.places id n)
+pub same_id : (g : KeptGroup) (n : ℕ) (id : Id) (there : Bool) → is_some (get g.ids n) ≡ there → there ≡ true → IfSome (get g.ids n) (λ other. id ≡ other)
+    → (get g.ids n ≡ Some id → get g.places id ≡ Some n) → (g.ids ≡ insert g.ids n id) × (g.places ≡ insert g.places id n)
 same_id g n id there is known free each = grind (arith, true≢false, insert-same, nat_cmp_total, nat_cmp-IsAntisymmetric, nat_list_cmp_total, slice_cmp-IsAntisymmetric)
 
 -- what is kept agrees where what is told does
@@ -88,7 +79,3 @@ agree_kept t g id was each = grind arith
 -- what is kept may have the id exactly if what is told may
 pub may_have_told : (t : Told) (g : KeptGroup) (id : Option (ℕ × Id)) → ((n : ℕ) → get g.ids n ≡ t.ids n) → ((i : Id) → get g.places i ≡ t.places i) → MayHave g.ids g.places id ↔ MayShow t id
 may_have_told t g id ids places = grind arith
-
--- of a group of which nothing is told, any id may be shown
-pub untold_may_show : (t : Told) (id : Option (ℕ × Id)) → IsUntold t → MayShow t id
-untold_may_show t id was = grind arith

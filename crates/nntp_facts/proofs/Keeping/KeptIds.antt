@@ -1,16 +1,13 @@
--- What is kept of ids: of those that have articles, and of those that are denied.
-use Rattle.std.proofs.Common.{◌≡◌, ℕ, Bool, false, cond, ◌&&◌, not, List, [], ◌∷◌, map, Vec, Option, None, Some, is_some, option_map, refl, sym, ap, subst, ◌∙◌}
-use Rattle.std.proofs.{Common.{arith}, lemmas.{Bool.{true≢false, false_from_ne_true}, Map.Text.{is_eq-slice_cmp}, Slice.Eq.{bytes_eq-Decides}}}
-use Rattle.std.{proofs.lemmas.Str.{IsUtf8-string_bytes}, specs.{List.{list_any, filter}, Option.{option_or, option_map_or}, declared.cmp.Ordering.{Ordering}}}
-use Rattle.std.specs.{declared.rc.RcStr.{RcStr}, Ordering.{nat_cmp, is_eq}, Cmp.Lexicographic.{slice_cmp, nat_list_cmp_total, same_text}, FinMap.{get, insert}}
-use Rattle.std.specs.FinMap.{entries, find, put, from_entries, get-insert, get-entries, entries-insert, same_map, slice_cmp-IsAntisymmetric}
-use Rattle.std.specs.{FinMap.{nat_cmp-IsAntisymmetric}, BTreeSet.{insert_key}, Map.{lookup, set_value}, Str.{IsUtf8}, Rc.{rc_str_bytes}}
-use Rattle.nntp_wire.proofs.ShownMaps.{get-shown, replaced}
-use Rattle.nntp_article.specs.{Article.Parts.{Id}, Session.Machine.{is_same}}
-use Rattle.nntp_theory.{specs.Inner.Together.{SaidOfArticle, said_nothing}, proofs.Together.TwoListsOfFacts.{or_none}}
-use Rattle.nntp_facts.specs.Inner.{Kept.{KeptArticle, said_kept}, Articles.{denied, is_there, with_new, with_denied, articles_in}, ArticleView.{known_article}}
-use Rattle.nntp_facts.{specs.{Inner.ArticleView.{entries_value}, declared.articles.known.KnownArticle.{KnownArticle}}, proofs.Keeping.KeptArticles.{Articles}}
-use Rattle.nntp_facts.proofs.Keeping.{KeptArticles.{new_elsewhere, new_there}, KeptNames.{any_put, any-map, is_key}}
+-- What is kept of ids: of those that have articles, once one is found or made, and of those that are denied.
+use Rattle.nntp_facts.proofs.Base.{◌≡◌, ℕ, Bool, false, cond, ◌&&◌, not, List, [], ◌∷◌, map, Vec, Option, None, Some, is_some, refl, sym, ap, subst, ◌∙◌, arith}
+use Rattle.nntp_facts.proofs.Base.{true≢false, false_from_ne_true, list_any, filter, option_or, option_map_or, Ordering, nat_cmp, is_eq, slice_cmp}
+use Rattle.nntp_facts.proofs.Base.{nat_list_cmp_total, same_text, get, insert, entries, get-insert, slice_cmp-IsAntisymmetric, nat_cmp-IsAntisymmetric}
+use Rattle.nntp_facts.proofs.Base.{insert_key, lookup, rc_str_bytes, get-shown, replaced, insert-shown, insert-same, Id, is_same, SaidOfArticle, said_nothing}
+use Rattle.nntp_facts.proofs.Base.{or_none, unwrap_or, Equal, insert_entry, KeptArticle, said_kept, denied, is_there, with_new, with_denied, articles_in}
+use Rattle.nntp_facts.proofs.{Base.{unsent, known_article, entries_value, from_entries}, Keeping.KeptArticles.{Articles, new_elsewhere, new_there}}
+use Rattle.nntp_facts.{proofs.Keeping.KeptNames.{any_put, any-map, is_key}, specs.declared.articles.known.KnownArticle.{KnownArticle}}
+use Rattle.std.proofs.{Common.{option_map}, lemmas.{Map.Text.{is_eq-slice_cmp}, Slice.Eq.{bytes_eq-Decides}, Str.{IsUtf8-string_bytes}}}
+use Rattle.std.specs.{declared.rc.RcStr.{RcStr}, FinMap.{find, put, get-entries, entries-insert, same_map}, Map.{set_value}, Str.{IsUtf8}}
 
 -- ---- denied ids beside articles
 
@@ -107,3 +104,41 @@ module _ {A : Type 0} (es : List (RcStr A × KnownArticle A)) (ks : List (Vec �
       let articles_only : Articles = from_entries (entries_value es) in
       let r = replaced (slice_cmp nat_cmp) (λ k. rc_str_bytes k) known_article nat_list_cmp_total
       (slice_cmp-IsAntisymmetric nat_cmp-IsAntisymmetric) es fs articles_only id old new refl had is in grind (arith, with_denied-insert, found)
+
+-- ---- an entry among the articles, found or made
+
+-- the order of the texts
+abbrev pub text_cmp : {A : Type 0} → RcStr A → RcStr A → Ordering
+text_cmp a b = slice_cmp nat_cmp (rc_str_bytes a) (rc_str_bytes b)
+
+module _ {A : Type 0} (es : List (RcStr A × KnownArticle A)) (ks : List (Vec ℕ A)) (articles : Articles) (view : with_denied (from_entries (entries_value es)) (map (λ k. k.items) ks) ≡ articles)
+    (key : RcStr A) (id : Id) (same : rc_str_bytes key ≡ id) where
+  -- an article is put at the id
+  pub put_in : (fs : List (RcStr A × KnownArticle A)) (a : KnownArticle A) → fs ≡ insert_entry text_cmp es key a
+      → with_denied (from_entries (entries_value fs)) (map (λ k. k.items) ks) ≡ insert articles id (known_article a)
+  put_in fs a is =
+      ap (λ m. with_denied m (map (λ k. k.items) ks)) (insert-shown (slice_cmp nat_cmp) (λ k. rc_str_bytes k) known_article nat_list_cmp_total
+      (slice_cmp-IsAntisymmetric nat_cmp-IsAntisymmetric) es fs key a is)
+      ∙ with_denied-insert (from_entries (entries_value es)) (map (λ k. k.items) ks) (rc_str_bytes key) (known_article a)
+      ∙ (λ i. insert (view i) (same i) (known_article a))
+
+  -- the article that is known of an id that isn't denied, or the first
+  module _ (free : option_map_or (λ a. a.is_denied) (get articles id) false ≡ false) (first a : KnownArticle A) (unknown : known_article first ≡ unsent)
+      (found : a ≡ unwrap_or (lookup (λ k. is_eq (text_cmp key k)) es) first) where
+    pub had : known_article a ≡ unwrap_or (get articles id) unsent
+    had =
+        let known = kept_known es ks articles view (rc_str_bytes key) (ap (λ id. option_map_or (λ a. a.is_denied) (get articles id) false) same ∙ free) in
+        grind (arith, found, known, same, unknown)
+
+    -- it is kept from now on, if nothing was
+    pub kept_new : (fs : List (RcStr A × KnownArticle A)) → fs ≡ insert_entry text_cmp es key a
+        → with_denied (from_entries (entries_value fs)) (map (λ k. k.items) ks) ≡ with_new articles id unsent
+    kept_new fs is = grind (arith, had, insert-same, nat_list_cmp_total, nat_cmp-IsAntisymmetric, put_in fs a is, slice_cmp-IsAntisymmetric)
+
+-- the text of the entry is that of the id
+pub same_key : {A : Type 0} (key held text : RcStr A) (id : Id) → text_cmp key held ≡ Equal → rc_str_bytes key ≡ id → rc_str_bytes text ≡ rc_str_bytes held → rc_str_bytes text ≡ id
+same_key key held text id equal is cloned = cloned ∙ sym (slice_cmp-IsAntisymmetric nat_cmp-IsAntisymmetric (rc_str_bytes key) (rc_str_bytes held) equal) ∙ is
+
+-- an article that is known has one
+pub not_denied : {A : Type 0} (a : KnownArticle A) → (known_article a).is_denied ≡ false
+not_denied a = grind arith

@@ -1,15 +1,14 @@
--- Names that are kept: more of them, and whether a name is denied.
-use Rattle.std.proofs.Common.{◌≡◌, ℕ, Bool, true, false, ◌||◌, ◌&&◌, IsTrue, List, [], ◌∷◌, ◌++◌, map, Option, None, Some, refl, sym, ap, subst, ◌∙◌, arith}
-use Rattle.std.{proofs.lemmas.{Bool.{true≢false, or_left}, List.Folds.{list_any-append}}, specs.{Prelude.{length, IfSome}, declared.cmp.Ordering.{Ordering}}}
-use Rattle.std.specs.{declared.cmp.Ordering.TheVariants.{Equal}, Ordering.{nat_cmp, is_eq}, Cmp.Lexicographic.{slice_cmp, same_text}, List.{AllByRecursion}}
-use Rattle.std.specs.{List.{list_any}, Option.{option_map_or}, BTreeSet.{insert_key}, BTreeMap.{insert_entry}, Map.{lookup, keys_of}}
-use Rattle.nntp_wire.specs.{Decided.{matches_name}, Wildmat.{is_wildmat}, Listing.{ActiveValue}}
-use Rattle.nntp_article.{specs.Session.{Spool.{Name}, Machine.{is_same}}, proofs.SessionLemmas.SetKeys.{any-insert_key}}
-use Rattle.nntp_said.specs.Facts.{Fact, GroupsAre}
-use Rattle.nntp_theory.{specs.{Given.{is_shown_group}, Together.{denies_group}}, proofs.Members.{all_at, all_from, contains_in, in_back}}
-use Rattle.nntp_theory.proofs.Together.TwoListsOfFacts.{any_silent}
-use Rattle.nntp_facts.specs.Inner.{Kept.{KeptNames, WasAnswered, AreKeptNames}, ListedGroups.{MayList, WereListed}}
-use Rattle.nntp_facts.proofs.Keeping.{CountedGroups.{listed_still}, FactsOfOneGroup.{flip_text}}
+-- Names that are kept: more of them, and whether a name is denied; and the names that are listed.
+use Rattle.nntp_facts.proofs.Base.{◌≡◌, ℕ, Bool, true, false, ◌||◌, ◌&&◌, IsTrue, List, [], ◌∷◌, ◌++◌, map, Option, None, Some, refl, sym, ap, subst, ◌∙◌}
+use Rattle.nntp_facts.proofs.Base.{arith, not, MatchOption, is_some, true≢false, or_left, true_from_ne_false, and_from, list_any-append, IfSome, Ordering}
+use Rattle.nntp_facts.proofs.Base.{Equal, nat_cmp, is_eq, slice_cmp, same_text, nat_list_cmp_total, AllByRecursion, list_any, option_map_or, insert_key}
+use Rattle.nntp_facts.proofs.Base.{insert_entry, lookup, matches_name, ActiveValue, Name, is_same, Fact, GroupsAre, is_shown_group, denies_group, all_at}
+use Rattle.nntp_facts.proofs.Base.{all_from, contains_in, in_back, any_silent, get, IsGroupName, get-shown, Together, shown_named, AreKeptNames, KeptGroup}
+use Rattle.nntp_facts.proofs.{Base.{told, AreKeptGroups, MayList, WereListed, is_listed, NoneIsMissing}, Keeping.CountedGroups.{listed_still}}
+use Rattle.nntp_facts.{proofs.Keeping.{FactsOfOneGroup.{flip_text}, KeptGroups.{Groups, shown_kept}}, specs.Inner.Kept.{KeptNames, WasAnswered}}
+use Rattle.std.specs.{Prelude.{length}, Map.{keys_of}, Borrow.{Bor}}
+use Rattle.nntp_wire.{specs.Wildmat.{is_wildmat}, proofs.ShownMaps.{shown, is_some-option_map}}
+use Rattle.nntp_article.proofs.SessionLemmas.SetKeys.{any-insert_key}
 
 -- ---- keys of a set
 
@@ -84,31 +83,13 @@ names_kept facts more k none kept = record {
 -- one more name is denied
 pub name_denied : {V : Type 0} (text : V → List ℕ) (facts more : List Fact) (old : KeptNames) (ks : List V) (name : V) → old.denied ≡ texts text ks → AreKeptNames facts old
     → ((other : Name) → list_any (denies_group other) more ≡ is_same (text name) other)
-    → AreKeptNames (facts ++ more) (record { denied = texts text (insert_key (order text) ks name); wildmats = old.wildmats; all_listed = old.all_listed })
-name_denied text facts more old ks name is kept denied = record {
-  wildmats = counted_still facts more old kept;
-  all_listed = all_still facts more old kept;
-  denied = λ other e.
-      let before = kept.denied other (not_before facts more other e) in
-      grind (arith, before, denied other, list_any-append (denies_group other) facts more, any_put text (λ g. is_same g other) ks name, is);
-}
-
--- what a list of groups denies of a name that isn't shown
-listing_denies : (facts : List Fact) (p : Option (List ℕ)) (lines : List ActiveValue) (name : Name) → is_shown_group (facts ++ GroupsAre p lines ∷ []) name ≡ false
-    → list_any (denies_group name) (GroupsAre p lines ∷ []) ≡ option_map_or (λ w. matches_name w name) p true
-listing_denies facts p lines name e = grind (arith, true≢false, list_any-append)
+    → AreKeptNames (facts ++ more) (record old { denied = texts text (insert_key (order text) ks name) })
+name_denied text facts more old ks name is kept denied = grind (arith, counted_still, all_still, not_before, list_any-append, any_put)
 
 -- one more wildmat was answered
-pub wildmat_listed : {V : Type 0} (text : V → List ℕ) (facts : List Fact) (lines : List ActiveValue) (old : KeptNames)
-    (es : List (V × ℕ)) (wildmat : V) (count : ℕ) → IsTrue (is_wildmat (text wildmat)) → MayList (Some (text wildmat)) lines
-    → length lines ≡ count
-    → old.wildmats ≡ counts text es → AreKeptNames facts old
-    → AreKeptNames (facts ++ GroupsAre (Some (text wildmat)) lines ∷ [])
-    (record {
-      denied = old.denied;
-      wildmats = counts text (insert_entry (order text) es wildmat count);
-      all_listed = old.all_listed;
-    })
+pub wildmat_listed : {V : Type 0} (text : V → List ℕ) (facts : List Fact) (lines : List ActiveValue) (old : KeptNames) (es : List (V × ℕ)) (wildmat : V) (count : ℕ)
+    → IsTrue (is_wildmat (text wildmat)) → MayList (Some (text wildmat)) lines → length lines ≡ count → old.wildmats ≡ counts text es → AreKeptNames facts old
+    → AreKeptNames (facts ++ GroupsAre (Some (text wildmat)) lines ∷ []) (record old { wildmats = counts text (insert_entry (order text) es wildmat count) })
 wildmat_listed text facts lines old es wildmat count good may counted is kept = record {
   wildmats =
       let all = facts ++ GroupsAre (Some (text wildmat)) lines ∷ [] in
@@ -116,15 +97,14 @@ wildmat_listed text facts lines old es wildmat count good may counted is kept = 
       (subst (AllByRecursion (WasAnswered all)) is (counted_still facts (GroupsAre (Some (text wildmat)) lines ∷ []) old kept));
   all_listed = all_still facts (GroupsAre (Some (text wildmat)) lines ∷ []) old kept;
   denied = λ name e.
-      let more = GroupsAre (Some (text wildmat)) lines ∷ [] in
-      let before = kept.denied name (not_before facts more name e) in
-      let now = listing_denies facts (Some (text wildmat)) lines name e in
-      grind (arith, before, now, list_any-append (denies_group name) facts more, any_counted text (λ w. matches_name w name) es wildmat count, is);
+      let before = kept.denied name (not_before facts (GroupsAre (Some (text wildmat)) lines ∷ []) name e) in
+      let now : list_any (denies_group name) (GroupsAre (Some (text wildmat)) lines ∷ []) ≡ matches_name (text wildmat) name = grind (arith, e, true≢false, list_any-append) in
+      grind (arith, before, now, list_any-append (denies_group name) facts, any_counted text (λ w. matches_name w name) es wildmat count, is);
 }
 
 -- all groups were listed
 pub all_listed : (facts : List Fact) (lines : List ActiveValue) (old : KeptNames) (count : ℕ) → MayList None lines → length lines ≡ count → AreKeptNames facts old
-    → AreKeptNames (facts ++ GroupsAre None lines ∷ []) (record { denied = old.denied; wildmats = old.wildmats; all_listed = Some count })
+    → AreKeptNames (facts ++ GroupsAre None lines ∷ []) (record old { all_listed = Some count })
 all_listed facts lines old count may counted kept = grind (arith, counted_still, contains_in, in_back, list_any-append, true≢false)
 
 -- ---- tests
@@ -146,3 +126,48 @@ answered_found text facts (x ∷ es) w all = grind (arith, flip_text w (text x.0
 
 pub key_text : {V : Type 0} (text : V → List ℕ) (name : Name) (ks : List V) → list_any (λ k. is_same (text k) name) ks ≡ list_any (λ g. is_same g name) (texts text ks)
 key_text text name ks = sym (any-map (λ g. is_same g name) text ks)
+
+-- ---- the names that are listed
+
+-- the octets that a name refers to
+abbrev pub octets : Bor Name → Name
+octets k = k.now
+
+-- one of the names is this
+abbrev pub has_name : List (Bor Name) → Name → Bool
+has_name ks name = list_any (λ k. is_same k.now name) ks
+
+-- a line's name moves from the lines to the set
+pub name_moved : (line : ActiveValue) (rest lines : List ActiveValue) (ks new : List (Bor Name)) (k : Bor Name) (name : Name) (all : Bool) → k.now ≡ line.name → lines ≡ line ∷ rest
+    → new ≡ insert_key (order octets) ks k → (has_name ks name || is_listed lines name) ≡ all → (has_name new name || is_listed rest name) ≡ all
+name_moved line rest lines ks new k name all is steps put before =
+    grind (arith, key_text octets name ks, key_text octets name (insert_key (order octets) ks k), any_put octets (λ g. is_same g name) ks k)
+
+-- ---- the groups that are kept
+
+module _ {L : Type 0} (text : L → List ℕ) (es : List (L × KeptGroup)) where
+  -- the name is among the keys
+  abbrev pub is_key_of : Name → Bool
+  is_key_of name = list_any (λ k. is_same (text k) name) (keys_of es)
+
+key_found : {L : Type 0} (text : L → List ℕ) (es : List (L × KeptGroup)) (name : Name) → is_some (lookup (λ k. is_eq (slice_cmp nat_cmp name (text k))) es) ≡ is_key_of text es name
+key_found text [] name = refl
+key_found text (e ∷ es) name = grind (arith, true≢false, flip_text name (text e.0), key_found text es name)
+
+-- the keys are the names of the groups that are shown
+key_shown : {L : Type 0} (text : L → List ℕ) (es : List (L × KeptGroup)) (groups : Groups) (facts : List Fact) → shown (slice_cmp nat_cmp) text (λ v. v) es ≡ groups → AreKeptGroups facts groups
+    → (name : Name) → is_key_of text es name ≡ is_shown_group facts name
+key_shown text es groups facts view kept name =
+    sym (key_found text es name) ∙ sym (is_some-option_map (λ v. v) (lookup (λ k. is_eq (slice_cmp nat_cmp name (text k))) es))
+    ∙ ap is_some (sym (get-shown (slice_cmp nat_cmp) text (λ v. v) nat_list_cmp_total es name)) ∙ ap (λ m. is_some (get m name)) view ∙ shown_kept (told facts) groups name kept
+
+-- a group that is shown and matches, and isn't listed, if there is one
+pub one_unlisted : {L : Type 0} (text : L → List ℕ) (es : List (L × KeptGroup)) (groups : Groups) (facts : List Fact) (p : Option (List ℕ)) (lines : List ActiveValue) (names : List (Bor Name))
+    (found : Option Name) → shown (slice_cmp nat_cmp) text (λ v. v) es ≡ groups → ((name : Name) → has_name names name ≡ is_listed lines name) → AreKeptGroups facts groups → Together facts
+    → MatchOption found ((name : Name) → is_key_of text es name ≡ true → IsGroupName name → (option_map_or (λ w. matches_name w name) p true && not (has_name names name)) ≡ false)
+    (λ name. IsTrue (is_key_of text es name) × IsTrue (option_map_or (λ w. matches_name w name) p true && not (has_name names name)))
+    → MatchOption found (NoneIsMissing facts p lines) (λ name. IsTrue (is_shown_group facts name) × IsTrue (denies_group name (GroupsAre p lines)))
+one_unlisted text es groups facts p lines names (Some name) view listed kept t (there, unlisted) = grind (arith, key_shown text es groups facts view kept name)
+one_unlisted text es groups facts p lines names None view listed kept t none = λ name there matching. true_from_ne_false (is_listed lines name) (λ e.
+    true≢false (sym (and_from (option_map_or (λ w. matches_name w name) p true) (not (has_name names name)) matching (ap not (listed name ∙ e)))
+    ∙ none name (key_shown text es groups facts view kept name ∙ there) (shown_named facts name t.well_formed there)))

@@ -1,13 +1,13 @@
--- What a list of groups has to join.
-use Rattle.std.proofs.Common.{◌≡◌, ℕ, Bool, true, false, ◌||◌, cond, not, List, [], ◌∷◌, ◌++◌, Option, refl, sym, ap, subst, ◌∙◌, append-nil, arith}
-use Rattle.std.proofs.{lemmas.Bool.{true≢false, and_parts, and_from, or_left, false_from_ne_true, not-true, true_from_ne_false}, Math.Bool.{or-false}}
-use Rattle.std.specs.{Prelude.{◌↔◌, IsFalse}, List.{AllByRecursion, list_any, list_all, flat_map}, Option.{option_map_or}, Cmp.Lexicographic.{same_text}}
-use Rattle.nntp_wire.specs.{Listing.{ActiveValue}, Decided.{matches_name}}
-use Rattle.nntp_article.specs.Session.{Spool.{Name}, Machine.{is_same, group_names, names_differ}}
-use Rattle.nntp_said.specs.{Asks.{Ask, Bounds}, Facts.{Fact, GroupsAre}}
-use Rattle.nntp_theory.{specs.{Given.{asks_of}, Inner.Together.{IsWellFormed, AsksStand, Together, Join}, Together.{denies_group}}, proofs.Members.{In, all_at}}
-use Rattle.nntp_theory.proofs.{Members.{all_from, any_in, found_in}, Together.FactsOfASpoolStand.{same_itself}}
-use Rattle.nntp_facts.{specs.Inner.ListedGroups.{is_listed, LineJoins, NoneIsMissing}, proofs.Keeping.{SilentFacts.{ids_join}, SaidOfArticles.{articles_join}}}
+-- What a list of groups has to join, and what is told of groups, once more of them are listed.
+use Rattle.nntp_facts.proofs.Base.{◌≡◌, ℕ, Bool, true, false, ◌||◌, cond, not, List, [], ◌∷◌, ◌++◌, Option, refl, sym, ap, ◌∙◌, append-nil, arith, None}
+use Rattle.nntp_facts.proofs.Base.{append_assoc, true≢false, and_parts, and_from, or_left, false_from_ne_true, not-true, true_from_ne_false, or-false, ◌↔◌}
+use Rattle.nntp_facts.proofs.Base.{AllByRecursion, list_all, option_map_or, same_text, ActiveValue, matches_name, Name, is_same, group_names, names_differ, Ask}
+use Rattle.nntp_facts.proofs.Base.{Bounds, Fact, GroupsAre, asks_of, is_shown_group, first_given, id_in, IsWellFormed, AsksStand, Together, Join, denies_group}
+use Rattle.nntp_facts.proofs.Base.{number_in, In, all_at, all_from, any_in, found_in, same_itself, list_any-append, flat_map-append, given_silent, or_none}
+use Rattle.nntp_facts.proofs.Base.{asks_append, is_listed, LineJoins, NoneIsMissing, told, with_part, Changes, said_of, subst}
+use Rattle.nntp_facts.proofs.Keeping.{FactsOfOneGroup.{ids_join, same_told}, SaidOfArticles.{nothing_joins}}
+use Rattle.std.specs.List.{flat_map}
+use Rattle.nntp_theory.proofs.Together.TwoListsOfFacts.{any_more}
 
 -- the bounds that the lines report for a group
 abbrev pub bounds_in : Name → List ActiveValue → List Ask
@@ -41,8 +41,7 @@ module _ (facts : List Fact) (p : Option (List ℕ)) (lines : List ActiveValue) 
       let f = found_in (λ line. is_same line.name name) lines e in
       subst (λ name. AsksStand (asks_of name facts ++ asks_of name (GroupsAre p lines ∷ []))) (same_text f.0.name name (sym f.2))
       (subst (λ asks. AsksStand (asks_of f.0.name facts ++ asks)) (sym (listing_asks f.0.name ∙ bounds_at f.0 lines differ f.1)) (all_at (LineJoins facts) f.0 lines all f.1).bounds)
-  numbers_from t differ name false e all =
-      subst AsksStand (sym (ap (λ asks. asks_of name facts ++ asks) (listing_asks name ∙ no_bounds name lines e) ∙ append-nil (asks_of name facts))) (t.numbers name)
+  numbers_from t differ name false e all = grind (arith, listing_asks name, no_bounds name lines e, append-nil (asks_of name facts), t.numbers name)
 
   pub listing_joins : Together facts → AllByRecursion IsWellFormed (GroupsAre p lines ∷ []) → names_differ lines ≡ true
       → Join facts (GroupsAre p lines ∷ []) ↔ (AllByRecursion (LineJoins facts) lines × NoneIsMissing facts p lines)
@@ -59,13 +58,41 @@ module _ (facts : List Fact) (p : Option (List ℕ)) (lines : List ActiveValue) 
       well_formed = wf;
       lists = (tt, tt);
       names = record {
-        groups = λ name s. let f = found_in (λ line. is_same line.name name) lines (sym (or-false (is_listed lines name)) ∙ s) in subst
-            (λ name. IsFalse (list_any (denies_group name) facts)) (same_text f.0.name name (sym f.2))
-            (all_at (LineJoins facts) f.0 lines h.0 f.1).free;
+        groups = λ name s. let f = found_in (λ line. is_same line.name name) lines (sym (or-false (is_listed lines name)) ∙ s) in
+            grind (arith, f.2, same_text f.0.name name, all_at (LineJoins facts) f.0 lines h.0 f.1);
         no_groups = grind (arith, false_from_ne_true, and_parts, or-false, true≢false, not-true);
       };
       numbers = λ name. numbers_from t differ name (is_listed lines name) refl h.0;
       ids = ids_join facts (GroupsAre p lines ∷ []) (record { ids = λ name n. refl; places = λ name id. refl });
-      articles = articles_join facts (GroupsAre p lines ∷ []) (λ id. refl);
+      articles = λ id. nothing_joins (said_of facts id);
     },
   )
+
+-- ---- what is told then
+
+module _ (facts : List Fact) (p : Option (List ℕ)) where
+  -- the facts, and that these groups are listed
+  abbrev pub listing : List ActiveValue → List Fact
+  listing lines = facts ++ GroupsAre p lines ∷ []
+
+  -- what lists of groups don't give is the same beside all of them
+  same_given : {A : Type 0} (f : Fact → Option A) → ((lines : List ActiveValue) → f (GroupsAre p lines) ≡ None) → (lines others : List ActiveValue)
+      → first_given f (listing lines) ≡ first_given f (listing others)
+  same_given f none lines others = grind (arith, given_silent, none)
+
+  module _ (lines : List ActiveValue) (line : ActiveValue) where
+    asks_more : (name : Name) (b : Bool) → is_same line.name name ≡ b → asks_of name (listing (lines ++ line ∷ [])) ≡ asks_of name (listing lines) ++ cond b (Bounds line.low line.high ∷ []) []
+    asks_more name b e = grind (arith, asks_append, append-nil, flat_map-append, append_assoc)
+
+    shown_more : (name : Name) (b : Bool) → is_same line.name name ≡ b → is_shown_group (listing (lines ++ line ∷ [])) name ≡ (b || is_shown_group (listing lines) name)
+    shown_more name b e = grind (arith, any_more, list_any-append)
+
+    -- of the group of one line more its bounds are told
+    pub one_more_bound : Changes (told (listing lines)) (told (listing (lines ++ line ∷ []))) line.name (with_part (told (listing lines) line.name) (Bounds line.low line.high ∷ []) None)
+    one_more_bound = record {
+      here = same_told _ _ (shown_more line.name true (same_itself line.name)) (asks_more line.name true (same_itself line.name))
+          (λ n. same_given (id_in line.name n) (λ _. refl) (lines ++ line ∷ []) lines ∙ sym (or_none _))
+          (λ id. same_given (number_in line.name id) (λ _. refl) (lines ++ line ∷ []) lines ∙ sym (or_none _));
+      elsewhere = λ name e. same_told _ _ (shown_more name false e) (asks_more name false e ∙ append-nil (asks_of name (listing lines)))
+          (λ n. same_given (id_in name n) (λ _. refl) (lines ++ line ∷ []) lines) (λ id. same_given (number_in name id) (λ _. refl) (lines ++ line ∷ []) lines);
+    }

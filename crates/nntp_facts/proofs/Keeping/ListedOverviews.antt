@@ -1,19 +1,9 @@
 -- What overviews of a range say of the numbers and ids of their group.
-use Rattle.std.proofs.{Math.Bool.{or-false}, Common.{◌≡◌, ℕ, cond, List, [], ◌∷◌, ◌++◌, Option, None, inl, refl, arith}, lemmas.Bool.{and_parts}}
-use Rattle.nntp_wire.specs.{Listing.{OverviewValue}, declared.range.Range.{Range}}
-use Rattle.nntp_article.specs.{Article.Parts.{Id}, Session.{Spool.{Name}, Machine.{is_same, is_ascending, all_differ, overview_numbers, overview_ids}}}
-use Rattle.nntp_said.specs.{Asks.{ListsIn}, Facts.{OverviewsAre}}
-use Rattle.nntp_theory.specs.{Given.{asks_of, first_given, id_in, fields_of_overview}, Together.{number_in}, Inner.Together.{said_of, AgreesWithItself}}
-use Rattle.nntp_theory.proofs.{Members.{In, each_of, first_there, in_map, in_back}, Together.{ListedOverviews.{apart_agree}, TwoListsOfFacts.{or_none}}}
-use Rattle.nntp_facts.specs.Inner.{ListedOverviews.{HaveOwn, id_listed, place_listed}, KeptSaying.{said_listed}}
-
--- ---- what the first gives
-
--- where none is given, none of them gives one
-pub none_gives : {A B : Type 0} (f : B → Option A) (xs : List B) → first_given f xs ≡ None → (x : B) → In x xs → f x ≡ None
-none_gives f xs e x i = grind (arith, first_there f xs x)
-
--- ---- of overviews
+use Rattle.nntp_facts.proofs.Base.{or-false, ◌≡◌, ℕ, cond, List, [], ◌∷◌, ◌++◌, None, inl, refl, arith, and_parts, OverviewValue, Range, Id, Name, is_same}
+use Rattle.nntp_facts.proofs.Base.{is_ascending, overview_numbers, ListsIn, OverviewsAre, asks_of, first_given, id_in, fields_of_overview, number_in, said_of}
+use Rattle.nntp_facts.proofs.Base.{AgreesWithItself, each_of, in_map, in_back, or_none, HaveOwn, id_listed, place_listed, said_listed}
+use Rattle.nntp_article.specs.Session.Machine.{all_differ, overview_ids}
+use Rattle.nntp_theory.proofs.Together.ListedOverviews.{apart_agree}
 
 -- what one list of overviews says
 module _ (here : Name) (r : Range) (os : List OverviewValue) where

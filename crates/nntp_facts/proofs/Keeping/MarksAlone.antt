@@ -1,7 +1,5 @@
 -- What is kept of a group of which it is said alone that no number is below low or above high.
-use Rattle.std.{proofs.Common.{◌≡◌, ℕ, None, ap, ◌∙◌}, specs.{FinMap.{get, get-empty}, Ordering.{nat_cmp}, Cmp.Lexicographic.{slice_cmp}}}
-use Rattle.nntp_article.specs.Article.Parts.{Id}
-use Rattle.nntp_facts.specs.Inner.{Kept.{KeptGroup}, Between.{IsBetween}}
+use Rattle.nntp_facts.{proofs.Base.{◌≡◌, ℕ, None, ap, ◌∙◌, get, get-empty, nat_cmp, slice_cmp, Id, KeptGroup}, specs.Inner.Between.{IsBetween}}
 
 -- no id is shown
 pub none_identified : (g : KeptGroup) → IsBetween g → (n : ℕ) → get g.ids n ≡ None

@@ -1,17 +1,39 @@
 -- Noting an exchange behind earlier sessions: when it is permitted behind those that were accepted, and what stands then.
-use Rattle.nntp_wire.specs.Answer.{Asked, Response}
-use Rattle.std.proofs.Common.{◌≡◌, ◌+◌, ◌<◌, ◌^◌, ◌↔◌, Bool, false, true, List, [], ◌∷◌, ◌++◌, map, refl, sym, ap, ap₂, subst, ◌∙◌, arith, append_assoc}
-use Rattle.std.{proofs.Common.{length-append}, specs.List.{AllByRecursion}}
-use Rattle.nntp_article.specs.{Session.{Limit.{profile_of}, Machine.{start, fits, visible_after}}, declared.session.profile.Profile.{Profile}}
-use Rattle.nntp_pair.specs.{Pairing.{Paired, asked_at, asked_of, responses_of}, Inner.Pairing.{IsSpelled, lines_in}}
-use Rattle.nntp_said.specs.{Asks.{position_after}, Facts.{Fact, facts_of}, Inner.Facts.{FitsAll}}
-use Rattle.nntp_theory.specs.Inner.{Given.{size}, Together.{IsWellFormed, Together, Join}, Exchanged.{said_by, said_behind, AreFew}}
-use Rattle.nntp_theory.specs.{Answered.{SomePermitsEach, facts_of_all}, Permitted.{exchanged, ArePermittedBehind}}
-use Rattle.nntp_theory.{specs.declared.noted.Noted.TheVariants.{Consistent, OutOfPlace, Contradiction}, proofs.Members.{all_both, all_back, any_back}}
-use Rattle.nntp_theory.proofs.Session.PairsGoOn.{MayFollow, of_these, permitted_next, facts_next, visible_next, position_next, as_many, ends, with_pair}
-use Rattle.nntp_theory.proofs.{Given.{SessionsByFacts.{stand_each}, SessionsGoOn.{facts_behind, small_behind}}, Together.WellFormed.{spelled_formed}}
-use Rattle.nntp_facts.specs.Inner.{Kept.{Kept, IsKept, AreAdded}, Saying.{Saying, IsSelectedShown, Tells}, Noted.{FactsKept, HasNotedBehind, IsDue, MayBeNoted}}
-use Rattle.nntp_facts.{specs.Inner.Noted.{said_then, IsNotedBehind}, proofs.Keeping.SelectedGroupIsShown.{selected_shown}}
+use Rattle.nntp_facts.proofs.Base.{Asked, Response, ◌≡◌, ◌+◌, ◌<◌, ◌^◌, Bool, false, true, List, [], ◌∷◌, ◌++◌, map, refl, sym, ap, ap₂, subst, ◌∙◌, arith}
+use Rattle.nntp_facts.proofs.Base.{append_assoc, length-append, AllByRecursion, profile_of, start, fits, Visible, Profile, Paired, asked_at, asked_of}
+use Rattle.nntp_facts.proofs.Base.{responses_of, lines_in, Fact, facts_of, ThereIs, FitsAll, size, IsWellFormed, Together, Join, said_behind, AreFew}
+use Rattle.nntp_facts.proofs.Base.{facts_of_all, exchanged, ArePermittedBehind, Contradiction, all_both, all_back, any_back, all_front, all_from, any_in}
+use Rattle.nntp_facts.proofs.Base.{facts_next, as_many, ends, stand_each, facts_behind, Marks, Position, shows_group, same_itself, Kept, IsKept, AreAdded}
+use Rattle.nntp_facts.{proofs.Base.{Saying, IsSelectedShown, Tells, FactsKept, HasNotedBehind, IsDue, IsNotedBehind}, specs.Inner.Noted.{MayBeNoted, said_then}}
+use Rattle.std.proofs.Common.{◌↔◌}
+use Rattle.nntp_article.specs.Session.Machine.{visible_after}
+use Rattle.nntp_pair.specs.Inner.Pairing.{IsSpelled}
+use Rattle.nntp_said.specs.{Asks.{position_after}, Facts.{facts_from}, declared.position.Position.TheVariants.{Nowhere}}
+use Rattle.nntp_theory.specs.{Inner.Exchanged.{said_by}, Answered.{SomePermitsEach}, declared.noted.Noted.TheVariants.{Consistent, OutOfPlace}}
+use Rattle.nntp_theory.{specs.{Given.{facts_of_session}, Classes.{visible_from}}, proofs.Session.PairsGoOn.{MayFollow, of_these, permitted_next, visible_next}}
+use Rattle.nntp_theory.proofs.Session.{PairsGoOn.{position_next, with_pair}, NumbersOfShownGroups.{Among, HasNoted, still_stands}}
+use Rattle.nntp_theory.proofs.{Given.SessionsGoOn.{small_behind}, Together.WellFormed.{spelled_formed}, Members.{if_some}}
+
+-- answers that fit leave a group selected that a 211 selected
+left_stands : (profile : Profile) (all : List Fact) (v : Visible) (at : Position) (ps : List Asked) (answers : List Response) → HasNoted profile.marks all v → FitsAll profile v ps answers
+    → AllByRecursion (Among all) (facts_from profile.marks v at ps answers) → HasNoted profile.marks all (visible_from v ps answers)
+left_stands profile all v at ps [] stands f h = stands
+left_stands profile all v at [] (a ∷ more) stands f h = absurd f
+left_stands profile all v at (p ∷ ps) (a ∷ more) stands f h =
+    let rest = facts_from profile.marks (visible_after v p a) (position_after at p a) ps more in
+    left_stands profile all (visible_after v p a) (position_after at p a) ps more (still_stands profile all v at p a stands f.1 (all_front (Among all) (facts_of profile.marks v at p a) rest h)) f.2
+    (all_back (Among all) (facts_of profile.marks v at p a) rest h)
+
+-- and so one that is shown
+shown_of : (how : Marks) (all : List Fact) (v : Visible) → HasNoted how all v → IsSelectedShown v all
+shown_of how all v stands = if_some v.selected _ (λ name e. any_in (shows_group name) (ThereIs name) all (stands name e).there (same_itself name))
+
+-- in a session that fits the selected group is shown
+pub selected_shown : (profile : Profile) (ps : List Asked) (answers : List Response) → FitsAll profile start.visible ps answers
+    → IsSelectedShown (visible_from start.visible ps answers) (facts_of_session profile.marks ps answers)
+selected_shown profile ps answers f =
+    let all = facts_of_session profile.marks ps answers in
+    shown_of profile.marks all (visible_from start.visible ps answers) (left_stands profile all start.visible Nowhere ps answers (λ name e. cc) f (all_from (Among all) all (λ fact i. i)))
 
 -- ---- one exchange more
 
@@ -110,8 +132,7 @@ pub unfit : (profile used : Profile) (facts old : FactsKept) (earlier : List (Li
 unfit profile used facts old earlier past pair asked response does is s to by judged tested fails = grind arith
 
 -- so it is, by what is said of the calls
-pub weighed : (profile used : Profile) (facts old : FactsKept) (pair : Paired) (asked : Asked)
-    (response : Response) (does : Bool)
+pub weighed : (profile used : Profile) (facts old : FactsKept) (pair : Paired) (asked : Asked) (response : Response) (does : Bool)
     → facts ≡ old → profile_of facts.limit facts.marks ≡ profile → IsDue old pair → pair.index < 2 ^ 63 → lines_in pair.response < 2 ^ 64 → IsSpelled pair.place pair.initial pair.response
     → asked ≡ asked_at pair.place → response ≡ pair.response → used ≡ profile_of facts.limit facts.marks → does ≡ fits used facts.visible asked response → does ≡ true
     → Weighed profile facts pair
@@ -139,14 +160,10 @@ added_here profile facts kept earlier past pair asked response does w s to by ad
     let formed = spelled_formed profile.marks facts.visible facts.position (asked_at pair.place) pair.response _ w.spelled.spells w.spelled.octets in
     subst (AddsBehind facts kept does) same adds (said_behind profile.marks earlier past) (shows_selected profile facts earlier past s) s.kept (stand_together profile facts earlier past s) formed
 
--- the same facts, of which this is kept
-abbrev pub with_kept : FactsKept → Kept → FactsKept
-with_kept facts kept = record { limit = facts.limit; marks = facts.marks; count = facts.count; visible = facts.visible; position = facts.position; kept = kept; has_failed = facts.has_failed }
-
 -- where nothing is added, no spool permits it
 pub refused : (profile : Profile) (facts old : FactsKept) (kept : Kept) (earlier : List (List Paired)) (past : List Paired) (pair : Paired) (asked : Asked) (response : Response)
     → facts ≡ old → Weighed profile facts pair → HasNotedBehind profile facts earlier past → asked ≡ asked_at pair.place → response ≡ pair.response
-    → AddsBehind facts kept false (facts_of facts.marks facts.visible facts.position asked response) → IsNotedBehind profile earlier past pair old (with_kept facts kept) Contradiction
+    → AddsBehind facts kept false (facts_of facts.marks facts.visible facts.position asked response) → IsNotedBehind profile earlier past pair old (record facts { kept = kept }) Contradiction
 refused profile facts old kept earlier past pair asked response is w s to by adds =
     let added = added_here profile facts kept earlier past pair asked response false w s to by adds in
     let noted = noted_contradiction profile facts earlier past s pair w.may added.0 in grind arith

@@ -1,15 +1,9 @@
 -- What is kept in all, where the parts of an answer are noted.
-use Rattle.std.proofs.Common.{◌≡◌, ℕ, Bool, true, false, IsTrue, List, [], ◌∷◌, ◌++◌, Option, None, Some, sym, ap, subst, ◌∙◌, arith}
-use Rattle.std.{proofs.lemmas.Bool.{true≢false}, specs.{Prelude.{◌↔◌, IfSome}, List.{AllByRecursion}}}
-use Rattle.nntp_article.specs.{Article.Parts.{Id}, Inner.Listed.{Lists}}
-use Rattle.nntp_wire.specs.{Listing.{ActiveValue, OverviewValue}, declared.range.Range.{Range}}
-use Rattle.nntp_said.specs.{Asks.{Ask}, Facts.{Fact, OverviewsAre, GroupsAre}}
-use Rattle.nntp_theory.specs.Inner.Together.{IsWellFormed, said_of, join_said, Together, Join}
-use Rattle.nntp_facts.specs.Inner.{ListedGroups.{MayList}, Saying.{OfGroup, OfArticle, Saying, facts_in, AreListed, IsToExist, MayBeOf, Tells, MaySay}}
-use Rattle.nntp_facts.specs.Inner.{Saying.{group_of_overviews, overviews_facts}, Kept.{Kept, IsKept, AreKeptNames, AreKeptGroups, AreAdded}}
-use Rattle.nntp_facts.specs.Inner.KeptSaying.{MayListOf, IsTextOf, JoinGroups, MayBeSaid, ArticleJoins, IsArticleAdded}
-use Rattle.nntp_facts.proofs.Keeping.OverviewsTold.{plain_told, plain_if, group_there, of_range, overviews_told, no_id_there, asks_there}
-use Rattle.nntp_facts.proofs.Keeping.{PartsJoin.{parts_join, said_of_parts}, SaidOfArticles.{said_append}, KeptArticles.{Articles}}
+use Rattle.nntp_facts.proofs.Base.{◌≡◌, ℕ, Bool, List, [], ◌∷◌, Option, None, Some, sym, subst, ◌∙◌, arith, ◌↔◌, IfSome, AllByRecursion, Id, Lists, ActiveValue}
+use Rattle.nntp_facts.proofs.Base.{OverviewValue, Range, Ask, Fact, OverviewsAre, GroupsAre, IsWellFormed, Together, Join, MayList, OfGroup, OfArticle, Saying}
+use Rattle.nntp_facts.proofs.Base.{facts_in, AreListed, IsToExist, MayBeOf, Tells, MaySay, overviews_facts, Kept, AreAdded, IsTextOf, JoinGroups, MayBeSaid}
+use Rattle.nntp_facts.proofs.{Base.{ArticleJoins}, Keeping.OverviewsTold.{plain_told, plain_if, group_there, of_range, overviews_told, no_id_there, asks_there}}
+use Rattle.nntp_facts.{proofs.Keeping.PartsJoin.{parts_join}, specs.Inner.{Saying.{group_of_overviews}, KeptSaying.{MayListOf}}}
 
 -- what has the same parts is the same
 pub kept_is : (a b : Kept) → a.groups ≡ b.groups → a.names ≡ b.names → a.articles ≡ b.articles → a ≡ b
@@ -49,51 +43,27 @@ pub overviews_added : (facts more : List Fact) (s : Saying) (g : OfGroup) (lists
     → ((range : Range) → AllByRecursion IsWellFormed (overviews_facts (Some g) (range, lists.overviews)) → MayListOf facts g range lists.overviews
     → AreAdded facts (overviews_facts (Some g) (range, lists.overviews)) old new does)
     → AreAdded facts more old new does
-overviews_added facts more s g lists old new does e listed t formed adds = by (overviews_are_of s g e)
-  where
-    by : (o : Range × List OverviewValue) × (s.overviews ≡ Some o) × (s.group ≡ Some g) → AreAdded facts more old new does
-    by ((range, os), is, named) =
-        let of = of_range facts s t.asks t.may (range, os) is in
-        let asked = asks_there facts s t.asks t.may (range, os) is g named in
-        let whole : OverviewsAre g.name range os ∷ [] ≡ more = sym (overviews_told facts s t.asks t.may (range, os) is g named) ∙ t.same in
-        let same : lists.overviews ≡ os = subst (λ o. IfSome o (λ o. lists.overviews ≡ o.1)) is listed.1 in
-        let may : MayListOf facts g range lists.overviews = record {
-          shown = grind (arith, t.may.shown, of.there_is, named);
-          numbers = grind (arith, t.may.numbers, asked, named, same);
-          id = no_id_there facts s t.asks t.may (range, os) is g named;
-          own = grind (arith, of.own, same);
-        } in grind (arith, adds range, may, whole, same, formed)
+overviews_added facts more s g lists old new does e listed t formed adds =
+    let (o, is, named) = overviews_are_of s g e in
+    let of = of_range facts s t.asks t.may o is in
+    let asked = asks_there facts s t.asks t.may o is g named in
+    let whole : OverviewsAre g.name o.0 o.1 ∷ [] ≡ more = sym (overviews_told facts s t.asks t.may o is g named) ∙ t.same in
+    let same : lists.overviews ≡ o.1 = subst (λ o. IfSome o (λ o. lists.overviews ≡ o.1)) is listed.1 in
+    let may : MayListOf facts g o.0 lists.overviews = record {
+      shown = grind (arith, t.may.shown, of.there_is, named);
+      numbers = grind (arith, t.may.numbers, asked, named, same);
+      id = no_id_there facts s t.asks t.may o is g named;
+      own = grind (arith, of.own, same);
+    } in grind (arith, adds o.0, may, whole, same, formed)
 
 -- ---- where nothing is listed
 
 module _ (facts more : List Fact) (s : Saying) (no_list : s.groups ≡ None) (plain : s.overviews ≡ None) (t : Tells facts s more)
     (together : Together facts) (formed : AllByRecursion IsWellFormed more) where
   -- the parts tell all
-  same : facts_in s t.asks ≡ more
-  same = sym (plain_told facts s t.asks t.may plain) ∙ t.same
+  pub parts_tell : facts_in s t.asks ≡ more
+  parts_tell = sym (plain_told facts s t.asks t.may plain) ∙ t.same
 
   -- all joins exactly if the groups do and the article does
-  joins : Join facts more ↔ (JoinGroups facts s t.asks × ArticleJoins facts s.article)
-  joins = grind (arith, parts_join facts s t.asks no_list t.may together (subst (AllByRecursion IsWellFormed) (sym same) formed), same)
-
-  -- so not where the groups don't
-  pub no_groups_join : (test : Bool) → test ≡ false → IsTrue test ↔ JoinGroups facts s t.asks → Join facts more → ⊥
-  no_groups_join test fails is j = true≢false (sym (is.1 (joins.0 j).0) ∙ fails)
-
-  -- nor where the article doesn't
-  pub no_article_joins : (does : Bool) (old new : Articles) → does ≡ false → IsArticleAdded facts s.article old new does → (Join facts more → ⊥) × (new ≡ old)
-  no_article_joins does old new fails added = let refused = subst (IsArticleAdded facts s.article old new) fails added in (λ j. refused.0 (joins.0 j).1, refused.1)
-
-  -- else all is kept
-  pub parts_kept : (does test : Bool) (k : Kept) → does ≡ true → test ≡ true → IsTrue test ↔ JoinGroups facts s t.asks
-      → (old : Kept) → IsArticleAdded facts s.article old.articles k.articles does
-      → AreKeptNames (facts ++ facts_in s t.asks) k.names → AreKeptGroups (facts ++ facts_in s t.asks) k.groups → Join facts more × IsKept (facts ++ more) k
-  parts_kept does test k done passed is old article names groups =
-      let added = subst (IsArticleAdded facts s.article old.articles k.articles) done article in (
-        joins.1 (is.0 passed, added.0),
-        subst (λ more. IsKept (facts ++ more) k) same (record {
-          groups = groups;
-          names = names;
-          articles = λ id. said_append facts (facts_in s t.asks) id ∙ ap (join_said (said_of facts id)) (said_of_parts facts s t.asks no_list t.may id) ∙ added.1 id;
-        }),
-      )
+  pub joins : Join facts more ↔ (JoinGroups facts s t.asks × ArticleJoins facts s.article)
+  joins = grind (arith, parts_join facts s t.asks no_list t.may together (subst (AllByRecursion IsWellFormed) (sym parts_tell) formed), parts_tell)

@@ -1,11 +1,10 @@
 -- Exchanges of several sessions are noted one after the other: the next one is permitted exactly if it fits its own session and what it says joins what all said.
-use Rattle.std.proofs.Common.{◌≡◌, ◌+◌, ◌<◌, ◌^◌, List, [], ◌∷◌, ◌++◌, length, map, refl, sym, ap, subst, arith, append-nil, length-append}
+use Rattle.nntp_facts.proofs.Base.{◌≡◌, ◌+◌, ◌<◌, ◌^◌, List, [], ◌∷◌, ◌++◌, length, map, refl, sym, ap, subst, arith, append-nil, length-append, Profile, start}
+use Rattle.nntp_facts.proofs.Base.{Paired, said_behind, AreFew, exchanged, Answered, all_both, facts_behind, IsKept, FactsKept, HasNotedBehind}
+use Rattle.nntp_facts.specs.Inner.Noted.{begun}
 use Rattle.std.proofs.lemmas.List.{map-append}
-use Rattle.nntp_article.specs.{declared.session.profile.Profile.{Profile}, Session.Machine.{Run, start}}
-use Rattle.nntp_pair.specs.Pairing.{Paired}
-use Rattle.nntp_theory.{specs.{Inner.Exchanged.{said_behind, AreFew}, Permitted.{exchanged}, Answered.{Answered, PermitsEach}}, proofs.Members.{all_both}}
-use Rattle.nntp_theory.proofs.Given.SessionsGoOn.{facts_behind}
-use Rattle.nntp_facts.specs.Inner.{Kept.{IsKept}, Noted.{FactsKept, HasNotedBehind, begun}}
+use Rattle.nntp_article.specs.Session.Machine.{Run}
+use Rattle.nntp_theory.specs.Answered.{PermitsEach}
 
 -- ---- the facts of sessions
 

@@ -1,22 +1,17 @@
 -- When overviews join what was said, and what is kept then.
-use Rattle.std.proofs.Common.{◌≡◌, Bool, true, false, cond, IsTrue, List, [], ◌∷◌, ◌++◌, Option, None, Some, refl, sym, ap, subst, ◌∙◌, append-nil, arith}
-use Rattle.std.{proofs.{lemmas.{Bool.{true≢false, or_left, eqb-true, eq-eqb}, List.Folds.{list_any-append}}, Math.Bool.{or-false}}, specs.Prelude.{◌↔◌, IfSome}}
-use Rattle.std.specs.{Prelude.{IsFalse}, List.{AllByRecursion, list_any}, Option.{option_or}, Cmp.Lexicographic.{same_text}, FinMap.{get}}
-use Rattle.nntp_wire.specs.{Listing.{OverviewValue, Fields}, declared.range.Range.{Range}}
-use Rattle.nntp_article.specs.{Article.Parts.{Id}, Session.{Spool.{Name}, Machine.{is_same, overview_numbers}}}
-use Rattle.nntp_said.specs.{Asks.{Ask, ListsIn}, Facts.{Fact, OverviewsAre}}
-use Rattle.nntp_theory.specs.Given.{asks_of, shows_group, is_shown_group, first_given, id_of_overview, id_in, fields_of_overview, fields_in}
-use Rattle.nntp_theory.specs.{Together.{number_of_overview, number_in, denies_article}, Inner.Together.{AsksStand, IsWellFormed, JoinNumbers, JoinIds}}
-use Rattle.nntp_theory.{specs.Inner.Together.{Together, Join, SaidOfArticle, said_of, AreSame, join_said}, proofs.Members.{In, all_at, all_from, all_back}}
-use Rattle.nntp_theory.proofs.{Members.{any_in, found_in}, Together.{FactsOfASpoolStand.{same_itself}, FactsJoin.{asks_append}, TwoListsOfFacts.{given_append}}}
-use Rattle.nntp_theory.proofs.Together.{TwoListsOfFacts.{given_silent, or_none, any_silent}, ListedOverviews.{overview_at, overview_of, told_by}}
-use Rattle.nntp_facts.specs.Inner.Kept.{Kept, IsKept, Told, told, AreKept, AreKeptNames, AreKeptArticles, with_part, Changes, MayShow, said_kept}
-use Rattle.nntp_facts.specs.Inner.KeptSaying.{IsSaidKept, IsSaidAdded, MayGive, MayBeGiven, with_overviews, said_alone, said_listed}
-use Rattle.nntp_facts.specs.Inner.{ListedOverviews.{HaveOwn, OverviewJoins, id_listed, place_listed}, Articles.{telling}}
+use Rattle.nntp_facts.proofs.Base.{◌≡◌, Bool, true, false, cond, IsTrue, List, [], ◌∷◌, ◌++◌, Option, None, Some, refl, sym, ap, subst, ◌∙◌, append-nil, arith}
+use Rattle.nntp_facts.proofs.Base.{true≢false, or_left, eqb-true, eq-eqb, list_any-append, or-false, ◌↔◌, IfSome, IsFalse, AllByRecursion, list_any, option_or}
+use Rattle.nntp_facts.proofs.Base.{same_text, get, OverviewValue, Range, Id, Name, is_same, overview_numbers, Ask, ListsIn, Fact, OverviewsAre, asks_of}
+use Rattle.nntp_facts.proofs.Base.{shows_group, is_shown_group, first_given, id_in, fields_of_overview, fields_in, number_in, denies_article, AsksStand}
+use Rattle.nntp_facts.proofs.Base.{IsWellFormed, JoinNumbers, JoinIds, Together, Join, said_of, AreSame, join_said, In, all_at, all_from, all_back, any_in}
+use Rattle.nntp_facts.proofs.Base.{found_in, same_itself, asks_append, given_append, given_silent, or_none, any_silent, Kept, IsKept, Told, told, AreKept}
+use Rattle.nntp_facts.proofs.Base.{AreKeptNames, AreKeptArticles, with_part, Changes, MayShow, said_kept, IsSaidKept, IsSaidAdded, MayGive, with_overviews}
+use Rattle.nntp_facts.proofs.Base.{said_alone, said_listed, HaveOwn, OverviewJoins, id_listed, place_listed, telling, SaidOfArticle, Fields}
 use Rattle.nntp_facts.proofs.Keeping.{KeptNames.{names_kept}, KeptArticles.{Articles, MayKeep, article_joins, denied_kept}, ListedOverviews.{listed_asks}}
 use Rattle.nntp_facts.proofs.Keeping.{ListedOverviews.{listed_ids, listed_places, listed_said, own_agree, none_in_front}, FactsOfOneGroup.{asked_here}}
-use Rattle.nntp_facts.proofs.Keeping.{FactsOfOneGroup.{asked_elsewhere}, PartsJoin.{agree_told}, SaidOfArticles.{said_append}, SilentFacts.{numbers_join}}
-use Rattle.nntp_facts.proofs.Keeping.SilentFacts.{told_same}
+use Rattle.nntp_facts.proofs.Keeping.{FactsOfOneGroup.{asked_elsewhere, numbers_join, told_same, same_told}, PartsJoin.{agree_told}}
+use Rattle.nntp_facts.{proofs.Keeping.SaidOfArticles.{said_append}, specs.Inner.KeptSaying.{MayBeGiven}}
+use Rattle.nntp_theory.{specs.{Given.{id_of_overview}, Together.{number_of_overview}}, proofs.Together.ListedOverviews.{overview_at, overview_of, told_by}}
 
 -- what is told of a group, once its numbers have the ids of these overviews
 abbrev pub with_listed : Told → List OverviewValue → Told
@@ -58,20 +53,14 @@ module _ (facts : List Fact) (name : Name) (r : Range) (os : List OverviewValue)
     ids_once = λ other id. given_or _ (λ n e. let h = overview_of name other r os id n e in grind (arith, h.same_group, h.same_number, h.same_id, may h.overview h.there));
   }
 
-  -- and back
-  may_from : HaveOwn os → JoinIds facts more → (o : OverviewValue) → In o os → MayShow (told facts name) (Some (o.number, o.id))
-  may_from own j o i =
-      let all = all_at _ o os (own_agree name r os own) i in
-      grind (arith, same_itself name, all.0, all.1, j.ids name o.number, j.ids_once name o.id)
-
   pub overviews_join : Together facts → AllByRecursion IsWellFormed more → HaveOwn os → Join facts more ↔ (AsksStand (asks_of name facts ++ asks) × AllByRecursion (OverviewJoins facts name) os)
   overviews_join t formed own = (
     λ j. (
       numbers.0 j.numbers,
-      all_from (OverviewJoins facts name) os (λ o i. record {
-        id = may_from own j.ids o i;
+      all_from (OverviewJoins facts name) os (λ o i. let all = all_at _ o os (own_agree name r os own) i in record {
+        id = grind (arith, same_itself name, all.0, all.1, j.ids.ids name o.number, j.ids.ids_once name o.id);
         free = (j.articles o.id).shown (or_left _ false (any_in (λ (v : OverviewValue). is_same v.id o.id) o os i (same_itself o.id)));
-        fields = let all = all_at _ o os (own_agree name r os own) i in let same = (j.articles o.id).fields in grind (arith, or_none, all.2, same);
+        fields = let same = (j.articles o.id).fields in grind (arith, or_none, all.2, same);
       }),
     ),
     λ h. record {
@@ -145,7 +134,7 @@ none_yet tells name shown other = by (is_same name other) refl
   where
     by : (b : Bool) → is_same name other ≡ b → cond b (with_listed (tells name) []) (tells other) ≡ tells other
     by true e =
-        (λ i. record { is_shown = sym shown i; asks = (tells name).asks; ids = λ n. or_none ((tells name).ids n) i; places = λ id. or_none ((tells name).places id) i })
+        same_told (with_listed (tells name) []) (tells name) (sym shown) refl (λ n. or_none ((tells name).ids n)) (λ id. or_none ((tells name).places id))
         ∙ ap tells (same_text name other (sym e))
     by false e = refl
 
@@ -155,12 +144,9 @@ module _ (facts : List Fact) (tells : Name → Told) (name : Name) (front : List
   one_more_given =
       put_changes tells (with_overviews tells name front) name (with_listed (tells name) (front ++ o ∷ [])) (with_part (with_overviews tells name front name) [] (Some (o.number, o.id)))
       (λ other apart. ap (λ b. cond b (with_listed (tells name) front) (tells other)) apart)
-      ((λ i. record {
-        is_shown = true;
-        asks = sym (append-nil (tells name).asks) i;
-        ids = λ n. next (id_of_overview n) ((tells name).ids n) i;
-        places = λ id. next (number_of_overview id) ((tells name).places id) i;
-      }) ∙ ap (λ t. with_part t [] (Some (o.number, o.id))) (sym (put_there tells name (with_listed (tells name) front))))
+      (same_told (with_listed (tells name) (front ++ o ∷ [])) (with_part (with_listed (tells name) front) [] (Some (o.number, o.id))) refl (sym (append-nil (tells name).asks))
+      (λ n. next (id_of_overview n) ((tells name).ids n)) (λ id. next (number_of_overview id) ((tells name).places id))
+      ∙ ap (λ t. with_part t [] (Some (o.number, o.id))) (sym (put_there tells name (with_listed (tells name) front))))
     where
       next : {A : Type 0} (f : OverviewValue → Option A) (before : Option A) → option_or before (first_given f (front ++ o ∷ [])) ≡ option_or (option_or before (first_given f front)) (f o)
       next f before = grind (arith, given_append)
@@ -179,8 +165,7 @@ module _ (facts : List Fact) (tells : Name → Told) (name : Name) (front : List
   -- the article of one more is said
   pub said_next : (id : Id) → join_said (said_of facts id) (said_listed (front ++ o ∷ []) id) ≡ join_said (said_of so_far id) (said_alone o.id (telling false o.told) id)
   said_next id =
-      let has = list_any-append (λ (v : OverviewValue). is_same v.id id) front (o ∷ []) in
-      grind (arith, said_so_far id, has, given_append (fields_of_overview id) front (o ∷ []), or-false, or_none)
+      grind (arith, said_so_far id, list_any-append, given_append (fields_of_overview id) front (o ∷ []), or-false, or_none)
 
   -- what may be given of the next one beside what was told before, may be given beside those in front too
   pub may_give_next : (rest : List OverviewValue) → HaveOwn (front ++ o ∷ rest) → AllByRecursion (MayGive facts (tells name)) (front ++ o ∷ rest)
@@ -202,9 +187,7 @@ pub surely_added : (facts : List Fact) (id : Id) (told : Option Fields) (old new
     → (does ≡ true) × IsSaidKept facts (said_alone id (telling false told)) new
 surely_added facts id told old new true kept free same added = (refl, added.1)
 surely_added facts id told old new false kept free same added =
-    let denied = sym (denied_kept facts old id kept) ∙ free in
-    let before = subst (AreSame told) (ap (λ (s : SaidOfArticle). s.fields) (kept id)) same in
-    let may : MayKeep (get old id) (telling false told) = grind (arith, denied, before) in
+    let may : MayKeep (get old id) (telling false told) = grind (arith, denied_kept facts old id kept, kept id) in
     absurd (added.0 ((article_joins facts old id (telling false told) kept).1 may))
 
 -- an overview joins where it may be given

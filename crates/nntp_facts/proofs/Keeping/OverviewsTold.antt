@@ -1,13 +1,10 @@
 -- What a saying tells, by overviews or otherwise.
-use Rattle.std.{proofs.Common.{◌≡◌, ℕ, false, cond, List, [], ◌∷◌, ◌++◌, Option, None, Some, MatchOption, sym, ap, subst, ◌∙◌, arith}, specs.Prelude.{IfSome}}
-use Rattle.std.specs.{List.{list_any}, Option.{option_map_or}}
-use Rattle.nntp_wire.specs.{Listing.{OverviewValue}, declared.range.Range.{Range}}
-use Rattle.nntp_article.specs.{Article.Parts.{Id}, Session.{Spool.{Name}, Machine.{is_same, overview_numbers}}}
-use Rattle.nntp_said.specs.{Asks.{Ask, ListsIn}, Facts.{Fact, OverviewsAre}}
-use Rattle.nntp_theory.specs.{Given.{asks_of, is_shown_group, first_given, id_in}, Together.{denies_group, number_in}, Inner.Together.{said_of}}
-use Rattle.nntp_facts.specs.Inner.{Saying.{OfGroup, Saying, asked_id, overviews_facts, facts_in, facts_told, AreOfRange, MaySay}, Points.{id_said, place_said}}
-use Rattle.nntp_facts.{specs.Inner.Points.{said_by}, proofs.Keeping.{FactsOfParts.{shown_group, denied_group}, PartsJoin.{said_of_parts, group_is}}}
-use Rattle.nntp_facts.proofs.Keeping.ListedOverviews.{listed_asks, listed_ids, listed_places, listed_said}
+use Rattle.nntp_facts.proofs.Base.{◌≡◌, ℕ, false, cond, List, [], ◌∷◌, ◌++◌, Option, None, Some, MatchOption, sym, ap, subst, ◌∙◌, arith, IfSome, list_any}
+use Rattle.nntp_facts.proofs.Base.{option_map_or, OverviewValue, Range, Id, Name, is_same, overview_numbers, Ask, ListsIn, Fact, OverviewsAre, asks_of}
+use Rattle.nntp_facts.proofs.Base.{is_shown_group, first_given, id_in, denies_group, number_in, said_of, OfGroup, Saying, asked_id, overviews_facts, facts_in}
+use Rattle.nntp_facts.proofs.{Base.{MaySay}, Keeping.{FactsOfParts.{shown_group, denied_group}, PartsJoin.{said_of_parts, group_is}}}
+use Rattle.nntp_facts.{proofs.Keeping.ListedOverviews.{listed_asks, listed_ids, listed_places, listed_said}, specs.Inner.Saying.{facts_told, AreOfRange}}
+use Rattle.nntp_facts.specs.Inner.Points.{id_said, place_said, said_by}
 
 -- overviews, if any are said
 abbrev pub Overviews : Type 0

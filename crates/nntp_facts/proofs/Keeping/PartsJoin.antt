@@ -1,23 +1,16 @@
 -- When the parts of an answer join what was said, and what is kept then.
-use Rattle.std.proofs.Common.{◌≡◌, ℕ, true, false, cond, List, [], ◌∷◌, ◌++◌, Option, None, Some, is_some, MatchOption, refl, sym, ap, subst, ◌∙◌, arith}
-use Rattle.std.{proofs.lemmas.{Bool.{true≢false, or_left, or_right}, List.Folds.{list_any-append}}, specs.Prelude.{◌↔◌, IsFalse, IfSome}}
-use Rattle.std.specs.{Option.{option_map_or, option_or}, List.{AllByRecursion, list_any}, Cmp.Lexicographic.{same_text}}
-use Rattle.nntp_article.specs.{Article.Parts.{Id}, Session.{Spool.{Name}, Machine.{is_same, only}}}
-use Rattle.nntp_wire.specs.Listing.{ActiveValue, OverviewValue}
-use Rattle.nntp_said.specs.{Asks.{Ask}, Facts.{Fact}}
-use Rattle.nntp_theory.specs.{Given.{asks_of, is_shown_group, first_given, id_in}, Inner.Together.{IsWellFormed, AgreesWithItself, said_of, said_nothing}}
-use Rattle.nntp_theory.specs.{Inner.Together.{join_said, Together, JoinNames, JoinNumbers, JoinIds, JoinArticle, Join}, Together.{denies_group, number_in}}
-use Rattle.nntp_theory.proofs.Together.{TwoListsOfFacts.{given_append}, FactsJoin.{asks_append}, FactsOfASpoolStand.{same_itself}}
-use Rattle.nntp_theory.proofs.{Together.ListedOverviews.{alone_agrees}, Members.{all_both}, Ids.OnePlaceOfAnId.{agree_together, shown_with_id}}
-use Rattle.nntp_facts.specs.Inner.Saying.{OfGroup, OfArticle, Exists, Describes, Saying, asked_id, sent_facts, lack_facts, there_facts, missing_facts}
-use Rattle.nntp_facts.specs.Inner.{Saying.{groups_facts, id_facts, group_facts, facts_in, MaySay, IsToExist, MayBeOf}, Kept.{told, Told, IsUntold, AreKept}}
-use Rattle.nntp_facts.specs.Inner.{Kept.{AreKeptGroups, with_part, Changes, Agree, IsShownAt, MayShow, AreKeptWith, id_of, place_of}, KeptSaying.{GroupJoins}}
-use Rattle.nntp_facts.{specs.Inner.KeptSaying.{JoinGroups, said_in, ArticleJoins}, proofs.Keeping.SilentFacts.{groups_kept, numbers_join, no_numbers_join}}
-use Rattle.nntp_facts.proofs.Keeping.{SilentFacts.{GiveNoIds, ids_join, told_same}, KeptGroups.{Groups}, FactsOfOneGroup.{AskOf, asked_here, asked_elsewhere}}
-use Rattle.nntp_facts.proofs.Keeping.{FactsOfOneGroup.{GivesId, gives_joins}, FactsOfParts.{asks_of_group, ids_in, of_articles, group_asks, group_ids}}
-use Rattle.nntp_facts.proofs.Keeping.{FactsOfParts.{group_places, shown_group, denied_group}, SaidOfArticles.{nothing_more, said_is_read, lack_said}}
-use Rattle.nntp_facts.proofs.Keeping.SaidOfArticles.{there_said, text_said, text_at, overview_said, overview_at}
-use Rattle.nntp_numbers.specs.Inner.{Summary.{AreBounded}, Part.{Says}}
+use Rattle.nntp_facts.proofs.Base.{◌≡◌, ℕ, true, false, cond, List, [], ◌∷◌, ◌++◌, Option, None, Some, is_some, MatchOption, refl, sym, ap, subst, ◌∙◌, arith}
+use Rattle.nntp_facts.proofs.Base.{true≢false, or_left, or_right, list_any-append, ◌↔◌, IsFalse, IfSome, option_map_or, option_or, AllByRecursion, list_any}
+use Rattle.nntp_facts.proofs.Base.{same_text, Id, Name, is_same, only, OverviewValue, Ask, Fact, asks_of, is_shown_group, first_given, id_in, IsWellFormed}
+use Rattle.nntp_facts.proofs.Base.{AgreesWithItself, said_of, said_nothing, join_said, Together, JoinNumbers, JoinIds, JoinArticle, Join, denies_group}
+use Rattle.nntp_facts.proofs.Base.{number_in, given_append, asks_append, same_itself, all_both, AreBounded, Says, OfGroup, OfArticle, Exists, Describes, Saying}
+use Rattle.nntp_facts.proofs.Base.{asked_id, sent_facts, lack_facts, id_facts, group_facts, facts_in, MaySay, IsToExist, MayBeOf, told, IsUntold, AreKeptGroups}
+use Rattle.nntp_facts.proofs.Base.{with_part, Changes, Agree, IsShownAt, id_of, place_of, GroupJoins, JoinGroups, said_in, ArticleJoins, Bool, IsTrue}
+use Rattle.nntp_facts.proofs.Keeping.FactsOfOneGroup.{numbers_join, no_numbers_join, GiveNoIds, ids_join, told_same, AskOf, asked_here, asked_elsewhere}
+use Rattle.nntp_facts.proofs.Keeping.{FactsOfOneGroup.{GivesId, gives_joins, same_told}, KeptGroups.{Groups}, FactsOfParts.{asks_of_group, ids_in, of_articles}}
+use Rattle.nntp_facts.proofs.Keeping.{FactsOfParts.{group_asks, shown_group, denied_group, group_gives}, SaidOfArticles.{nothing_more, said_is_read}}
+use Rattle.nntp_facts.proofs.Keeping.SaidOfArticles.{overview_said, said_at}
+use Rattle.nntp_theory.{specs.Inner.Together.{JoinNames}, proofs.{Together.ListedOverviews.{alone_agrees}, Ids.OnePlaceOfAnId.{agree_together, shown_with_id}}}
 
 -- ---- articles
 
@@ -26,8 +19,8 @@ of_part : (a : Option (Id × OfArticle)) (name : Name) (e : Option (ℕ × Id)) 
     → ((other : Id) (os : List OverviewValue) → a ≡ Some (other, Describes os) → MatchOption (only os) ⊥ (λ o. o.id ≡ other)) → (id : Id)
     → join_said (said_of (sent_facts a) id) (join_said (said_of (id_facts name e) id) (said_of (lack_facts a) id)) ≡ said_in a id
 of_part (Some (other, Exists)) name None placed may one id = absurd (may other refl)
-of_part (Some (other, Describes os)) name d placed may one id = grind (arith, nothing_more, there_said, overview_said other os (one other os refl) id, overview_at)
-of_part s name d placed may one id = grind (arith, nothing_more, lack_said, there_said, text_said, text_at)
+of_part (Some (other, Describes os)) name d placed may one id = grind (arith, nothing_more, overview_said other os (one other os refl) id, said_at other (Describes os))
+of_part s name d placed may one id = grind (arith, nothing_more, said_at)
 
 -- an overview agrees with itself, as it is the only one
 part_agrees : (group : Option OfGroup) (a : Option (Id × OfArticle)) → IfSome a (MayBeOf group) → AllByRecursion AgreesWithItself (sent_facts a)
@@ -37,18 +30,12 @@ part_agrees group a may = grind arith
 -- of the parts none is a list of overviews of a range
 parts_agree : (s : Saying) (asks : List Ask) → IfSome s.article (MayBeOf s.group) → AllByRecursion AgreesWithItself (facts_in s asks)
 parts_agree s asks may =
-    all_both AgreesWithItself (sent_facts s.article) _ (part_agrees s.group s.article may) (there s.there_is _ (of s.group asks _ (back s.article s.there_is_no s.groups)))
+    all_both AgreesWithItself (sent_facts s.article) _ (part_agrees s.group s.article may) (grind (arith, of s.group asks))
   where
-    there : (o : Option Name) (more : List Fact) → AllByRecursion AgreesWithItself more → AllByRecursion AgreesWithItself (there_facts o ++ more)
-    there o more h = grind arith
-
     of : (g : Option OfGroup) (asks : List Ask) (more : List Fact) → AllByRecursion AgreesWithItself more → AllByRecursion AgreesWithItself (group_facts g asks ++ more)
     of None asks more h = h
     of (Some g) [] more h = grind arith
     of (Some g) (ask ∷ asks) more h = (tt, of (Some g) asks more h)
-
-    back : (a : Option (Id × OfArticle)) (o : Option Name) (l : Option (Option (List ℕ) × List ActiveValue)) → AllByRecursion AgreesWithItself (missing_facts o ++ (lack_facts a ++ groups_facts l))
-    back a o l = grind arith
 
 -- ids and numbers of what is told agree where facts stand together
 pub agree_told : (facts : List Fact) → Together facts → (name : Name) (id : Option (ℕ × Id)) → Agree (told facts name).ids (told facts name).places id
@@ -92,8 +79,8 @@ module _ (facts : List Fact) (s : Saying) (asks : List Ask) (no_list : s.groups 
   group_is g is = (
     λ name. asks_of_group s asks no_list name ∙ ap (λ g. asks_of name (group_facts g asks)) is ∙ group_asks name g asks,
     record {
-      ids = λ name n. grind (arith, given_append, is, group_ids g asks name n);
-      places = λ name id. grind (arith, given_append, is, group_places g asks name id);
+      ids = λ name n. grind (arith, given_append, is, (group_gives g asks).ids name n);
+      places = λ name id. grind (arith, given_append, is, (group_gives g asks).places name id);
     },
   )
 
@@ -104,20 +91,15 @@ module _ (facts : List Fact) (s : Saying) (asks : List Ask) (no_list : s.groups 
   -- ---- all of it
 
   names_join : JoinNames facts (facts_in s asks) ↔ (IfSome s.there_is (λ name. IsFalse (list_any (denies_group name) facts)) × IfSome s.there_is_no (λ name. IsFalse (is_shown_group facts name)))
-  names_join = (
-    λ j. (
-      (named s.there_is (λ name. IsFalse (list_any (denies_group name) facts))).0 (λ name t. j.groups name (shown_group s asks no_list name ∙ t)),
-      (named s.there_is_no (λ name. IsFalse (is_shown_group facts name))).0 (λ name t. j.no_groups name (denied_group s asks no_list name ∙ t)),
-    ),
-    λ h. record {
-      groups = λ name t. (named s.there_is (λ name. IsFalse (list_any (denies_group name) facts))).1 h.0 name (sym (shown_group s asks no_list name) ∙ t);
-      no_groups = λ name t. (named s.there_is_no (λ name. IsFalse (is_shown_group facts name))).1 h.1 name (sym (denied_group s asks no_list name) ∙ t);
-    },
-  )
+  names_join =
+      let there = named s.there_is (is_shown_group (facts_in s asks)) (λ name. IsFalse (list_any (denies_group name) facts)) (shown_group s asks no_list) in
+      let missing = named s.there_is_no (λ name. list_any (denies_group name) (facts_in s asks)) (λ name. IsFalse (is_shown_group facts name)) (denied_group s asks no_list) in
+      (λ j. (there.0 j.groups, missing.0 j.no_groups), λ h. record { groups = there.1 h.0; no_groups = missing.1 h.1 })
     where
-      named : (o : Option Name) (P : Name → Type 0) → ((name : Name) → option_map_or (λ g. is_same g name) o false ≡ true → P name) ↔ IfSome o P
-      named None P = (λ h. tt, λ h name t. absurd (true≢false (sym t)))
-      named (Some g) P = (λ h. h g (same_itself g), λ h name t. subst P (same_text g name (sym t)) h)
+      named : (o : Option Name) (read : Name → Bool) (P : Name → Type 0) → ((name : Name) → read name ≡ option_map_or (λ g. is_same g name) o false)
+          → ((name : Name) → IsTrue (read name) → P name) ↔ IfSome o P
+      named None read P is = (λ h. tt, λ h name t. absurd (true≢false (sym t ∙ is name)))
+      named (Some g) read P is = (λ h. h g (is g ∙ same_itself g), λ h name t. subst P (same_text g name (sym (sym (is name) ∙ t))) h)
 
   group_join : Together facts → (JoinNumbers facts (facts_in s asks) × JoinIds facts (facts_in s asks)) ↔ IfSome s.group (GroupJoins facts asks)
   group_join t = by s.group refl
@@ -153,12 +135,8 @@ module _ (facts : List Fact) (s : Saying) (asks : List Ask) (no_list : s.groups 
   -- of the group what is said, and of others what was told before
   pub group_changes : (g : OfGroup) → s.group ≡ Some g → Changes (told facts) (told (facts ++ facts_in s asks)) g.name (with_part (told facts g.name) (asks ++ asked_id g.id) g.id)
   group_changes g is = record {
-    here = λ i. record {
-      is_shown = shown_now i;
-      asks = (asks_append g.name facts more ∙ ap (λ more. asks_of g.name facts ++ more) (asked_here g.name all more says.0)) i;
-      ids = λ n. given (id_in g.name n) (id_of g.id n) (says.1.ids g.name n) i;
-      places = λ id. given (number_in g.name id) (place_of g.id id) (says.1.places g.name id) i;
-    };
+    here = same_told _ _ shown_now (asks_append g.name facts more ∙ ap (λ more. asks_of g.name facts ++ more) (asked_here g.name all more says.0))
+        (λ n. given (id_in g.name n) (id_of g.id n) (says.1.ids g.name n)) (λ id. given (number_in g.name id) (place_of g.id id) (says.1.places g.name id));
     elsewhere = λ other apart. told_same facts more other (record {
       not_shown = not_shown other apart;
       no_asks = asked_elsewhere g.name all more says.0 other apart;
@@ -187,23 +165,10 @@ module _ (facts : List Fact) (s : Saying) (asks : List Ask) (no_list : s.groups 
       not_shown : (other : Name) → is_same g.name other ≡ false → is_shown_group more other ≡ false
       not_shown other apart = grind (arith, shown_group s asks no_list other, may.there, is)
 
-  -- where nothing is said of a group, nothing is told
-  pub nothing_told : s.group ≡ None → (name : Name) → IsUntold (told (facts_in s asks) name)
-  nothing_told none name = grind arith
-
   -- ---- what is kept of groups then
-
-  -- what is said of the group is added, as a call adds it
-  pub group_added : Together facts → (g : OfGroup) → s.group ≡ Some g → IfSome s.group (GroupJoins facts asks) → (old new : Groups)
-      → ((before : Name → Told) (more : List Ask) → AreKept before old → Says g.numbers more
-      → ((before g.name).is_shown ≡ false → AreBounded more) → Agree (before g.name).ids (before g.name).places g.id
-      → MayShow (before g.name) g.id → AreKeptWith before g.name more g.id new)
-      → AreKeptGroups facts old → AreKeptGroups (facts ++ facts_in s asks) new
-  group_added t g is joins old new adds kept =
-      adds (told facts) (asks ++ asked_id g.id) kept (says_then facts s asks may g is) (bounded_then facts s asks may g is)
-      (agree_told facts t g.name g.id) (subst (λ o. IfSome o (GroupJoins facts asks)) is joins).1
-      (told (facts ++ facts_in s asks)) (group_changes g is)
 
   -- where nothing is said of a group, what is kept is so still
   pub groups_alike : s.group ≡ None → (groups : Groups) → AreKeptGroups facts groups → AreKeptGroups (facts ++ facts_in s asks) groups
-  groups_alike none groups kept = groups_kept facts (facts_in s asks) groups (nothing_told none) kept
+  groups_alike none groups kept name =
+      let nothing : IsUntold (told (facts_in s asks) name) = grind arith in
+      search told_same

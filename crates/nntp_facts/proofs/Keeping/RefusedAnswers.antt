@@ -1,20 +1,15 @@
 -- A contradiction conflicts with what the accepted answers of all sessions say.
-use Rattle.std.proofs.Common.{◌≡◌, ◌<◌, ◌^◌, IsTrue, List, [], ◌∷◌, ◌++◌, Option, Some, map, refl, sym, ap, subst, ◌∙◌, arith, append_assoc, inl, inr}
-use Rattle.std.specs.List.{AllByRecursion}
-use Rattle.nntp_wire.specs.{Answer.{Asked, Response}, declared.marks.Marks.{Marks}}
-use Rattle.nntp_article.specs.{Session.{Spool.{Name}, Machine.{Visible, start, fits}}, declared.session.profile.Profile.{Profile}}
-use Rattle.nntp_pair.specs.{Pairing.{Paired, asked_at, asked_of, responses_of}, Inner.Pairing.{lines_in}}
-use Rattle.nntp_said.specs.{Facts.{Fact, Holds, group_of}, Inner.Facts.{FitsAll}}
-use Rattle.nntp_theory.specs.{declared.noted.Noted.TheVariants.{Contradiction}, Answered.{Answered, facts_of_all}, Inner.{Answered.{FitEach}, Given.{size}}}
-use Rattle.nntp_theory.specs.{Inner.{Exchanged.{said_behind}, Together.{Together}}, Permitted.{exchanged, ArePermittedBehind}, Conflict.{Placed, placed_behind}}
-use Rattle.nntp_theory.{specs.Conflict.{said as said_there, told, the_group}, proofs.Conflicts.{there_said, group_fitting}}
-use Rattle.nntp_theory.proofs.{PointsOfConflict.{stand_or_conflict}, Members.{In, all_from, all_at, all_both, all_front, all_back, in_front, in_back, in_cases}}
-use Rattle.nntp_theory.proofs.Given.{GivenPermits.{said}, GivenHasFacts.{given_of_facts, given_has}, ConstructedSpool.{made}, FirstBadAnswer.{size-append}}
-use Rattle.nntp_theory.proofs.Given.{SessionsByFacts.{stand_each, permits_each, all_fitting, all_placed}, SessionsGoOn.{facts_behind, room_behind}}
+use Rattle.nntp_facts.proofs.Base.{◌≡◌, ◌<◌, ◌^◌, IsTrue, List, [], ◌∷◌, ◌++◌, Option, Some, map, refl, sym, ap, subst, ◌∙◌, arith, append_assoc, inl, inr}
+use Rattle.nntp_facts.proofs.Base.{AllByRecursion, Asked, Response, Marks, Name, Visible, start, fits, Profile, Paired, asked_at, asked_of, responses_of}
+use Rattle.nntp_facts.proofs.Base.{lines_in, Fact, Holds, group_of, FitsAll, Contradiction, Answered, facts_of_all, size, said_behind, Together, exchanged}
+use Rattle.nntp_facts.proofs.Base.{ArePermittedBehind, Placed, the_group, In, all_from, all_at, all_both, all_front, all_back, in_front, in_back, in_cases}
+use Rattle.nntp_facts.proofs.Base.{size-append, stand_each, facts_behind, as_many, ends, facts_next, FactsKept, HasNotedBehind, IsDue, IsNotedBehind, AreHeld}
+use Rattle.nntp_facts.{proofs.Keeping.{NotedExchange.{stand_together}, ToldAnswers.{told_size}}, specs.Inner.Points.{held_by}}
+use Rattle.nntp_theory.{specs.{Conflict.{told, placed_behind, said as said_there}, Inner.Answered.{FitEach}}, proofs.Conflicts.{there_said, group_fitting}}
+use Rattle.nntp_theory.proofs.{PointsOfConflict.{stand_or_conflict}, Given.{GivenPermits.{said}, GivenHasFacts.{given_of_facts, given_has}}}
+use Rattle.nntp_theory.proofs.Given.{ConstructedSpool.{made}, SessionsByFacts.{permits_each, all_fitting, all_placed}, SessionsGoOn.{room_behind}}
 use Rattle.nntp_theory.proofs.Session.{LaterPrompts.{next_behind, run_longer, visible_longer}, OneMoreAnswer.{as_few, fitting_grows}, FittingFacts.{IsFitting}}
-use Rattle.nntp_theory.proofs.Session.{PairsGoOn.{Runs, as_many, ends, facts_next}, NumbersOfShownGroups.{Placed as IsPlaced, IsSelectable}}
-use Rattle.nntp_facts.specs.Inner.{Noted.{FactsKept, HasNotedBehind, IsDue, IsNotedBehind}, Points.{AreHeld, held_by}}
-use Rattle.nntp_facts.proofs.Keeping.{NotedExchange.{stand_together}, ToldAnswers.{told_size}}
+use Rattle.nntp_theory.proofs.Session.{PairsGoOn.{Runs}, NumbersOfShownGroups.{Placed as IsPlaced, IsSelectable}}
 
 -- what is placed among facts is placed among more
 wider : (how : Marks) (facts more : List Fact) → ((fact : Fact) → In fact facts → In fact more) → (fact : Fact) → IsPlaced how facts fact → IsPlaced how more fact

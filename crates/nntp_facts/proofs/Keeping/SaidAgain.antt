@@ -1,21 +1,17 @@
 -- What was said before is said again: all stands together as before, and what is kept is right still.
-use Rattle.std.proofs.Common.{◌≡◌, ℕ, ◌^◌, ◌<◌, true, IsTrue, List, ◌++◌, Option, None, Some, is_some, MatchOption, inl, inr, refl, sym, ap, subst, ◌∙◌, arith}
-use Rattle.std.proofs.{Math.Bool.{or-false}, lemmas.Bool.{true≢false, and_parts, or_from, eqb-true, eq-eqb, cases_lt, ltb-true, leb-true, false_from_ne_true}}
-use Rattle.std.specs.{Prelude.{◌↔◌}, List.{list_any}, Cmp.Lexicographic.{nat_list_cmp_total}, FinMap.{len, get, slice_cmp-IsAntisymmetric}}
-use Rattle.std.specs.FinMap.{nat_cmp-IsAntisymmetric}
-use Rattle.nntp_wire.proofs.ShownMaps.{insert-same}
+use Rattle.nntp_facts.proofs.Base.{◌≡◌, ℕ, ◌^◌, ◌<◌, true, IsTrue, List, ◌++◌, Option, None, Some, is_some, MatchOption, inl, inr, refl, sym, ap, subst, ◌∙◌}
+use Rattle.nntp_facts.proofs.Base.{arith, or-false, true≢false, and_parts, eqb-true, eq-eqb, cases_lt, leb-true, false_from_ne_true, ◌↔◌, list_any}
+use Rattle.nntp_facts.proofs.Base.{nat_list_cmp_total, get, slice_cmp-IsAntisymmetric, nat_cmp-IsAntisymmetric, insert-same, Id, Name, Ask, Fact, AsksStand}
+use Rattle.nntp_facts.proofs.Base.{same_itself, all_both, any_in, Said, Says, IsSummary, AreBounded, OfGroup, Saying, MaySay, KeptGroup, Told, told}
+use Rattle.nntp_facts.proofs.Base.{IsKeptGroup, AreKept, Agree, IsShownAt, MayShow, ids_with, places_with, AreKeptWith, IsThereAlready}
+use Rattle.nntp_facts.{proofs.Keeping.KeptGroups.{Groups, kept_of, part_kept, bounded_more, agree_kept, same_id}, specs.Inner.KeptSaying.{HasSaid}}
+use Rattle.std.{proofs.lemmas.Bool.{or_from, ltb-true}, specs.FinMap.{len}}
 use Rattle.nntp_intervals.specs.Inner.Intervals.{holds}
-use Rattle.nntp_article.specs.{Article.Parts.{Id}, Session.Spool.{Name}}
-use Rattle.nntp_said.specs.{Asks.{Ask}, Facts.{Fact}}
-use Rattle.nntp_theory.specs.{Given.{is_denied, says_some, demand, join, IsGivenNumber}, Together.{is_possible}, Inner.Together.{AsksStand}}
-use Rattle.nntp_theory.proofs.{Together.{FewEnough.{few_for, within_all}, FactsOfASpoolStand.{same_itself}}, GivenNumbers.GivenNumbersMeet.{same_demand}}
-use Rattle.nntp_theory.proofs.Members.{all_both, any_in, first_found}
-use Rattle.nntp_numbers.specs.Inner.{Part.{Said, Says, only_has, part_denies, is_one_of, join_ends}, Summary.{Summary, has, IsSummary, AreBounded, AddsNothing}}
-use Rattle.nntp_numbers.proofs.{MoreAsks.{are_possible, added}, HullOfMarks.{apart_by_hull, stands_by_hull, said_some, shown_says, demand_says, some_is}}
+use Rattle.nntp_theory.{specs.{Given.{is_denied, says_some, demand, join, IsGivenNumber}, Together.{is_possible}}, proofs.Together.FewEnough.{few_for}}
+use Rattle.nntp_theory.proofs.{Together.FewEnough.{within_all}, GivenNumbers.GivenNumbersMeet.{same_demand}, Members.{first_found}}
+use Rattle.nntp_numbers.{specs.Inner.{Part.{only_has, part_denies, is_one_of, join_ends}, Summary.{Summary, has, AddsNothing}}, proofs.MoreAsks.{are_possible}}
+use Rattle.nntp_numbers.proofs.{MoreAsks.{added}, HullOfMarks.{apart_by_hull, stands_by_hull, said_some, shown_says, demand_says, some_is}}
 use Rattle.nntp_numbers.proofs.{AsksSettled.{ArePossible}, Implied.{Implies}}
-use Rattle.nntp_facts.specs.Inner.{Saying.{OfGroup, Saying, MaySay}, Kept.{KeptGroup, Told, told, IsKeptGroup, AreKept, Agree, IsShownAt, MayShow, ids_with}}
-use Rattle.nntp_facts.{specs.Inner.{Kept.{places_with, AreKeptWith}, KeptSaying.{HasSaid, IsThereAlready}}, proofs.Keeping.KeptGroups.{Groups, kept_of}}
-use Rattle.nntp_facts.proofs.Keeping.KeptGroups.{part_kept, bounded_more, agree_kept, same_id}
 
 -- ---- asks of which the same is kept
 
@@ -41,8 +37,7 @@ module _ (s : Summary) (asks others : List Ask) (sum : IsSummary s asks) (same :
         not_denied = λ n g. same_denied n ∙ stand.not_denied n ((given_alike n).0 g);
         demand_met = grind (arith, demand_is, same_demand, given_alike);
         few = λ N given.
-            few_for N others
-            (sym (same.estimate (len N)) ∙ sum.estimate (len N)
+            few_for N others (sym (same.estimate (len N)) ∙ sum.estimate (len N)
             ∙ within_all N asks (stand.few N (λ n. (λ i. (given_alike n).0 ((given n).0 i), λ g. (given n).1 ((given_alike n).1 g)))));
       }
 
@@ -74,20 +69,12 @@ module _ (s : Summary) (p : Said) (asks more : List Ask) (was : WasSaid s p) (su
 there_was : (s : Summary) (k : ℕ) → has s.shown k ≡ true → WasSaid s (only_has k)
 there_was s k there = grind (arith, eqb-true, or-false, true≢false, or_from, false_from_ne_true, ltb-true, and_parts, leb-true, eq-eqb)
 
--- what adds nothing was said before
-nothing_was : (s : Summary) (p : Said) → AddsNothing s p → WasSaid s p
-nothing_was s p adds = grind arith
-
 -- ---- of an id
 
 -- so does one that is said to be at the number at which it is kept
 pub there_before : (facts : List Fact) (s : Saying) (asks : List Ask) (groups : Groups) (g : OfGroup) → s.group ≡ Some g → AreKept (told facts) groups → MaySay facts s asks
     → MatchOption (get groups g.name) ⊥ (λ k. HasSaid k g) → IsThereAlready facts s.article
 there_before facts s asks groups g is kept may said = grind (arith, first_found, any_in, same_itself, kept_of)
-
--- none is said to be at a number where nothing is said of a group
-pub none_there : (facts : List Fact) (s : Saying) (asks : List Ask) → s.group ≡ None → MaySay facts s asks → IsThereAlready facts s.article
-none_there facts s asks is may = grind arith
 
 -- ---- of a group
 
@@ -104,7 +91,7 @@ module _ (tells : Name → Told) (groups : Groups) (name : Name) (g : KeptGroup)
     -- all of it was, and the id, if one is said, is at the number already
     all_was : (id : Option (ℕ × Id)) → Agree (tells name).ids (tells name).places id → IsShownAt (tells name) id → WasSaidOf id
         → WasSaid g.numbers p.numbers × MayShow (tells name) id × ((g.ids ≡ ids_with g.ids id) × (g.places ≡ places_with g.places id))
-    all_was None each shown said = (nothing_was g.numbers p.numbers said, tt, (refl, refl))
+    all_was None each shown said = (grind (arith, said), tt, (refl, refl))
     all_was (Some (n, id)) each shown said = let at = said.1 in (
       grind (arith, there_was, was, said.0, at, shown),
       grind (arith, was, at, each),
@@ -119,4 +106,5 @@ module _ (tells : Name → Told) (groups : Groups) (name : Name) (g : KeptGroup)
     kept_again each shown said after changes =
         let w = all_was p.id each shown said in
         subst (AreKept after) (insert-same nat_list_cmp_total (slice_cmp-IsAntisymmetric nat_cmp-IsAntisymmetric) groups name g is)
-        (part_kept tells after groups name g g asks p.id kept is w.1 changes (kept_still g.numbers p.numbers (tells name).asks asks w.0 was.numbers says) w.2.0 w.2.1)
+        (part_kept tells after groups name (Some g) g asks p.id kept is (λ e. absurd (true≢false (sym was.shown ∙ e))) w.1 changes
+        (kept_still g.numbers p.numbers (tells name).asks asks w.0 was.numbers says) w.2.0 w.2.1)

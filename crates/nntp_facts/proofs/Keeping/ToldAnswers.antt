@@ -1,33 +1,20 @@
 -- Noting what answers say by themselves.
-use Rattle.std.proofs.Common.{arith, zero, suc, ◌+◌, ◌*◌, ◌^◌, ◌<◌, ◌≤◌, ◌≡◌, ◌↔◌, ℕ, Bool, true, false, IsTrue, Option, None, Some, refl, sym, ap, subst, ◌∙◌}
-use Rattle.std.proofs.{Common.{List, [], ◌∷◌, ◌++◌, length, length-append, append-nil, append_assoc}, Math.Path.{ap₂}, lemmas.Bool.{or_left}}
-use Rattle.std.{proofs.lemmas.Grind.{flat_map-append}, specs.{Prelude.{IfSome, unwrap_or, option_map, slice_get}, List.{AllByRecursion}}}
-use Rattle.std.specs.Option.{option_map_or}
-use Rattle.nntp_wire.specs.{declared.marks.Marks.TheVariants.{Lenient}, Answer.{Asked, Response}}
-use Rattle.nntp_pair.specs.Inner.Pairing.{lines_in}
-use Rattle.nntp_article.specs.{Session.{Spool.{Name}, Machine.{Visible, start, fits}}, declared.session.profile.Profile.{Profile}, Inner.Misfit.{numbers_of}}
-use Rattle.nntp_said.specs.{declared.position.Position.{Position}, Asks.{Estimates}, Facts.{Fact, Holds, here, facts_of, group_of}}
-use Rattle.nntp_theory.specs.{Given.{is_shown_group}, Inner.{Given.{size}, Together.{Together, AgreeWithin, Join, IsWellFormed}, Conflict.{FitsThere}}}
-use Rattle.nntp_theory.{specs.Conflict.{Placed, said, widest, a_group, the_group, told, SomeHas, told_at, told_with}, proofs.Members.{any_back, all_front}}
-use Rattle.nntp_theory.proofs.{Given.FirstBadAnswer.{size-append}, Ids.SizeOfASession.{answer_size}, Session.GroupOfAnAnswer.{same_selected}}
-use Rattle.nntp_theory.proofs.Together.{FactsJoin.{together_more, answer_agrees}, FactsOfASpoolStand.{stand, same_itself}}
-use Rattle.nntp_numbers.specs.Inner.{Part.{Said, Says}, Summary.{AreBounded}}
-use Rattle.nntp_facts.specs.Inner.{Kept.{Kept, IsKept, AreAdded}, Saying.{Saying, OfGroup, Tells, TellsHere, TellsThere, IsShownThen, IsSelectedShown}}
-use Rattle.nntp_facts.{specs.Inner.{Saying.{there_facts}, Told.{AreTold, AreToldWith, PlacesTold}}, proofs.Keeping.NotedExchange.{Adds}}
-use Rattle.nntp_facts.proofs.Keeping.SayingRows.{of_group, tells_marks}
-
--- ---- that there is such a group
-
--- what is said of it agrees with itself
-the_group_agrees : (profile : Profile) (group : Option Name) → AgreeWithin (the_group profile group)
-the_group_agrees profile group = grind arith
-
--- a saying with the widest marks tells it
-pub widest_told : (profile : Profile) (facts : List Fact) (name : Name) (p : Said) (s : Saying) → Says p (Estimates Lenient (widest profile) ∷ [])
-    → AreBounded (Estimates Lenient (widest profile) ∷ []) → s ≡ of_group name p → Tells facts s (a_group profile name)
-widest_told profile facts name p s says bounded s_is = (tells_marks {selected = name} facts name p Lenient (widest profile) s (a_group profile name) says bounded s_is refl).tells
+use Rattle.nntp_facts.proofs.Base.{arith, zero, suc, ◌+◌, ◌*◌, ◌^◌, ◌<◌, ◌≤◌, ◌≡◌, ℕ, Bool, true, false, IsTrue, Option, None, Some, sym, ap, subst, ◌∙◌, List}
+use Rattle.nntp_facts.proofs.Base.{[], ◌∷◌, ◌++◌, length, length-append, append-nil, append_assoc, or_left, flat_map-append, IfSome, unwrap_or, option_map}
+use Rattle.nntp_facts.proofs.Base.{slice_get, AllByRecursion, option_map_or, Asked, Response, lines_in, Name, Visible, start, fits, Profile, numbers_of}
+use Rattle.nntp_facts.proofs.Base.{Position, Fact, Holds, here, facts_of, group_of, is_shown_group, size, Together, Join, IsWellFormed, FitsThere, Placed, said}
+use Rattle.nntp_facts.proofs.Base.{the_group, SomeHas, told_with, any_back, all_front, size-append, together_more, stand, same_itself, Kept, IsKept, AreAdded}
+use Rattle.nntp_facts.proofs.Base.{Saying, OfGroup, Tells, TellsHere, TellsThere, IsShownThen, IsSelectedShown, there_facts, AreTold, AreToldWith, PlacesTold}
+use Rattle.nntp_facts.proofs.Keeping.NotedExchange.{Adds}
+use Rattle.nntp_theory.{specs.{Conflict.{told, told_at}, Inner.Together.{AgreeWithin}}, proofs.Ids.SizeOfASession.{answer_size}}
+use Rattle.nntp_theory.proofs.{Session.GroupOfAnAnswer.{same_selected}, Together.FactsJoin.{answer_agrees}}
+use Rattle.std.proofs.{Common.{◌↔◌}, Math.Path.{ap₂}}
 
 -- ---- the group of a saying
+
+-- that there is such a group agrees with itself
+the_group_agrees : (profile : Profile) (group : Option Name) → AgreeWithin (the_group profile group)
+the_group_agrees profile group = grind arith
 
 -- facts that show the selected group alone do, behind others
 shown_there : (facts : List Fact) (selected : Option Name) → IfSome selected (λ name. is_shown_group (facts ++ there_facts selected) name ≡ true)
@@ -130,17 +117,11 @@ module _ (profile : Profile) (bad : Placed) (answers : List Placed) (places : Li
   -- they are told
   pub place_told : (a : Placed) (old new : Kept) (does : Bool) → slice_get answers place ≡ Some a → AreToldWith profile bad answers places old
       → AreTold profile (told_with profile bad answers places) (told profile a) new does → PlacesTold profile bad answers (places ++ place ∷ []) new does
-  place_told a old new does e before h = by does h
-    where
-      here : told_at profile answers place ≡ told profile a
-      here = ap (λ o. option_map_or (told profile) o []) e
-
-      same : told_with profile bad answers places ++ told profile a ≡ told_with profile bad answers (places ++ place ∷ [])
-      same = with_place (told profile a) here
-
-      by : (does : Bool) → AreTold profile (told_with profile bad answers places) (told profile a) new does → PlacesTold profile bad answers (places ++ place ∷ []) new does
-      by true t = assumption (subst (λ facts. IsKept facts new) same t.1, subst Together same t.0, place_size (told profile a) here t.2 before.small)
-      by false none = subst (λ facts. SomeHas profile facts → ⊥) same none
+  place_told a old new true e before t =
+      let here : told_at profile answers place ≡ told profile a = ap (λ o. option_map_or (told profile) o []) e in
+      let same = with_place (told profile a) here in
+      assumption (subst (λ facts. IsKept facts new) same t.1, subst Together same t.0, place_size (told profile a) here t.2 before.small)
+  place_told a old new false e before none = subst (λ facts. SomeHas profile facts → ⊥) (with_place (told profile a) (ap (λ o. option_map_or (told profile) o []) e)) none
 
   -- where there is no answer, nothing is
   pub nothing_told : (k : Kept) → slice_get answers place ≡ None → AreToldWith profile bad answers places k → AreToldWith profile bad answers (places ++ place ∷ []) k

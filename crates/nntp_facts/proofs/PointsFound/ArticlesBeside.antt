@@ -1,18 +1,17 @@
 -- Points that are about articles, where what an answer says conflicts with what is kept.
-use Rattle.std.proofs.Common.{ℕ, Bool, true, false, not, cond, IsTrue, List, ◌≡◌, ◌++◌, ◌||◌, ◌⊎◌, Option, None, Some, refl, sym, ap, subst, ◌∙◌, arith}
+use Rattle.std.proofs.Common.{ℕ, true, false, not, cond, IsTrue, List, ◌≡◌, ◌++◌, ◌||◌, ◌⊎◌, Option, None, Some, refl, sym, ap, subst, ◌∙◌, arith}
 use Rattle.std.{proofs.lemmas.{Bool.{true≢false, cases_Bool, or_left, or_right}, List.Folds.{list_any-append}}, specs.Prelude.{IfSome, IsFalse, MatchOption}}
 use Rattle.std.specs.{List.{list_any}, Option.{option_map_or}, Cmp.Lexicographic.{same_text}, FinMap.{get}}
 use Rattle.nntp_wire.specs.{Listing.{OverviewValue}, declared.{command.What.{What}, range.Range.{Range}}}
 use Rattle.nntp_article.specs.{Article.Parts.{Id, Line}, Session.Machine.{is_same, head_fits}, declared.session.profile.Profile.{Profile}}
 use Rattle.nntp_said.specs.Facts.{Fact}
-use Rattle.nntp_theory.specs.{Given.{first_given, head_in, body_in}, Together.{GiveOne, shows_article, denies_article}, Inner.Together.{SaidOfArticle}}
-use Rattle.nntp_theory.{specs.{Inner.Together.{said_nothing, AreSame}, Conflict.{Point, Article, HeadOf, BodyOf, ConflictAt}}, proofs.Members.{In, any_in}}
-use Rattle.nntp_theory.proofs.{Members.{found_in, first_found}, PointsByRank.{of_rank}, Together.FactsOfASpoolStand.{same_itself}}
-use Rattle.nntp_theory.proofs.Together.TwoListsOfFacts.{apart_both, give_one_both, give_same_of_both}
+use Rattle.nntp_theory.specs.{Given.{first_given, head_in, body_in}, Together.{shows_article, denies_article}, Inner.Together.{SaidOfArticle, said_nothing}}
+use Rattle.nntp_theory.{specs.{Inner.Together.{AreSame}, Conflict.{Point, Article, HeadOf, BodyOf, ConflictAt}}, proofs.Members.{In, any_in, found_in}}
+use Rattle.nntp_theory.proofs.{Members.{first_found, none_there}, PointsByRank.{of_rank}, Together.FactsOfASpoolStand.{same_itself}}
+use Rattle.nntp_theory.proofs.Together.TwoListsOfFacts.{apart_both, give_same_of_both}
 use Rattle.nntp_facts.specs.Inner.{Kept.{Kept, said_kept}, Saying.{OfArticle, Sends, MayBeOf}, KeptSaying.{kept_by, said_in, said_listed}, Points.{Statement}}
-use Rattle.nntp_facts.{specs.Inner.{Points.{IsPointOf, IsBeside, said_by}, Articles.{is_there}}, proofs.Keeping.ListedOverviews.{none_gives}}
-use Rattle.nntp_facts.proofs.Keeping.{OverviewsTold.{Overviews, plain_by_article}, KeptArticles.{shown_kept, denied_kept}}
-use Rattle.nntp_facts.proofs.PointsFound.{StatementsRead.{article_told}, KindsOfPoints.{alone_once}}
+use Rattle.nntp_facts.{specs.Inner.{Points.{IsPointOf, IsBeside, said_by}, Articles.{is_there}}, proofs.Keeping.OverviewsTold.{Overviews, plain_by_article}}
+use Rattle.nntp_facts.proofs.{Keeping.KeptArticles.{shown_kept, denied_kept}, PointsFound.{Statements.{article_told}, KindsOfPoints.{one_given}}}
 
 -- ---- the parts of an article
 
@@ -39,31 +38,19 @@ abbrev pub part_rank : Part → ℕ
 part_rank Head = 8
 part_rank Body = 9
 
-none_of : (part : Part) → part_of part said_nothing ≡ None
-none_of part = grind arith
-
-conflict_about : (part : Part) (id : Id) (facts : List Fact) → (GiveOne (part_in part id) facts → ⊥) → ConflictAt facts (about part id)
-conflict_about part id facts c = grind arith
-
 -- what a saying says of an id isn't both that it has an article and that it has none
 said_apart : (o : Overviews) (a : Option (Id × OfArticle)) (id : Id) → IsTrue (option_map_or (λ o. said_listed o.1 id) o (said_in a id)).is_shown
     → IsFalse (option_map_or (λ o. said_listed o.1 id) o (said_in a id)).is_denied
 said_apart o a id s = grind (arith, true≢false)
 
--- overviews show the articles of their ids, and deny none
+-- overviews show the articles of their ids
 listed_shown : (id : Id) (os : List OverviewValue) → IsTrue (said_listed os id).is_shown → (v : OverviewValue) × In v os × (v.id ≡ id)
 listed_shown id os s = grind (arith, found_in (λ (v : OverviewValue). is_same v.id id) os, same_text, true≢false)
-
-each_shown : (v : OverviewValue) (os : List OverviewValue) → In v os → IsTrue (said_listed os v.id).is_shown
-each_shown v os i = grind (arith, any_in (λ (w : OverviewValue). is_same w.id v.id) v os i, same_itself v.id)
-
-none_denied : (id : Id) (os : List OverviewValue) → IsTrue (said_listed os id).is_denied → ⊥
-none_denied id os d = grind (arith, true≢false)
 
 -- overviews send no part, nor does what sends none
 none_sent : (part : Part) (os : Overviews) (o : Option (Id × OfArticle)) → IfSome o (λ a. part_of part (said_kept (Some (kept_by a.1))) ≡ None) → (id : Id)
     → part_of part (option_map_or (λ l. said_listed l.1 id) os (said_in o id)) ≡ None
-none_sent part os o none id = grind (arith, none_of)
+none_sent part os o none id = grind arith
 
 -- ---- one answer beside the others
 
@@ -87,41 +74,40 @@ module _ (profile : Profile) (facts : List Fact) (k : Kept) (t : Statement) (mor
   denied_told id = ap (λ (s : SaidOfArticle). s.is_denied) (article_told profile t more h.tells id)
 
   shown_in_all : (id : Id) → list_any (shows_article id) all ≡ (list_any (shows_article id) facts || (said_by t.saying id).is_shown)
-  shown_in_all id = list_any-append (shows_article id) facts more ∙ ap (λ b. list_any (shows_article id) facts || b) (shown_told id)
+  shown_in_all id = grind (arith, list_any-append, shown_told id)
 
   denied_in_all : (id : Id) → list_any (denies_article id) all ≡ (list_any (denies_article id) facts || (said_by t.saying id).is_denied)
-  denied_in_all id = list_any-append (denies_article id) facts more ∙ ap (λ b. list_any (denies_article id) facts || b) (denied_told id)
+  denied_in_all id = grind (arith, list_any-append, denied_told id)
 
   article_free : ((id : Id) → IsTrue (said_by t.saying id).is_shown → IsFalse (list_any (denies_article id) facts))
       → ((id : Id) → IsTrue (said_by t.saying id).is_denied → IsFalse (list_any (shows_article id) facts)) → IsFree 7
-  article_free shown denied = of_rank Free 7 (λ id c. true≢false (sym c.1 ∙ apart_both (shows_article id) (denies_article id) facts more (h.together.articles id)
-      (λ s. denied_told id ∙ said_apart t.saying.overviews t.saying.article id (sym (shown_told id) ∙ s)) (λ s. shown id (sym (shown_told id) ∙ s)) (λ d. denied id (sym (denied_told id) ∙ d)) c.0))
+  article_free shown denied = of_rank Free 7 (λ id c.
+      let both = apart_both (shows_article id) (denies_article id) facts more (h.together.articles id) in
+      grind (arith, true≢false, both, said_apart t.saying.overviews t.saying.article id, shown_told id, denied_told id, shown id, denied id))
 
   -- where no overviews are said
   pub said_plain : (id : Id) → t.saying.overviews ≡ None → said_by t.saying id ≡ said_in t.saying.article id
   said_plain id plain = ap (λ (o : Overviews). option_map_or (λ o. said_listed o.1 id) o (said_in t.saying.article id)) plain
 
   pub no_article : t.saying.overviews ≡ None → t.saying.article ≡ None → IsFree 7
-  no_article plain e =
-      let none : (id : Id) → said_by t.saying id ≡ said_nothing = λ id. said_plain id plain ∙ ap (λ a. said_in a id) e in
-      article_free (λ id s. grind (arith, none id, true≢false)) (λ id d. grind (arith, none id, true≢false))
+  no_article plain e = article_free (λ id s. grind (arith, said_plain id plain, true≢false)) (λ id d. grind (arith, said_plain id plain, true≢false))
 
   -- of overviews the first whose id is denied
   module _ (o : Range × List OverviewValue) (listed : t.saying.overviews ≡ Some o) where
-    said : (id : Id) → said_by t.saying id ≡ said_listed o.1 id
+    pub said : (id : Id) → said_by t.saying id ≡ said_listed o.1 id
     said id = ap (λ (o : Overviews). option_map_or (λ o. said_listed o.1 id) o (said_in t.saying.article id)) listed
 
     pub listed_article : (p : Option Point) → p ≡ first_given (λ v. cond (list_any (denies_article v.id) facts) (Some (Article v.id)) None) o.1 → IsPointOf all 7 p
     listed_article None found = article_free
         (λ id s. let f = listed_shown id o.1 (sym (ap (λ (s : SaidOfArticle). s.is_shown) (said id)) ∙ s) in
-        let none = none_gives (λ v. cond (list_any (denies_article v.id) facts) (Some (Article v.id)) None) o.1 (sym found) f.0 f.1 in
+        let none = none_there (λ v. cond (list_any (denies_article v.id) facts) (Some (Article v.id)) None) o.1 f.0 f.1 (sym found) in
         subst (λ id. IsFalse (list_any (denies_article id) facts)) f.2 (grind arith))
-        (λ id d. absurd (none_denied id o.1 (sym (ap (λ (s : SaidOfArticle). s.is_denied) (said id)) ∙ d)))
+        (λ id d. grind (arith, said id, true≢false))
     listed_article (Some point) found =
         let f = first_found (λ (v : OverviewValue). cond (list_any (denies_article v.id) facts) (Some (Article v.id)) None) o.1 point (sym found) in
-        let shown = ap (λ (s : SaidOfArticle). s.is_shown) (said f.0.id) ∙ each_shown f.0 o.1 f.1 in
+        let shown : IsTrue (said_by t.saying f.0.id).is_shown = grind (arith, said f.0.id, any_in (λ (w : OverviewValue). is_same w.id f.0.id) f.0 o.1 f.1, same_itself f.0.id) in
         let d : (list_any (denies_article f.0.id) facts ≡ true) × (Article f.0.id ≡ point) = grind (arith, f.2) in
-        subst (λ point. IsPointOf all 7 (Some point)) d.1 ((shown_in_all f.0.id ∙ or_right _ _ shown, denied_in_all f.0.id ∙ or_left _ _ d.0), refl)
+        subst (λ point. IsPointOf all 7 (Some point)) d.1 (grind (arith, shown_in_all f.0.id, denied_in_all f.0.id, shown, d, or_left, or_right))
 
   -- where something is said of an id
   module _ (id : Id) (a : OfArticle) (e : t.saying.article ≡ Some (id, a)) where
@@ -140,17 +126,15 @@ module _ (profile : Profile) (facts : List Fact) (k : Kept) (t : Statement) (mor
 
     -- that it has no article
     pub lacks : (kept_by a).is_denied ≡ true → (o : Option Point) → o ≡ cond (is_there (get k.articles id)) (Some (Article id)) None → IsPointOf all 7 o
-    lacks denied o is = subst (IsPointOf all 7) (sym is) (by (is_there (get k.articles id)) (shown_kept facts k.articles id h.kept.articles))
-      where
-        by : (b : Bool) → list_any (shows_article id) facts ≡ b → IsPointOf all 7 (cond b (Some (Article id)) None)
-        by b s = grind (arith, shown_in_all, or_left, denied_in_all, or_right, own, own_free, true≢false)
+    lacks denied o is =
+        subst (IsPointOf all 7) (sym is)
+        (grind (arith, cases_Bool, shown_kept facts k.articles id h.kept.articles, shown_in_all id, or_left, denied_in_all id, or_right, own, own_free, true≢false))
 
     -- or that it has one
     pub has : (kept_by a).is_denied ≡ false → (o : Option Point) → o ≡ cond (option_map_or (λ a. a.is_denied) (get k.articles id) false) (Some (Article id)) None → IsPointOf all 7 o
-    has free o is = subst (IsPointOf all 7) (sym is) (by _ (denied_kept facts k.articles id h.kept.articles))
-      where
-        by : (b : Bool) → list_any (denies_article id) facts ≡ b → IsPointOf all 7 (cond b (Some (Article id)) None)
-        by b d = grind (arith, shown_in_all, or_right, own, denied_in_all, or_left, own_free, true≢false)
+    has free o is =
+        subst (IsPointOf all 7) (sym is)
+        (grind (arith, cases_Bool, denied_kept facts k.articles id h.kept.articles, shown_in_all id, or_right, own, denied_in_all id, or_left, own_free, true≢false))
 
   -- ---- heads and bodies
 
@@ -163,15 +147,14 @@ module _ (profile : Profile) (facts : List Fact) (k : Kept) (t : Statement) (mor
   IsAlike part id sent = AreSame sent (first_given (part_in part id) facts)
 
   part_free : (part : Part) → ((id : Id) → IsAlike part id (part_of part (said_by t.saying id))) → IsFree (part_rank part)
-  part_free Head same = of_rank Free 8 (λ id c. c (give_one_both (head_in id) facts more (h.together.heads id)
-      (alone_once profile (head_in id) (λ name. refl) (λ name ask. refl) t more h.tells (h.tells.agree.heads id)) (subst (IsAlike Head id) (sym (part_given Head id)) (same id))))
-  part_free Body same = of_rank Free 9 (λ id c. c (give_one_both (body_in id) facts more (h.together.bodies id)
-      (alone_once profile (body_in id) (λ name. refl) (λ name ask. refl) t more h.tells (h.tells.agree.bodies id)) (subst (IsAlike Body id) (sym (part_given Body id)) (same id))))
+  part_free Head same = of_rank Free 8 (λ id c. c (one_given profile facts k t more h (head_in id) (λ name. refl) (λ name ask. refl) (h.together.heads id) (h.tells.agree.heads id)
+      (subst (IsAlike Head id) (sym (part_given Head id)) (same id))))
+  part_free Body same = of_rank Free 9 (λ id c. c (one_given profile facts k t more h (body_in id) (λ name. refl) (λ name ask. refl) (h.together.bodies id) (h.tells.agree.bodies id)
+      (subst (IsAlike Body id) (sym (part_given Body id)) (same id))))
 
   -- of an answer that sends no such part
   pub no_part : (part : Part) (o : Option (Id × OfArticle)) → t.saying.article ≡ o → IfSome o (λ a. part_of part (said_kept (Some (kept_by a.1))) ≡ None) → IsFree (part_rank part)
-  no_part part o e none = part_free part (λ id. subst (IsAlike part id)
-      (sym (ap (λ a. part_of part (option_map_or (λ o. said_listed o.1 id) t.saying.overviews (said_in a id))) e ∙ none_sent part t.saying.overviews o none id)) tt)
+  no_part part o e none = part_free part (λ id. grind (arith, none_sent part t.saying.overviews o none id, e))
 
   -- of one that sends it, if it sends one
   module _ (part : Part) (id : Id) (what : What) (lines : Option (List Line)) (e : t.saying.article ≡ Some (id, Sends what lines)) (sent : Option (List Line))
@@ -180,10 +163,10 @@ module _ (profile : Profile) (facts : List Fact) (k : Kept) (t : Statement) (mor
     said_part = ap (part_of part) (own id (Sends what lines) e) ∙ sym (is (subst (λ o. IfSome o (MayBeOf t.saying.group)) e h.tells.tells.may.article))
 
     same_part : IsAlike part id sent → IsFree (part_rank part)
-    same_part same = part_free part (λ q. grind (arith, others id (Sends what lines) e q, said_part, none_of part))
+    same_part same = part_free part (λ q. grind (arith, others id (Sends what lines) e q, said_part))
 
     other_part : (IsAlike part id sent → ⊥) → ConflictAt all (about part id)
-    other_part other = conflict_about part id all (λ one. other (subst (IsAlike part id) (part_given part id ∙ said_part) (give_same_of_both (part_in part id) facts more one)))
+    other_part other = grind (arith, part_given part id, said_part, give_same_of_both (part_in part id) facts more)
 
     pub part_point : (o : Option Point) → MatchOption o (IsAlike part id sent) (λ point. (point ≡ about part id) × (IsAlike part id sent → ⊥)) → IsPointOf all (part_rank part) o
     part_point o same = grind (arith, same_part, other_part)

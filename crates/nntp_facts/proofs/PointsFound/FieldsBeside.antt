@@ -1,5 +1,5 @@
 -- Points that are about headers, where what an answer tells of them conflicts with what is kept.
-use Rattle.std.proofs.Common.{◌≡◌, true, false, IsTrue, List, [], ◌∷◌, ◌++◌, Option, None, Some, MatchOption, inl, inr, refl, sym, ap, subst, ◌∙◌, arith}
+use Rattle.std.proofs.Common.{◌≡◌, true, false, IsTrue, List, [], ◌∷◌, ◌++◌, Option, None, Some, MatchOption, refl, sym, ap, subst, ◌∙◌, arith}
 use Rattle.std.{proofs.lemmas.Bool.{true≢false}, specs.{Prelude.{◌≢◌, IfSome, option_map, is_some}, List.{AllByRecursion}, Option.{option_map_or}}}
 use Rattle.std.specs.FinMap.{get}
 use Rattle.nntp_wire.specs.{Listing.{OverviewValue, Fields}, declared.{command.What.{What}, range.Range.{Range}}}
@@ -7,22 +7,20 @@ use Rattle.nntp_article.specs.{Article.{Parts.{Id, Line}, Fields.{fields_of_head
 use Rattle.nntp_article.specs.{declared.session.profile.Profile.{Profile}, Session.Machine.{head_fits, only}}
 use Rattle.nntp_said.specs.Facts.{Fact}
 use Rattle.nntp_theory.specs.{Given.{first_given, fields_in, fields_of_overview}, Together.{GiveOne}, Inner.Together.{SaidOfArticle, AreSame}, Conflict.{Point}}
-use Rattle.nntp_theory.{specs.Conflict.{ConflictAt, words_told}, proofs.{Members.{In, all_at, all_from, part_first}, PointsByRank.{of_rank}}}
-use Rattle.nntp_theory.proofs.Together.{TwoListsOfFacts.{give_one_both, give_same_of_both}, ListedOverviews.{told_by}}
+use Rattle.nntp_theory.{specs.Conflict.{ConflictAt, words_told}, proofs.{Members.{if_some, In, all_at, all_from, part_first}, PointsByRank.{of_rank}}}
+use Rattle.nntp_theory.proofs.Together.{TwoListsOfFacts.{give_same_of_both}, ListedOverviews.{told_by}}
 use Rattle.nntp_facts.specs.Inner.{Kept.{Kept, said_kept}, Articles.{head_sent}, Saying.{OfArticle, Sends, Describes, MayBeOf}, KeptSaying.{said_in}}
 use Rattle.nntp_facts.specs.Inner.{KeptSaying.{said_listed, kept_by}, Points.{IsPointOf, IsBeside, IsFieldOf, IsFieldAmong, IsOtherField, OneTellsOther}}
 use Rattle.nntp_facts.{specs.Inner.Points.{Statement, said_by}, proofs.Keeping.{OverviewsTold.{of_range}, ListedOverviews.{own_agree}}}
-use Rattle.nntp_facts.proofs.PointsFound.{StatementsRead.{article_told}, KindsOfPoints.{alone_once}, ArticlesBeside.{own, others, said_plain}}
+use Rattle.nntp_facts.proofs.PointsFound.{Statements.{article_told}, KindsOfPoints.{one_given}, ArticlesBeside.{own, others, said, said_plain}}
 
 -- ---- of one header what is given of all
 
 -- where the same is told of all headers, so it is of each
 words_once : (id : Id) (field : Field) (facts : List Fact) → GiveOne (fields_in id) facts → GiveOne (words_told id field) facts
-words_once id field facts one = all_from _ facts (λ fact i. by (fields_in id fact) (all_at _ fact facts one i))
-  where
-    by : (o : Option Fields) → IfSome o (λ fields. first_given (fields_in id) facts ≡ Some fields)
-        → IfSome (option_map (λ fields. words_in fields field) o) (λ words. first_given (words_told id field) facts ≡ Some words)
-    by o h = grind (arith, part_first (λ fields. words_in fields field) (fields_in id) facts)
+words_once id field facts one = all_from _ facts (λ fact i.
+    let here = all_at (λ fact. IfSome (fields_in id fact) (λ fields. first_given (fields_in id) facts ≡ Some fields)) fact facts one i in
+    grind (arith, here, part_first (λ fields. words_in fields field) (fields_in id) facts))
 
 -- ---- one answer beside the others
 
@@ -45,59 +43,39 @@ module _ (profile : Profile) (facts : List Fact) (k : Kept) (t : Statement) (mor
 
   -- where nothing else was told than is, they conflict nowhere
   pub fields_free : ((id : Id) → AreSame (said_by t.saying id).fields (before id)) → IsPointOf all 10 None
-  fields_free same = of_rank Free 10 (λ id field c. c (words_once id field all (give_one_both (fields_in id) facts more (h.together.fields id)
-      (alone_once profile (fields_in id) (λ name. refl) (λ name ask. refl) t more h.tells (h.tells.agree.fields id)) (subst (λ o. AreSame o (before id)) (sym (given id)) (same id)))))
+  fields_free same = of_rank Free 10 (λ id field c. c (words_once id field all (one_given profile facts k t more h (fields_in id) (λ name. refl) (λ name ask. refl) (h.together.fields id)
+      (h.tells.agree.fields id) (subst (λ o. AreSame o (before id)) (sym (given id)) (same id)))))
 
   -- where it was, they do
   other_point : (id : Id) (point : Point) → IsOtherField k id (said_by t.saying id).fields point → IsPointOf all 10 (Some point)
-  other_point id point (field, is, other) = subst (λ point. IsPointOf all 10 (Some point)) (sym is) (
-    (λ one. by (said_by t.saying id).fields (said_kept (get k.articles id)).fields
-        (part_first (λ fields. words_in fields field) (fields_in id) more ∙ ap (option_map (λ fields. words_in fields field)) (given id))
-        (part_first (λ fields. words_in fields field) (fields_in id) facts ∙ ap (option_map (λ fields. words_in fields field)) (sym (kept_is id)))
-        other (give_same_of_both (words_told id field) facts more one)),
-    refl,
-  )
-    where
-      by : (x y : Option Fields) → first_given (words_told id field) more ≡ option_map (λ fields. words_in fields field) x
-          → first_given (words_told id field) facts ≡ option_map (λ fields. words_in fields field) y
-          → MatchOption x ⊥ (λ fields. MatchOption y ⊥ (λ before. words_in fields field ≢ words_in before field))
-          → AreSame (first_given (words_told id field) more) (first_given (words_told id field) facts) → ⊥
-      by x y e f other same = grind (arith, e, f)
+  other_point id point (field, is, other) =
+      grind (arith, give_same_of_both (words_told id field) facts more, part_first (λ fields. words_in fields field) (fields_in id), given id, kept_is id)
 
   -- ---- of overviews
 
   module _ (o : Range × List OverviewValue) (listed : t.saying.overviews ≡ Some o) where
-    said : (id : Id) → said_by t.saying id ≡ said_listed o.1 id
-    said id = ap (λ (o : Option (Range × List OverviewValue)). option_map_or (λ o. said_listed o.1 id) o (said_in t.saying.article id)) listed
-
     -- what they tell of an id is what one of them tells
     told_alike : AllByRecursion (λ v. AreSame v.told (said_kept (get k.articles v.id)).fields) o.1 → (id : Id) → AreSame (said_listed o.1 id).fields (before id)
-    told_alike same id = by (first_given (fields_of_overview id) o.1) refl
-      where
-        by : (fields : Option Fields) → first_given (fields_of_overview id) o.1 ≡ fields → AreSame fields (before id)
-        by None e = tt
-        by (Some fields) e =
-            let f = told_by o.1 id fields e in
-            grind (arith, kept_is f.overview.id, all_at (λ v. AreSame v.told (said_kept (get k.articles v.id)).fields) f.overview o.1 same f.there)
+    told_alike same id = if_some (first_given (fields_of_overview id) o.1) _ (λ fields e.
+        let f = told_by o.1 id fields e in
+        grind (arith, kept_is f.overview.id, all_at (λ v. AreSame v.told (said_kept (get k.articles v.id)).fields) f.overview o.1 same f.there))
 
     -- and where one tells otherwise, they do
     own_told : (v : OverviewValue) (point : Point) → In v o.1 → IsOtherField k v.id v.told point → IsOtherField k v.id (first_given (fields_of_overview v.id) o.1) point
-    own_told v point i = by v.told (all_at _ v o.1 (own_agree [] o.0 o.1 (of_range h.tells.before t.saying h.tells.tells.asks h.tells.tells.may o listed).own) i).2
-      where
-        by : (told : Option Fields) → IfSome told (λ fields. first_given (fields_of_overview v.id) o.1 ≡ Some fields) → IsOtherField k v.id told point
-            → IsOtherField k v.id (first_given (fields_of_overview v.id) o.1) point
-        by told is other = grind arith
+    own_told v point i is =
+        let own = (all_at _ v o.1 (own_agree [] o.0 o.1 (of_range h.tells.before t.saying h.tells.tells.asks h.tells.tells.may o listed).own) i).2 in
+        grind (arith, own)
 
     pub listed_field : (p : Option Point) → IsFieldAmong k o.1 p → IsPointOf all 10 p
-    listed_field None same = fields_free (λ id. subst (λ (s : SaidOfArticle). AreSame s.fields (before id)) (sym (said id)) (told_alike same id))
+    listed_field None same = fields_free (λ id. subst (λ (s : SaidOfArticle). AreSame s.fields (before id)) (sym (said profile facts k t more h o listed id)) (told_alike same id))
     listed_field (Some point) other =
         let f = one_found point o.1 other in
-        other_point f.0.id point (subst (λ told. IsOtherField k f.0.id told point) (sym (ap (λ (s : SaidOfArticle). s.fields) (said f.0.id))) (own_told f.0 point f.1 f.2))
+        let same = ap (λ (s : SaidOfArticle). s.fields) (said profile facts k t more h o listed f.0.id) in
+        other_point f.0.id point (subst (λ told. IsOtherField k f.0.id told point) (sym same) (own_told f.0 point f.1 f.2))
       where
         one_found : (point : Point) (os : List OverviewValue) → OneTellsOther k point os → (v : OverviewValue) × In v os × IsOtherField k v.id v.told point
         one_found point [] h = absurd h
-        one_found point (v ∷ os) (inl h) = (v, inl refl, h)
-        one_found point (v ∷ os) (inr h) = let f = one_found point os h in (f.0, inr f.1, f.2)
+        one_found point (v ∷ os) h = grind (arith, one_found point os)
 
   -- ---- of an article
 
@@ -125,13 +103,7 @@ module _ (profile : Profile) (facts : List Fact) (k : Kept) (t : Statement) (mor
   pub overview_point : (id : Id) (os : List OverviewValue) → t.saying.article ≡ Some (id, Describes os) → (p : Option Point) → IsFieldAmong k os p → IsPointOf all 10 p
   overview_point id os e p among =
       field_point id (Describes os) e (option_map_or (λ o. o.told) (only os) None) refl p
-      (one_point os id (subst (λ o. IfSome o (MayBeOf t.saying.group)) e h.tells.tells.may.article) p among)
-    where
-      one_point : (os : List OverviewValue) (id : Id) → MatchOption (only os) ⊥ (λ o. o.id ≡ id) → (p : Option Point) → IsFieldAmong k os p
-          → IsFieldOf k id (option_map_or (λ o. o.told) (only os) None) p
-      one_point [] id is p among = absurd is
-      one_point (o ∷ []) id is p among = grind arith
-      one_point (o ∷ v ∷ os) id is p among = absurd is
+      (let one : MatchOption (only os) ⊥ (λ o. o.id ≡ id) = subst (λ o. IfSome o (MayBeOf t.saying.group)) e h.tells.tells.may.article in grind (arith, one))
 
 -- ---- one overview after the other
 

@@ -1,7 +1,7 @@
 -- Kinds of points that are looked for one after the other.
-use Rattle.std.{proofs.Common.{get_or, ◌≡◌, ℕ, ◌+◌, ◌<◌, ◌≤◌, arith, List, [], ◌∷◌, Option, None, Some, inl, inr, sym, subst}, specs.List.{AllByRecursion}}
-use Rattle.std.specs.Prelude.{option_map}
-use Rattle.nntp_article.specs.declared.session.profile.Profile.{Profile}
+use Rattle.std.{proofs.Common.{get_or, ◌≡◌, ℕ, ◌+◌, ◌<◌, ◌≤◌, ◌++◌, ◌∙◌, ap, arith, List, [], ◌∷◌, Option, inl, inr, sym, subst}, specs.List.{AllByRecursion}}
+use Rattle.std.specs.Prelude.{option_map, MatchOption}
+use Rattle.nntp_article.specs.{declared.session.profile.Profile.{Profile}, Inner.Misfit.{numbers_of}}
 use Rattle.nntp_wire.specs.declared.marks.Marks.TheVariants.{Lenient}
 use Rattle.nntp_said.specs.Facts.{Fact}
 use Rattle.nntp_theory.specs.{Inner.{Together.{IsWellFormed, Together}, Conflict.{FitsThere}}, Conflict.{Placed, told, told_with, Point, ConflictAt}}
@@ -12,33 +12,17 @@ use Rattle.nntp_facts.specs.{Inner.StatementView.{rank_of}, declared.{point.Poin
 use Rattle.nntp_facts.specs.declared.points.Kind.TheVariants as kind
 use Rattle.nntp_facts.specs.declared.points.NumbersKind.TheVariants as numbers
 
--- where they conflict at no point of all kinds, they do nowhere
-pub nowhere : (facts : List Fact) (i : ℕ) → 11 ≤ i → NoneBefore facts i → (point : Point) → ConflictAt facts point → ⊥
-nowhere facts i end none point c = grind arith
-
 -- where facts that answers tell conflict nowhere they stand together
 pub none_at_all : (profile : Profile) (bad : Placed) (answers : List Placed) (places : List ℕ) → AllByRecursion (FitsThere profile) (bad ∷ answers)
     → AllByRecursion IsWellFormed (told_with profile bad answers places)
     → ((point : Point) → ConflictAt (told_with profile bad answers places) point → ⊥) → Together (told_with profile bad answers places)
-none_at_all profile bad answers places fits formed none = elim (stand_or_conflict profile Lenient (told_with profile bad answers places)
-    (all_from _ (told_with profile bad answers places) (λ fact j. let s = (with_told profile bad answers places fits.0 fits.1).source fact j in all_at _ fact (told profile s.0)
-    (told_fitting profile s.0 s.1) s.2))
-    (all_from _ (told_with profile bad answers places) (λ fact j. let s = (with_told profile bad answers places fits.0 fits.1).source fact j in
-    all_at _ fact (told profile s.0) (told_placed profile (told_with profile bad answers places) s.0 (all_from _ (told profile s.0) s.3)) s.2))
+none_at_all profile bad answers places fits formed none =
+    let all = told_with profile bad answers places in
+    let source = (with_told profile bad answers places fits.0 fits.1).source in
+    elim (stand_or_conflict profile Lenient all
+    (all_from _ all (λ fact j. let s = source fact j in all_at _ fact (told profile s.0) (told_fitting profile s.0 s.1) s.2))
+    (all_from _ all (λ fact j. let s = source fact j in all_at _ fact (told profile s.0) (told_placed profile all s.0 (all_from _ (told profile s.0) s.3)) s.2))
     formed) [ inl c ↦ absurd (none c.0 c.1.conflict) | inr together ↦ together ]
-
--- what is so before is so of equal facts
-pub moved_before : (all facts : List Fact) (k i : ℕ) → all ≡ facts → k ≡ i → NoneBefore facts i → NoneBefore all k
-moved_before all facts k i same is before = subst (λ all. NoneBefore all k) (sym same) (subst (NoneBefore facts) (sym is) before)
-
--- a point that is given is the first
-pub given_there : (all facts : List Fact) (k i : ℕ) (o : Option CodePoint) (point : CodePoint) → all ≡ facts → o ≡ Some point → k ≡ i → NoneBefore facts i → IsPointOf all k (option_map point_of o)
-    → IsFirstPoint facts (point_of point)
-given_there all facts k i o point same e is before found = grind arith
-
--- where none is given there is none of the kind
-pub none_there : (all facts : List Fact) (k i : ℕ) (o : Option CodePoint) → all ≡ facts → o ≡ None → k ≡ i → NoneBefore facts i → IsPointOf all k (option_map point_of o) → NoneBefore facts (i + 1)
-none_there all facts k i o same e is before found = grind arith
 
 -- all kinds, in their order
 abbrev pub kinds : List Kind
@@ -50,11 +34,23 @@ kinds =
 pub kind_ranked : (i : ℕ) (d : Kind) → i < 11 → rank_of (get_or kinds i d) ≡ i
 kind_ranked i d l = grind arith
 
-module _ (profile : Profile) (all : List Fact) (held : Answers) (h : AreHeld profile all held) (t : Statement) (tells : TellsAlone profile t (told profile h.last)) where
-  -- the last answer beside the others
-  pub beside : IsBeside profile h.facts held.kept t (told profile h.last)
-  beside = record { kept = h.kept; together = h.together; tells = tells }
+module _ (profile : Profile) (all : List Fact) (held : Answers) (h : AreHeld profile all held) (t : Statement)
+    (tell : (judge : Profile) → judge.marks ≡ held.profile.marks → FitsThere judge held.last.0 → held.last.1 ≡ numbers_of held.last.0.response → TellsAlone judge t (told judge held.last.0)) where
+  -- by itself the last answer tells its facts
+  tells : TellsAlone profile t (told profile h.last)
+  tells =
+      let same = ap (λ (p : Placed × List ℕ). p.0) h.listed in
+      subst (λ a. TellsAlone profile t (told profile a)) same (tell profile (ap (λ p. p.marks) (sym h.judged)) (subst (FitsThere profile) (sym same) h.fits)
+      (ap (λ (p : Placed × List ℕ). p.1) h.listed ∙ ap (λ a. numbers_of a.response) (sym same)))
 
-  -- what they tell is well formed
-  pub all_formed : AllByRecursion IsWellFormed all
-  all_formed = subst (AllByRecursion IsWellFormed) h.whole (all_both IsWellFormed h.facts (told profile h.last) h.together.well_formed tells.formed)
+  -- one more kind has the first point, or none
+  pub next_kind : (k i : ℕ) → k ≡ i → NoneBefore all i → (o : Option CodePoint) → ((facts more : List Fact) → profile.limit ≡ held.profile.limit → IsBeside profile facts held.kept t more
+      → NoneBefore (facts ++ more) k → IsPointOf (facts ++ more) k (option_map point_of o)) → MatchOption (option_map point_of o) (NoneBefore all (i + 1)) (IsFirstPoint all)
+  next_kind k i is before o found =
+      let beside : IsBeside profile h.facts held.kept t (told profile h.last) = record { kept = h.kept; together = h.together; tells = tells } in
+      grind (arith, found h.facts (told profile h.last), h.whole, h.judged)
+
+  -- and behind all kinds they conflict nowhere, which can't be
+  pub not_nowhere : (i : ℕ) → 11 ≤ i → NoneBefore all i → ⊥
+  not_nowhere i end none =
+      h.conflict (subst (AllByRecursion IsWellFormed) h.whole (all_both IsWellFormed h.facts (told profile h.last) h.together.well_formed tells.formed)) (λ point c. grind arith)

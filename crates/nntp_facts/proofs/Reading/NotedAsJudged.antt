@@ -1,13 +1,21 @@
--- What is noted of an exchange behind earlier sessions, and how it is judged.
-use Rattle.std.proofs.{Common.{◌≡◌, true, List, [], ◌∷◌, ◌++◌, map, Some, sym, ap, subst, ◌∙◌, arith}, lemmas.Bool.{true≢false}}
+-- When an exchange may be noted, what is noted of it behind earlier sessions, and how it is judged.
+use Rattle.std.proofs.{Common.{ℕ, List, [], arith, ◌≡◌, true, ◌∷◌, ◌++◌, map, Some, sym, ap, subst, ◌∙◌}, lemmas.Bool.{true≢false}}
 use Rattle.nntp_article.specs.{declared.session.profile.Profile.{Profile}, Session.Machine.{start, fits}}
-use Rattle.nntp_pair.specs.{Pairing.{Paired, Unpaired, IsNext, asked_at, asked_of, responses_of}, declared.class.Class.TheVariants.{OutOfPlace, Contradiction}}
-use Rattle.nntp_theory.specs.{Answered.{SomePermitsEach}, Classes.{class_by}, declared.noted.Noted.TheVariants.{Consistent, OutOfPlace as NotedOutOfPlace}}
-use Rattle.nntp_theory.specs.{declared.noted.Noted.TheVariants.{Contradiction as NotedContradiction}, Permitted.{exchanged, ArePermittedBehind}}
-use Rattle.nntp_theory.{specs.Reading.{Accepted, Refused, IsJudged, class_behind}, proofs.{Members.{all_back}, Session.LaterPrompts.{next_behind}}}
-use Rattle.nntp_theory.proofs.Session.{LaterPrompts.{visible_longer}, OneMoreAnswer.{as_few}, PairsGoOn.{Runs, of_these, with_pair, as_many}}
-use Rattle.nntp_theory.proofs.{Streams.OneClass.{run_fits}, Reading.JudgedAnswers.{visible_behind}}
-use Rattle.nntp_facts.specs.Inner.Noted.{FactsKept, HasNotedBehind, IsNotedBehind}
+use Rattle.nntp_pair.specs.{Pairing.{Paired, Unpaired, IsNext, streams, asked_at, asked_of, responses_of}, declared.class.Class.TheVariants.{OutOfPlace}}
+use Rattle.nntp_pair.specs.declared.class.Class.TheVariants.{Contradiction}
+use Rattle.nntp_theory.specs.{Permitted.{ArePermitted, exchanged, ArePermittedBehind}, Reading.{Judged, accepted_of, AreJudged, Accepted, Refused, IsJudged}}
+use Rattle.nntp_theory.specs.{Reading.{class_behind}, Answered.{SomePermitsEach}, declared.noted.Noted.TheVariants.{Consistent, OutOfPlace as NotedOutOfPlace}}
+use Rattle.nntp_theory.{specs.declared.noted.Noted.TheVariants.{Contradiction as NotedContradiction}, proofs.Reading.JudgedAnswers.{accepted_behind}}
+use Rattle.nntp_theory.proofs.{Reading.{JudgedAnswers.{accepted_few, visible_behind, accepted_open}, JudgedSession.{index_in_session}}, Members.{all_back}}
+use Rattle.nntp_theory.proofs.Session.{LaterPrompts.{next_behind, visible_longer}, OneMoreAnswer.{as_few}, PairsGoOn.{Runs, of_these, with_pair, as_many}}
+use Rattle.nntp_theory.proofs.Streams.OneClass.{run_fits}
+use Rattle.nntp_facts.specs.Inner.Noted.{FactsKept, HasNoted, IsDue, HasNotedBehind, IsNotedBehind}
+use Rattle.nntp_wire.specs.Session.{ClientStream}
+
+-- the next pair may be noted
+pub due_in_session : (profile : Profile) (client : ClientStream) (server : List ℕ) (answers : List Judged) (left after : Unpaired) (pair : Paired) (facts : FactsKept)
+    → AreJudged (ArePermitted profile) [] (streams client server) answers left → HasNoted profile facts (accepted_of answers) → IsNext left pair after → IsDue facts pair
+due_in_session profile client server answers left after pair facts judged noted next = grind (arith, index_in_session, accepted_few, accepted_behind, visible_behind, accepted_open)
 
 -- a pair that some spool permits behind others fits
 permitted_fits : (profile : Profile) (earlier : List (List Paired)) (past : List Paired) (pair : Paired) → ArePermittedBehind profile earlier (past ++ pair ∷ [])
@@ -25,17 +33,11 @@ pub consistent_accepted : (profile : Profile) (earlier : List (List Paired)) (pa
     → IsNotedBehind profile earlier past pair old new Consistent → IsNext before pair after → IsJudged (ArePermittedBehind profile earlier) past before (Accepted pair) after
 consistent_accepted profile earlier past pair old new before after noted next = (next, noted.0)
 
--- whether it fits is told by what those before leave visible
-fits_behind : (profile : Profile) (earlier : List (List Paired)) (past : List Paired) (pair : Paired) (old : FactsKept) → HasNotedBehind profile old earlier past
-    → fits profile (visible_behind past) (asked_at pair.place) pair.response ≡ fits profile old.visible (asked_at pair.place) pair.response
-fits_behind profile earlier past pair old noted = ap (λ v. fits profile v (asked_at pair.place) pair.response) (sym noted.visible)
-
 pub unfit_refused : (profile : Profile) (earlier : List (List Paired)) (past : List Paired) (pair : Paired) (old new : FactsKept) (before after : Unpaired) → HasNotedBehind profile old earlier past
     → IsNotedBehind profile earlier past pair old new NotedOutOfPlace → IsNext before pair after
     → IsJudged (ArePermittedBehind profile earlier) past before (Refused pair) after × (class_behind profile past (Refused pair) ≡ Some OutOfPlace)
 unfit_refused profile earlier past pair old new before after stands noted next =
-    let unfit = fits_behind profile earlier past pair old stands ∙ noted.0 in
-    ((next, λ permitted. true≢false (sym (permitted_fits profile earlier past pair permitted) ∙ unfit)), ap (λ b. Some (class_by b)) unfit)
+    grind (arith, true≢false, permitted_fits profile earlier past pair, stands.visible)
 
 pub contradiction_refused : (profile : Profile) (earlier : List (List Paired)) (past : List Paired) (pair : Paired) (old new : FactsKept) (before after : Unpaired)
     → HasNotedBehind profile old earlier past

@@ -1,12 +1,12 @@
 -- What is noted to be a contradiction conflicts with the accepted answers.
-use Rattle.std.{proofs.Common.{◌≡◌, ◌≤◌, IsTrue, List, [], ◌∷◌, ◌++◌, length, Some, refl, sym, ap, subst, ◌∙◌, arith}, specs.List.{AllByRecursion}}
+use Rattle.std.{proofs.Common.{◌≡◌, ◌≤◌, List, [], ◌∷◌, ◌++◌, length, Some, refl, sym, ap, subst, ◌∙◌, arith}, specs.List.{AllByRecursion}}
 use Rattle.nntp_wire.specs.Answer.{Asked, Response}
-use Rattle.nntp_article.specs.{declared.session.profile.Profile.{Profile}, Session.Machine.{Visible, visible_after, start, fits}}
+use Rattle.nntp_article.specs.{declared.session.profile.Profile.{Profile}, Session.Machine.{Visible, visible_after, start}}
 use Rattle.nntp_pair.specs.Pairing.{Paired, asked_at, asked_of, responses_of}
 use Rattle.nntp_said.specs.{declared.position.Position.{Position, TheVariants.{Nowhere}}, Asks.{position_after}}
 use Rattle.nntp_theory.specs.{declared.noted.Noted.TheVariants.{Contradiction}, Classes.{visible_from, position_from, asked_next}, Inner.Permits.{SomePermits}}
-use Rattle.nntp_theory.specs.{Inner.Conflict.{FitsThere}, Permitted.{exchanged}, Conflict.{Placed, placed_from, placed_of, placed_behind, told_with, SomeHas}}
-use Rattle.nntp_theory.{specs.Conflict.{below}, proofs.{Conflicts.{session_fits, contradicts}, Given.{GivenPermits.{said}, SessionsByFacts.{permits_alone}}}}
+use Rattle.nntp_theory.specs.{Inner.Conflict.{FitsThere}, Permitted.{exchanged}, Conflict.{placed_from, placed_of, placed_behind, told_with, SomeHas, below}}
+use Rattle.nntp_theory.proofs.{Conflicts.{session_fits, contradicts}, Given.{GivenPermits.{said}, SessionsByFacts.{permits_alone}}}
 use Rattle.nntp_theory.proofs.Session.{LaterPrompts.{next_behind, visible_longer, position_longer, permitted_longer}, OneMoreAnswer.{as_few, fitting_grows}}
 use Rattle.nntp_theory.proofs.Session.PairsGoOn.{as_many, ends}
 use Rattle.nntp_facts.specs.Inner.Noted.{FactsKept, HasNoted, IsNoted, IsDue}
@@ -20,17 +20,16 @@ none_placed v at (p ∷ ps) = refl
 
 -- prompts behind those that are answered change nothing
 placed_longer : (v : Visible) (at : Position) (ps qs : List Asked) (answers : List Response) → length answers ≤ length ps → placed_from v at (ps ++ qs) answers ≡ placed_from v at ps answers
-placed_longer v at ps qs [] le = none_placed v at (ps ++ qs) ∙ sym (none_placed v at ps)
-placed_longer v at [] qs (a ∷ more) le = absurd (omega arith)
 placed_longer v at (p ∷ ps) qs (a ∷ more) le = grind (arith, placed_longer (visible_after v p a) (position_after at p a) ps qs more)
+placed_longer v at [] qs (a ∷ more) le = absurd (omega arith)
+placed_longer v at ps qs [] le = none_placed v at (ps ++ qs) ∙ sym (none_placed v at ps)
 
 -- one answer more stands where those before leave the session
 placed_grow : (v : Visible) (at : Position) (ps : List Asked) (answers : List Response) (asked : Asked) (response : Response) → asked_next ps answers ≡ Some asked
     → placed_from v at ps (answers ++ response ∷ []) ≡ placed_from v at ps answers
     ++ record { selected = (visible_from v ps answers).selected; position = position_from at ps answers; asked = asked; response = response } ∷ []
-placed_grow v at [] answers asked response e = cc
-placed_grow v at (p ∷ ps) [] asked response e = grind (arith, none_placed)
 placed_grow v at (p ∷ ps) (a ∷ more) asked response e = grind (arith, placed_grow (visible_after v p a) (position_after at p a) ps more asked response e)
+placed_grow v at ps answers asked response e = grind (arith, none_placed)
 
 -- ---- exchanges
 
@@ -41,23 +40,12 @@ placed_next past pair =
     let answers = responses_of past in
     let asked = asked_at pair.place in
     let few = as_few past in
-    ap (λ (q : List Asked × List Response). placed_from start.visible Nowhere q.0 q.1) (ends past pair)
-    ∙ placed_grow start.visible Nowhere (ps ++ asked ∷ []) answers asked pair.response (next_behind ps [] asked answers (as_many past))
-    ∙ joined (placed_longer start.visible Nowhere ps (asked ∷ []) answers few) (visible_longer start.visible ps (asked ∷ []) answers few) (position_longer Nowhere ps (asked ∷ []) answers few)
-  where
-    joined : {xs ys : List Placed} {v w : Visible} {at bt : Position} → xs ≡ ys → v ≡ w → at ≡ bt
-        → xs ++ record { selected = v.selected; position = at; asked = asked_at pair.place; response = pair.response } ∷ []
-        ≡ ys ++ record { selected = w.selected; position = bt; asked = asked_at pair.place; response = pair.response } ∷ []
-    joined {xs} {ys} {v} {w} {at} {bt} e f g = grind arith
+    let grown = placed_grow start.visible Nowhere (ps ++ asked ∷ []) answers asked pair.response (next_behind ps [] asked answers (as_many past)) in
+    grind (arith, ends past pair, grown, few, placed_longer, visible_longer, position_longer)
 
 -- accepted answers fit where they stand
 pub accepted_fit : (profile : Profile) (facts : FactsKept) (past : List Paired) → HasNoted profile facts past → AllByRecursion (FitsThere profile) (placed_of past)
 accepted_fit profile facts past stands = grind (arith, session_fits, said)
-
--- no spool has what the bad answer says with those that stand there
-abbrev Conflicts : Profile → Visible → Position → Asked → Response → List Placed → Type 0
-Conflicts profile v at asked response placed =
-    SomeHas profile (told_with profile (record { selected = v.selected; position = at; asked = asked; response = response }) placed (below (length placed))) → ⊥
 
 -- a contradiction fits where it stands, and conflicts with them
 pub noted_conflicts : (profile : Profile) (past : List Paired) (pair : Paired) (old new : FactsKept) → HasNoted profile old past → IsDue old pair
@@ -70,19 +58,12 @@ noted_conflicts profile past pair old new stands due noted =
     let qs = ps ++ asked ∷ [] in
     let few = as_few past in
     let comes = next_behind ps [] asked answers (as_many past) in
-    let v = visible_from start.visible ps answers in
-    let fit : IsTrue (fits profile v asked pair.response) = subst (λ v. IsTrue (fits profile v asked pair.response)) stands.visible noted.0 in
     let seen = visible_longer start.visible ps (asked ∷ []) answers few in
     let permitted = (permitted_longer profile ps (asked ∷ []) answers few).1 ((permits_alone profile (exchanged past)).0 stands.permitted) in
-    let all = (fitting_grows profile start.visible qs answers asked pair.response comes).1 (
-      (said profile permitted.0 qs answers permitted.2).0,
-      ap (λ v. v.closed) (seen ∙ sym stands.visible) ∙ due.is_open,
-      subst (λ v. IsTrue (fits profile v asked pair.response)) (sym seen) fit,
-    ) in
-    let none = contradicts profile qs answers asked pair.response comes all (λ h. noted.1 ((permits_alone profile (exchanged (past ++ pair ∷ []))).1 (subst (λ (q : List Asked
-    × List Response). SomePermits profile q.0 q.1) (sym (ends past pair)) h))) in (
-      (v, refl, fit),
-      subst (Conflicts profile v (position_from Nowhere ps answers) asked pair.response) (placed_longer start.visible Nowhere ps (asked ∷ []) answers few)
-          (subst (λ at. Conflicts profile v at asked pair.response (placed_from start.visible Nowhere qs answers)) (position_longer Nowhere ps (asked ∷ []) answers few)
-          (subst (λ v. Conflicts profile v (position_from Nowhere qs answers) asked pair.response (placed_from start.visible Nowhere qs answers)) seen none)),
+    let all = (fitting_grows profile start.visible qs answers asked pair.response comes).1
+    (grind (arith, said profile permitted.0 qs answers permitted.2, seen, stands.visible, due.is_open, noted.0)) in
+    let none = contradicts profile qs answers asked pair.response comes all (λ h. noted.1 ((permits_alone profile (exchanged (past ++ pair ∷ []))).1
+    (subst (λ (q : List Asked × List Response). SomePermits profile q.0 q.1) (sym (ends past pair)) h))) in (
+      (old.visible, ap (λ v. v.selected) stands.visible, noted.0),
+      rw (placed_longer start.visible Nowhere ps (asked ∷ []) answers few, position_longer Nowhere ps (asked ∷ []) answers few, seen) at none,
     )

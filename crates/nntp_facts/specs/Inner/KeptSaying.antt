@@ -1,6 +1,6 @@
 -- What each part of an answer has to join, and what is kept then.
 use Rattle.std.specs.Prelude.{◌≡◌, ◌&&◌, ◌==◌, not, ℕ, Bool, true, false, if◌then◌else◌, List, [], ◌∷◌, ◌++◌, Option, None, Some, MatchOption, IfSome, IsTrue}
-use Rattle.std.specs.{Prelude.{IsFalse, ⊤, option_map}, List.{list_any}, Option.{option_or, option_map_or}, Ordering.{nat_cmp}, Cmp.Lexicographic.{slice_cmp}}
+use Rattle.std.specs.{Prelude.{IsFalse, ⊤}, List.{list_any}, Option.{option_or, option_map_or}, Ordering.{nat_cmp}, Cmp.Lexicographic.{slice_cmp}}
 use Rattle.std.specs.FinMap.{FinMap, get}
 use Rattle.nntp_wire.specs.{Listing.{OverviewValue}, declared.range.Range.{Range}}
 use Rattle.nntp_article.specs.{Article.Parts.{Id}, Session.{Spool.{Name}, Machine.{is_same, head_fits, overview_numbers, only}}}

@@ -1,5 +1,4 @@
-use Rattle.std.proofs.Common.{is_some, ap, sym}
-use Rattle.nntp_facts.proofs.Keeping.KeptIds.{no_key}
+use Rattle.nntp_facts.proofs.{Base.{is_some, ap, sym}, Keeping.KeptIds.{no_key}}
 use Rattle.nntp_facts.proofs.articles.has_key.Goals as goal
 
 pub returns-in-Err : goal.returns-in-Err

@@ -1,21 +1,16 @@
-use Rattle.std.{proofs.Common.{sym, ap, ◌∙◌, option_map}, specs.{Ordering.{nat_cmp}, Cmp.{nat_cmp_total, Lexicographic.{slice_cmp, nat_list_cmp_total}}}}
-use Rattle.std.specs.Rc.{rc_str_bytes}
+use Rattle.std.{proofs.Common.{arith}, specs.{Ordering.{nat_cmp}, Cmp.{nat_cmp_total, Lexicographic.{slice_cmp, nat_list_cmp_total}}, Rc.{rc_str_bytes}}}
 use Rattle.nntp_wire.proofs.ShownMaps.{insert-shown}
-use Rattle.nntp_facts.specs.Inner.{IdsHeld.{numbered, ids_in, places_in}, Kept.{ids_with, places_with}}
 use Rattle.std.specs.FinMap as map
 use Rattle.nntp_facts.proofs.numbered_ids.add_to_maps.Goals as goal
 
 pub returns-clause-ids : goal.returns-clause-ids
 returns-clause-ids g c =
-    let ids = ids_in c.args.ids.now.entries in
-    insert-shown nat_cmp (λ k. k) (λ v. rc_str_bytes v) nat_cmp_total map.nat_cmp-IsAntisymmetric c.args.ids.now.entries _ c.in-Some.held.number
-    c.in_ok-clone.field-0 c.in_ok-insert.ensures.entries
-    ∙ (λ i. map.insert ids c.in-Some.held.number (c.in_ok-clone.ensures.cases i))
-    ∙ ap (λ held. ids_with ids (option_map numbered held)) (sym c.in-Some.is)
+    let inserted = insert-shown nat_cmp (λ k. k) (λ v. rc_str_bytes v) nat_cmp_total map.nat_cmp-IsAntisymmetric c.args.ids.now.entries _ c.in-Some.held.number
+    c.in_ok-clone.field-0 c.in_ok-insert.ensures.entries in
+    grind (arith, inserted, c.in_ok-clone.ensures.cases, c.in-Some.is)
 
 pub returns-clause-places : goal.returns-clause-places
 returns-clause-places g c =
-    insert-shown (slice_cmp nat_cmp) (λ k. rc_str_bytes k) (λ v. v) nat_list_cmp_total
-    (map.slice_cmp-IsAntisymmetric map.nat_cmp-IsAntisymmetric) c.args.places.now.entries _ c.in-Some.held.id
-    c.in-Some.held.number c.in_ok-insert-2.ensures.entries
-    ∙ ap (λ held. places_with (places_in c.args.places.now.entries) (option_map numbered held)) (sym c.in-Some.is)
+    let inserted = insert-shown (slice_cmp nat_cmp) (λ k. rc_str_bytes k) (λ v. v) nat_list_cmp_total (map.slice_cmp-IsAntisymmetric map.nat_cmp-IsAntisymmetric)
+    c.args.places.now.entries _ c.in-Some.held.id c.in-Some.held.number c.in_ok-insert-2.ensures.entries in
+    grind (arith, inserted, c.in-Some.is)

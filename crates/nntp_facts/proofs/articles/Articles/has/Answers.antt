@@ -1,5 +1,4 @@
-use Rattle.std.proofs.Common.{◌∙◌}
-use Rattle.nntp_facts.proofs.Keeping.KeptIds.{there}
+use Rattle.nntp_facts.proofs.{Base.{◌∙◌}, Keeping.KeptIds.{there}}
 use Rattle.nntp_facts.proofs.articles.Articles.has.Goals as goal
 
 pub returns : goal.returns

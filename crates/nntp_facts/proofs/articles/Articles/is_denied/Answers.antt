@@ -1,5 +1,4 @@
-use Rattle.nntp_facts.proofs.Keeping.KeptIds.{denied_there}
-use Rattle.std.proofs.Common.{arith}
+use Rattle.nntp_facts.proofs.{Base.{arith}, Keeping.KeptIds.{denied_there}}
 use Rattle.nntp_facts.proofs.articles.Articles.is_denied.Goals as goal
 
 pub returns-then-contains : goal.returns-then-contains

@@ -1,11 +1,8 @@
-use Rattle.std.proofs.Common.{refl, arith}
-use Rattle.nntp_facts.proofs.Keeping.{KeptIds.{part_known, no_part_known}, KeptArticles.{same_as_none}}
+use Rattle.nntp_facts.proofs.{Base.{refl, arith}, Keeping.{KeptIds.{part_known, no_part_known}, KeptArticles.{same_as_none}}}
 use Rattle.nntp_facts.proofs.articles.Articles.may_have_body.Goals as goal
 
 pub returns-in-Some : goal.returns-in-Some
-returns-in-Some g c facts kept =
-    let there = part_known c.self.inside.known.entries c.self.inside.denied.keys c.args.self.now c.self.view_is c.args.id.now c.in-Some.article.now c.in-Some.ensures.value in
-    grind (arith, there, kept c.args.id.now)
+returns-in-Some g c facts kept = grind (arith, part_known, kept c.args.id.now)
 
 pub returns-in-None : goal.returns-in-None
 returns-in-None g c facts kept =

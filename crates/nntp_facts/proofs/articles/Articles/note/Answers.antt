@@ -1,7 +1,4 @@
-use Rattle.std.{proofs.Common.{◌≡◌, Some, sym, subst, arith}, specs.Prelude.{option_map}}
-use Rattle.nntp_facts.specs.{declared.joins.Joins.TheVariants.{Again}, Inner.{Saying.{Lacks}, ArticleView.{is_added}, KeptSaying.{IsThereAlready}}}
-use Rattle.nntp_facts.specs.Inner.{KeptSaying.{IsArticleAdded}, SayingView.{article_said}}
-use Rattle.nntp_theory.proofs.OkResults.{if_ok}
+use Rattle.nntp_facts.proofs.Base.{◌≡◌, Some, sym, subst, arith, option_map, if_ok, Again, Lacks, is_added, IsThereAlready, IsArticleAdded, article_said}
 use Rattle.nntp_facts.proofs.articles.Articles.note.Goals as goal
 
 pub returns-in-Exists-clause-added : goal.returns-in-Exists-clause-added

@@ -1,9 +1,6 @@
-use Rattle.std.proofs.Common.{arith, true, sym, subst, ◌∙◌}
-use Rattle.nntp_wire.specs.{Listing.{OverviewValue, overviews_of}, Inner.View.{overview_value}}
-use Rattle.nntp_article.proofs.ArticleLemmas.WordsOfLines.{overviews_words}
-use Rattle.nntp_theory.proofs.OkResults.{if_ok}
-use Rattle.nntp_facts.specs.Inner.{Articles.{telling}, ArticleView.{is_added}, KeptSaying.{IsSaidAdded, said_alone}}
+use Rattle.nntp_facts.proofs.Base.{arith, true, sym, subst, ◌∙◌, OverviewValue, overviews_of, overview_value, if_ok, telling, is_added, IsSaidAdded, said_alone}
 use Rattle.nntp_facts.proofs.Keeping.SaidOfArticles.{first_said}
+use Rattle.nntp_article.proofs.ArticleLemmas.WordsOfLines.{overviews_words}
 use Rattle.nntp_facts.proofs.articles.Articles.note_told.Goals as goal
 
 pub tell-requires : goal.tell-requires

@@ -1,6 +1,4 @@
-use Rattle.std.proofs.Common.{arith, Some, refl, sym, subst}
-use Rattle.nntp_theory.specs.Inner.Together.{AreSame}
-use Rattle.nntp_facts.proofs.Keeping.{KeptIds.{part_known, no_part_known}, KeptArticles.{same_as_none}}
+use Rattle.nntp_facts.proofs.{Base.{arith, Some, refl, sym, subst, AreSame}, Keeping.{KeptIds.{part_known, no_part_known}, KeptArticles.{same_as_none}}}
 use Rattle.nntp_facts.proofs.articles.Articles.other_field.Goals as goal
 
 pub returns-in-Some : goal.returns-in-Some

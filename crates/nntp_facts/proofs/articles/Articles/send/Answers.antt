@@ -1,7 +1,5 @@
-use Rattle.std.{proofs.Common.{◌≡◌, ℕ, List, Some, rules, refl, ap, sym, subst, ◌∙◌}, specs.Prelude.{unwrap_or}}
-use Rattle.nntp_facts.specs.Inner.{Kept.{IsAddedIf}, KeptSaying.{kept_by}, Saying.{Sends}, Articles.{MayBeSent, with_sent}, ArticleView.{is_added}}
-use Rattle.nntp_facts.specs.{Inner.ArticleView.{known_article}, declared.articles.known.KnownArticle.TheVariants.{Unsent}}
-use Rattle.nntp_facts.proofs.Keeping.{NotedArticles.{sent_noted, of_denied}, NamedArticles.{text_cmp, put_in, had, same_key}}
+use Rattle.nntp_facts.proofs.Base.{rules, refl, ap, sym, subst, ◌∙◌, unwrap_or, IsAddedIf, kept_by, Sends, is_added, known_article, Unsent, arith, MayBeSent}
+use Rattle.nntp_facts.proofs.{Base.{◌≡◌, with_sent}, Keeping.{KeptArticles.{sent_noted, of_denied}, KeptIds.{put_in, had, same_key}}}
 use Rattle.nntp_facts.proofs.articles.Articles.send.Goals as goal
 
 pub returns-then-is_denied-clause-added : goal.returns-then-is_denied-clause-added
@@ -11,23 +9,16 @@ returns-then-is_denied-clause-added g c facts what lines kept heads bodies =
 pub returns-clause-added : goal.returns-clause-added
 returns-clause-added g c facts what lines kept heads bodies =
     let M = c.args.self.now in
-    let es = c.self.inside.known.entries in
-    let ks = c.self.inside.denied.keys in
     let id = c.args.id.now in
-    let key = c.in_ok-from_str.field-0 in
-    let head = c.args.sent.now.head in
-    let body = c.args.sent.now.body in
     let old = c.or_insert-article.result.now in
     let new = c.note.new.self in
-    let same = c.in_ok-from_str.ensures.ok in
     let free = sym c.is_denied.ensures ∙ c.if-is_denied.false in
     let found = c.or_insert-article.ensures.value ∙ ap (λ o. unwrap_or o Unsent) c.in_ok-entry.ensures.value in
-    let does = subst (IsAddedIf (MayBeSent (known_article old) head body) (λ k. k
-    ≡ with_sent (known_article old) head body) (known_article old) (known_article new)) (sym c.named_if.ensures.added) c.in_ok-note.ensures in
-    sent_noted facts M _ what id lines head body (known_article old) (known_article new) (is_added c.named_if.result) kept
-    (had es ks M c.self.view_is key id same free Unsent old refl found) (put_in es ks M c.self.view_is key id same _ new (search rules)) heads bodies does
+    let does = subst (IsAddedIf (MayBeSent (known_article old) c.args.sent.now.head c.args.sent.now.body)
+    (λ k. k ≡ with_sent (known_article old) c.args.sent.now.head c.args.sent.now.body) (known_article old) (known_article new)) (sym c.named_if.ensures.added) c.in_ok-note.ensures in
+    sent_noted facts M _ what id lines _ _ (known_article old) (known_article new) (is_added c.named_if.result) kept
+    (had c.self.inside.known.entries c.self.inside.denied.keys M c.self.view_is c.in_ok-from_str.field-0 id c.in_ok-from_str.ensures.ok free Unsent old refl found)
+    (put_in c.self.inside.known.entries c.self.inside.denied.keys M c.self.view_is c.in_ok-from_str.field-0 id c.in_ok-from_str.ensures.ok _ new (search rules)) heads bodies does
 
 pub returns-clause-text : goal.returns-clause-text
-returns-clause-text g c = λ added. c.named_if.ensures.text (sym c.named_if.ensures.added ∙ added) ∙ ap (λ (bytes : List ℕ). Some bytes)
-    (same_key c.in_ok-from_str.field-0 c.key.result.now c.in_ok-text.text c.args.id.now (ap (text_cmp c.in_ok-from_str.field-0) c.key.ensures ∙ c.in_ok-entry.ensures.same_key)
-    c.in_ok-from_str.ensures.ok c.in_ok-text.ensures.cases)
+returns-clause-text g c = grind (arith, same_key c.in_ok-from_str.field-0 c.key.result.now c.in_ok-text.text c.args.id.now)

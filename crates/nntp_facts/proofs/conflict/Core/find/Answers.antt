@@ -1,6 +1,6 @@
-use Rattle.std.proofs.{Common.{◌^◌, ◌<◌, List, length, map, arith, rules, subst, sym, ap}, lemmas.List.{length-map}}
+use Rattle.std.proofs.{Common.{◌^◌, ◌<◌, List, length, map, arith, rules, ap}, lemmas.List.{length-map}}
 use Rattle.nntp_article.specs.Session.Limit.{profile_of}
-use Rattle.nntp_theory.{specs.Inner.Conflict.{IsPartOfCore}, proofs.Conflicts.{core_start}}
+use Rattle.nntp_theory.proofs.Conflicts.{core_start}
 use Rattle.nntp_facts.{specs.{declared.placed.Placed.{Placed}, Standing.{stands_of}}, proofs.Keeping.CoresFound.{alone, some_left, whole_found, end_found}}
 use Rattle.nntp_facts.proofs.Keeping.CoresFound.{kept_told, none_kept}
 use Rattle.nntp_facts.proofs.conflict.Core.find.Goals as goal
@@ -11,9 +11,8 @@ few answers short = let same = length-map answers stands_of in omega (arith, sam
 
 pub loop-places-init : goal.loop-places-init
 loop-places-init g c =
-    let profile = profile_of c.args.limit c.args.marks in
-    let bad = stands_of c.args.bad.now in
-    let answers = map stands_of c.args.answers.now in grind (arith, core_start profile bad answers c.requires.conflict, length-map c.args.answers.now stands_of)
+    let start = core_start (profile_of c.args.limit c.args.marks) (stands_of c.args.bad.now) (map stands_of c.args.answers.now) c.requires.conflict in
+    grind (arith, start, length-map c.args.answers.now stands_of)
 
 pub returns-then-len-most-clause-found : goal.returns-then-len-most-clause-found
 returns-then-len-most-clause-found g c =
@@ -27,42 +26,29 @@ pub first_refused-requires : goal.first_refused-requires
 first_refused-requires g c =
     let fit = c.requires.fit in
     let now = c.loop-places.invariant in
-    let short = few c.args.answers.now (search rules) in
     let told = kept_told _ _ _ c.in_ok-kept.field-0 c.in-Some.kept c.deref.result.now _ c.in-Some.is c.deref.ensures.value (c.in_ok-kept.ensures fit) in
-    some_left _ _ _ fit.0 fit.1 _ _ now.1 short now.0 c.in-Some.kept told
+    some_left _ _ _ fit.0 fit.1 _ _ now.1 (few c.args.answers.now (search rules)) now.0 c.in-Some.kept told
 
 pub returns-clause-found : goal.returns-clause-found
 returns-clause-found g c =
+    let fit = c.requires.fit in
+    let now = c.loop-places.invariant in
     let profile = profile_of c.args.limit c.args.marks in
     let bad = stands_of c.args.bad.now in
     let answers = map stands_of c.args.answers.now in
-    let fit = c.requires.fit in
-    let now = c.loop-places.invariant in
     let places = c.loop-places.places.items in
-    let short = few c.args.answers.now (search rules) in
-    whole_found profile bad answers fit.0 fit.1 c.loop-places.bound places now.1 short now.0
+    whole_found profile bad answers fit.0 fit.1 c.loop-places.bound places now.1 (few c.args.answers.now (search rules)) now.0
     (none_kept profile bad answers c.in_ok-kept.field-0 c.deref.result.now places c.in_default.not-Some c.deref.ensures.value (c.in_ok-kept.ensures fit))
-
-pub returns-then-len-most-clause-most : goal.returns-then-len-most-clause-most
-returns-then-len-most-clause-most g c = let count = c.len.ensures in omega (arith, c.if-len-most.true, count)
-
-pub returns-clause-most : goal.returns-clause-most
-returns-clause-most g c = c.loop-places.invariant.2
 
 pub loop-places-preserved : goal.loop-places-preserved
 loop-places-preserved g c =
-    let profile = profile_of c.args.limit c.args.marks in
-    let bad = stands_of c.args.bad.now in
-    let answers = map stands_of c.args.answers.now in
     let fit = c.requires.fit in
     let now = c.loop-places.invariant in
     let places = c.loop-places.places.items in
-    let short = few c.args.answers.now (search rules) in
-    let told = kept_told profile bad answers c.in_ok-kept.field-0 c.in-Some.kept c.deref.result.now places c.in-Some.is c.deref.ensures.value (c.in_ok-kept.ensures fit) in
-    let part = c.in_ok-bound.ensures.found bad places fit told now.1 short now.0 in
-    let few = now.2 in
+    let told = kept_told _ _ _ c.in_ok-kept.field-0 c.in-Some.kept c.deref.result.now places c.in-Some.is c.deref.ensures.value (c.in_ok-kept.ensures fit) in
+    let part = c.in_ok-bound.ensures.found (stands_of c.args.bad.now) places fit told now.1 (few c.args.answers.now (search rules)) now.0 in
     let one_more = ap length c.in_ok-insert.ensures.items in (
-      subst (λ these. IsPartOfCore profile bad answers c.in_ok-bound.bound these) (sym c.in_ok-insert.ensures.items) part,
+      rw c.in_ok-insert.ensures.items part,
       omega (arith, c.in_ok-bound.ensures.below, now.1),
-      omega (arith, one_more, few, c.len.ensures, c.if-len-most.false),
+      omega (arith, one_more, now.2, c.len.ensures, c.if-len-most.false),
     )

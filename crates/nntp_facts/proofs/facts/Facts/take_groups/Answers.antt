@@ -5,5 +5,4 @@ use Rattle.nntp_facts.proofs.facts.Facts.take_groups.Goals as goal
 
 pub returns-clause-groups : goal.returns-clause-groups
 returns-clause-groups g c profile earlier past stands =
-    let together = stand_together profile c.args.self.now earlier past stands in
-    grind (arith, groups_shown (said_behind profile.marks earlier past) c.args.self.now.kept.groups together.numbers stands.kept.groups)
+    grind (arith, groups_shown (said_behind profile.marks earlier past) c.args.self.now.kept.groups (stand_together profile c.args.self.now earlier past stands).numbers stands.kept.groups)

@@ -1,13 +1,10 @@
-use Rattle.std.proofs.Common.{[], ◌∷◌, ◌++◌, None, map, take, take_all, sym, subst, arith}
-use Rattle.nntp_wire.specs.{Listing.{ActiveValue}, Inner.View.{active_value}}
-use Rattle.nntp_article.proofs.SessionLemmas.LinesLeft.{one_more}
-use Rattle.nntp_said.specs.{Asks.{Bounds}, Facts.{GroupsAre}}
-use Rattle.nntp_facts.{specs.Inner.{Kept.{AreKeptGroups, told, Agree, MayShow}, KeptSaying.{IsTextOf}}, proofs.Keeping.BoundGroups.{none_bound, one_more_bound}}
-use Rattle.nntp_facts.proofs.Keeping.BoundGroups.{listing}
+use Rattle.nntp_facts.proofs.Base.{[], ◌∷◌, ◌++◌, None, map, take, take_all, sym, subst, arith, ActiveValue, active_value, one_more, Bounds, GroupsAre}
+use Rattle.nntp_facts.proofs.{Base.{AreKeptGroups, told, Agree, MayShow, IsTextOf}, Keeping.ListedGroups.{one_more_bound, listing}}
+use Rattle.nntp_facts.proofs.Keeping.FactsOfOneGroup.{told_same}
 use Rattle.nntp_facts.proofs.groups.Groups.bound_all.Goals as goal
 
 pub loop-group-init : goal.loop-group-init
-loop-group-init g c facts wildmat = none_bound facts wildmat c.args.self.now
+loop-group-init g c facts wildmat kept name = search told_same
 
 pub loop-group-preserved : goal.loop-group-preserved
 loop-group-preserved g c facts wildmat kept =

@@ -1,7 +1,4 @@
-use Rattle.std.proofs.Common.{ℕ, List, [], ◌∷◌, ◌++◌, map, take, Option}
-use Rattle.nntp_wire.specs.Inner.View.{active_value}
-use Rattle.nntp_said.specs.Facts.{Fact, GroupsAre}
-use Rattle.nntp_facts.specs.Inner.Kept.{AreKeptGroups}
+use Rattle.nntp_facts.proofs.Base.{ℕ, List, [], ◌∷◌, ◌++◌, map, take, Option, active_value, Fact, GroupsAre, AreKeptGroups}
 use Rattle.nntp_facts.proofs.groups.Groups.bound_all.Given as goal
 
 -- the lines so far are kept

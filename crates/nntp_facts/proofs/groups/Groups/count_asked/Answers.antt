@@ -1,11 +1,8 @@
-use Rattle.std.proofs.{Common.{◌+◌, cond, sym, ap, ◌∙◌, rules}, lemmas.Iterator.Consumers.{YieldsList-at, YieldsList-from_rest, YieldsList-from_filter}}
-use Rattle.std.{proofs.lemmas.{Iterator.Consumers.{count_from_yields_List}, List.{Folds.{fold-map}, Sums.{length-filter}}}, specs.List.{count_by}}
-use Rattle.std.specs.{Ordering.{nat_cmp}, Cmp.Lexicographic.{slice_cmp, nat_list_cmp_total}, FinMap.{entries, nat_cmp-IsAntisymmetric}}
-use Rattle.std.specs.FinMap.{slice_cmp-IsAntisymmetric}
+use Rattle.nntp_facts.proofs.Base.{◌+◌, cond, sym, ap, ◌∙◌, rules, nat_cmp, slice_cmp, nat_list_cmp_total, entries, nat_cmp-IsAntisymmetric}
+use Rattle.nntp_facts.proofs.Base.{slice_cmp-IsAntisymmetric, is_asked, entries-shown, Name, KeptGroup}
+use Rattle.std.proofs.lemmas.{Iterator.Consumers.{YieldsList-at, YieldsList-from_rest, YieldsList-from_filter, count_from_yields_List}, List.Folds.{fold-map}}
+use Rattle.std.{proofs.lemmas.List.Sums.{length-filter}, specs.List.{count_by}}
 use borrow.Author.Tests.{tests}
-use Rattle.nntp_wire.{specs.Inner.Decided.{is_asked}, proofs.ShownMaps.{entries-shown}}
-use Rattle.nntp_article.specs.Session.Spool.{Name}
-use Rattle.nntp_facts.specs.Inner.Kept.{KeptGroup}
 use Rattle.nntp_facts.proofs.groups.Groups.count_asked.Goals as goal
 
 pub returns : goal.returns
@@ -13,9 +10,8 @@ returns g c =
     let es = c.self.inside.groups.entries in
     let asked = λ (e : Name × KeptGroup). is_asked c.args.wildmat.now e.0 in
     let counted = count_from_yields_List c.filter.result c.count.result c.count.ensures.ran
-    (YieldsList-from_filter _ (λ e. asked (e.0.items, e.1))
-    (YieldsList-at c.filter.ensures.source (YieldsList-from_rest es c.iter.ensures.rest)) c.filter.ensures.closure
-    (λ x b q k. search (rules, tests))) in
+    (YieldsList-from_filter _ (λ e. asked (e.0.items, e.1)) (YieldsList-at c.filter.ensures.source (YieldsList-from_rest es c.iter.ensures.rest))
+    c.filter.ensures.closure (λ x b q k. search (rules, tests))) in
     let shown = entries-shown (slice_cmp nat_cmp) (λ k. k.items) (λ v. v) nat_list_cmp_total
     (slice_cmp-IsAntisymmetric nat_cmp-IsAntisymmetric) es c.iter.ensures.ordered in
     counted ∙ length-filter (λ e. asked (e.0.items, e.1)) es ∙ sym (fold-map (λ n e. n + cond (asked e) 1 0) (λ e. (e.0.items, e.1)) 0 es)

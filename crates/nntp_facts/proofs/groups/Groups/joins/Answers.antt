@@ -1,9 +1,6 @@
-use Rattle.std.proofs.Common.{◌++◌, Some, None, refl, sym, subst, ◌∙◌}
-use Rattle.nntp_facts.{specs.Inner.{SayingView.{id_at, of_group}, Kept.{MayHave}}, proofs.Keeping.KeptGroups.{kept_of, bounded_more, may_have_told}}
-use Rattle.nntp_facts.proofs.Keeping.{KeptGroups.{empty_may_have, untold_may_show, agree_kept, empty_agree}, SaidAgain.{joins_again, kept_again}}
-use Rattle.nntp_theory.specs.Inner.Together.{AsksStand}
+use Rattle.nntp_facts.proofs.{Base.{◌++◌, Some, None, refl, sym, subst, ◌∙◌, AsksStand, id_at, of_group, MayHave, arith, empty}, Keeping.KeptGroups.{kept_of}}
+use Rattle.nntp_facts.proofs.Keeping.{KeptGroups.{bounded_more, may_have_told, empty_may_have, agree_kept, empty_agree}, SaidAgain.{joins_again, kept_again}}
 use Rattle.nntp_numbers.proofs.MoreAsks.{none_stand}
-use Rattle.std.specs.FinMap as map
 use Rattle.nntp_facts.proofs.groups.Groups.joins.Goals as goal
 
 pub returns-in-Some-clause-at_all : goal.returns-in-Some-clause-at_all
@@ -34,8 +31,8 @@ returns-in-None-clause-at_all g c tells asks kept stand says bounded agree shown
     let was = kept_of tells c.args.self.now name None (sym c.in-None.ensures) kept in
     let group = c.new.result in
     let begun = c.new.ensures.ids in
-    let free = subst (λ ids. MayHave ids group.places id) (sym begun.0) (subst (λ places. MayHave map.empty places id) (sym begun.1) (empty_may_have id)) in
+    let free = subst (λ ids. MayHave ids group.places id) (sym begun.0) (subst (λ places. MayHave empty places id) (sym begun.1) (empty_may_have id)) in
     let joins = c.joins-in-None-2.ensures _ asks c.new.ensures.numbers none_stand (bounded was.not_shown) says (empty_agree group id begun.0) in (
-      λ t. (subst (λ asked. AsksStand (asked ++ asks)) (sym was.no_asks) (joins.0 (sym c.new_if-in-None.ensures.at_all ∙ t)).0, untold_may_show (tells name) id was),
+      λ t. (subst (λ asked. AsksStand (asked ++ asks)) (sym was.no_asks) (joins.0 (sym c.new_if-in-None.ensures.at_all ∙ t)).0, grind (arith, was)),
       λ h. c.new_if-in-None.ensures.at_all ∙ joins.1 (subst (λ asked. AsksStand (asked ++ asks)) was.no_asks h.0, free),
     )

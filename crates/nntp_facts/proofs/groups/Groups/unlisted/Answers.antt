@@ -1,5 +1,4 @@
-use Rattle.nntp_wire.specs.Listing.{active_groups}
-use Rattle.nntp_facts.proofs.Keeping.ListedNames.{one_unlisted}
+use Rattle.nntp_facts.proofs.{Base.{active_groups}, Keeping.KeptNames.{one_unlisted}}
 use Rattle.nntp_facts.proofs.groups.Groups.unlisted.Goals as goal
 
 pub returns : goal.returns

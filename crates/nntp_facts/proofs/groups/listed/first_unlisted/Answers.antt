@@ -1,5 +1,4 @@
-use Rattle.std.{proofs.{Common.{true, false, arith}, lemmas.Bool.{true≢false, or_left, or_right}}, specs.Cmp.Lexicographic.{same_text}}
-use Rattle.nntp_theory.proofs.Together.FactsOfASpoolStand.{same_itself}
+use Rattle.nntp_facts.proofs.Base.{arith, true≢false, or_left, or_right, same_text, same_itself}
 use Rattle.nntp_facts.proofs.groups.listed.first_unlisted.Goals as goal
 
 pub returns-in-Some-group_unlisted : goal.returns-in-Some-group_unlisted

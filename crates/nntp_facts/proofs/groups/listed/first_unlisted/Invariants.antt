@@ -1,6 +1,5 @@
-use Rattle.std.{proofs.Common.{◌&&◌, not, true}, specs.{Prelude.{IsTrue}, BTreeMap.{keys}, List.{list_any}, Option.{option_map_or}}}
-use Rattle.nntp_wire.specs.{Decided.{matches_name}, Name.{IsGroupName}}
-use Rattle.nntp_article.specs.Session.{Spool.{Name}, Machine.{is_same}}
+use Rattle.nntp_facts.proofs.Base.{◌&&◌, not, true, list_any, option_map_or, matches_name, IsGroupName, Name, is_same}
+use Rattle.std.specs.{Prelude.{IsTrue}, BTreeMap.{keys}}
 use Rattle.nntp_facts.proofs.groups.listed.first_unlisted.Given as goal
 
 -- what is left are names of groups, and a name before it is listed, or doesn't match

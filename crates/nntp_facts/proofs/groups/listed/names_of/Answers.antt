@@ -1,5 +1,4 @@
-use Rattle.nntp_wire.specs.Inner.View.{active_value}
-use Rattle.nntp_facts.proofs.Keeping.ListedNames.{name_moved}
+use Rattle.nntp_facts.proofs.{Base.{active_value}, Keeping.KeptNames.{name_moved}}
 use Rattle.nntp_facts.proofs.groups.listed.names_of.Goals as goal
 
 pub loop-group-preserved : goal.loop-group-preserved

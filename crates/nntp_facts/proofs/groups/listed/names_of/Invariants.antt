@@ -1,7 +1,4 @@
-use Rattle.std.{proofs.Common.{◌≡◌, ◌||◌}, specs.List.{list_any}}
-use Rattle.nntp_wire.specs.Listing.{active_groups}
-use Rattle.nntp_article.specs.Session.{Spool.{Name}, Machine.{is_same}}
-use Rattle.nntp_facts.specs.Inner.ListedGroups.{is_listed}
+use Rattle.nntp_facts.proofs.Base.{◌≡◌, ◌||◌, list_any, active_groups, Name, is_same, is_listed}
 use Rattle.nntp_facts.proofs.groups.listed.names_of.Given as goal
 
 abbrev pub invariant-loop-group : goal.invariant-loop-group

@@ -1,5 +1,4 @@
-use Rattle.std.proofs.Common.{arith}
-use Rattle.nntp_facts.proofs.Keeping.CountedGroups.{were_asked}
+use Rattle.nntp_facts.proofs.{Base.{arith}, Keeping.CountedGroups.{were_asked}}
 use Rattle.nntp_facts.proofs.kept.Kept.count_asked.Goals as goal
 
 pub returns-in-Some : goal.returns-in-Some

@@ -1,8 +1,4 @@
-use Rattle.std.{proofs.Common.{◌≡◌, ◌+◌, ◌≤◌, List, length, map, drop}, specs.{Prelude.{◌↔◌}, List.{AllByRecursion}}}
-use Rattle.nntp_wire.specs.Inner.View.{active_value}
-use Rattle.nntp_said.specs.Facts.{Fact}
-use Rattle.nntp_theory.specs.Inner.Together.{Together}
-use Rattle.nntp_facts.specs.Inner.{Kept.{IsKept}, ListedGroups.{LineJoins, shown_lines}}
+use Rattle.nntp_facts.proofs.Base.{◌≡◌, ◌+◌, ◌≤◌, List, length, map, drop, ◌↔◌, AllByRecursion, active_value, Fact, Together, IsKept, LineJoins, shown_lines}
 use Rattle.nntp_facts.proofs.kept.Kept.count_joining.Given as goal
 
 -- all lines join if those do that are left, and so many of the others are of groups that are shown

@@ -1,9 +1,6 @@
-use Rattle.std.{proofs.Common.{rules, cond, ap, refl, sym, ◌∙◌, None, Some}, specs.Prelude.{option_map}}
-use Rattle.nntp_wire.specs.Listing.{overviews_of}
-use Rattle.nntp_theory.specs.{Given.{first_given}, Conflict.{Article}}
-use Rattle.nntp_facts.specs.Inner.{Saying.{Lacks, Exists, Sends, Describes}, SayingView.{article_said, overviews_said}, PointView.{point_of}}
-use Rattle.nntp_facts.{specs.Inner.StatementView.{statement_of}, proofs.{Keeping.KeptArticles.{denied_kept}, PointsFound.ArticlesBeside.{lacks, has}}}
-use Rattle.nntp_facts.proofs.PointsFound.ArticlesBeside.{listed_article, no_article}
+use Rattle.nntp_facts.proofs.Base.{rules, cond, ap, refl, sym, ◌∙◌, None, Some, option_map, overviews_of, first_given, Article, Lacks, Exists, Sends, Describes}
+use Rattle.nntp_facts.proofs.{Base.{article_said, overviews_said, point_of, statement_of}, Keeping.KeptArticles.{denied_kept}}
+use Rattle.nntp_facts.proofs.PointsFound.ArticlesBeside.{lacks, has, listed_article, no_article}
 use Rattle.nntp_facts.proofs.kept.Kept.denied_article.Goals as goal
 
 pub returns-in-Some : goal.returns-in-Some
@@ -34,6 +31,5 @@ returns-in-Some-Sends g c profile facts more h =
 
 pub returns-in-Some-Describes : goal.returns-in-Some-Describes
 returns-in-Some-Describes g c profile facts more h =
-    let w = c.in-Some-Describes in
-    has profile facts c.args.self.now (statement_of c.args.told.now) more h w.id.now (Describes (overviews_of w.field-0-1.now)) (search rules) refl
+    has profile facts c.args.self.now (statement_of c.args.told.now) more h c.in-Some-Describes.id.now (Describes (overviews_of c.in-Some-Describes.field-0-1.now)) (search rules) refl
     (option_map point_of c.lacked_article-in-Some-Describes.result) c.lacked_article-in-Some-Describes.ensures

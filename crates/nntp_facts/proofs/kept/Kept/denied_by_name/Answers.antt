@@ -1,5 +1,4 @@
-use Rattle.std.proofs.Common.{arith, Some}
-use Rattle.nntp_facts.{specs.Inner.StatementView.{statement_of}, proofs.PointsFound.KindsOfPoints.{named_group, missing_group}}
+use Rattle.nntp_facts.proofs.{Base.{arith, Some, statement_of}, PointsFound.KindsOfPoints.{named_group, missing_group}}
 use Rattle.nntp_facts.proofs.kept.Kept.denied_by_name.Goals as goal
 
 pub returns-in-Some : goal.returns-in-Some

@@ -1,5 +1,4 @@
-use Rattle.std.{proofs.Common.{◌++◌, ap, sym, subst, arith}, specs.Prelude.{option_map}}
-use Rattle.nntp_facts.specs.Inner.{Points.{IsPointOf}, SayingView.{active_said}, StatementView.{statement_of}}
+use Rattle.nntp_facts.proofs.Base.{◌++◌, ap, sym, subst, arith, option_map, IsPointOf, active_said, statement_of}
 use Rattle.nntp_facts.proofs.kept.Kept.denied_group.Goals as goal
 
 pub returns-in-None : goal.returns-in-None

@@ -1,8 +1,5 @@
-use Rattle.std.{proofs.Common.{◌≡◌, ℕ, false, List, Option, Bor, sym, subst}, specs.{Prelude.{option_map}, Option.{option_map_or}, List.{list_any}}}
-use Rattle.nntp_article.specs.Session.{Spool.{Name}, Machine.{is_same}}
-use Rattle.nntp_said.specs.Facts.{Fact}
-use Rattle.nntp_theory.{specs.Together.{denies_group}, proofs.OkResults.{on_ok}}
-use Rattle.nntp_facts.{specs.Inner.Kept.{AreKeptNames}, proofs.Keeping.KeptNames.{names_kept}}
+use Rattle.nntp_facts.proofs.Base.{◌≡◌, ℕ, false, List, Option, Bor, sym, subst, option_map, option_map_or, list_any, Name, is_same, Fact, denies_group, on_ok}
+use Rattle.nntp_facts.proofs.{Base.{AreKeptNames}, Keeping.KeptNames.{names_kept}}
 use Rattle.nntp_facts.proofs.kept.Kept.deny.Goals as goal
 
 -- what more facts deny, if they deny this name

@@ -1,5 +1,4 @@
-use Rattle.std.{proofs.{Common.{arith}, lemmas.Bool.{true≢false, cases_Bool, or_left}}, specs.List.{list_any}}
-use Rattle.nntp_theory.{specs.Together.{denies_group}, proofs.Together.FactsOfASpoolStand.{same_itself}}
+use Rattle.nntp_facts.proofs.Base.{arith, true≢false, cases_Bool, or_left, list_any, denies_group, same_itself}
 use Rattle.nntp_facts.proofs.kept.Kept.first_denied.Goals as goal
 
 pub returns-then-not-may_be : goal.returns-then-not-may_be

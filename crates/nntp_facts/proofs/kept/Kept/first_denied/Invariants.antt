@@ -1,9 +1,5 @@
-use Rattle.std.specs.{Prelude.{IsTrue, IsFalse, List}, List.{AllByRecursion, list_any}}
-use Rattle.nntp_wire.specs.Listing.{active_groups}
-use Rattle.nntp_article.specs.Session.Spool.{Name}
-use Rattle.nntp_said.specs.Facts.{Fact}
-use Rattle.nntp_theory.specs.{Inner.Together.{Together}, Together.{denies_group}}
-use Rattle.nntp_facts.specs.Inner.{Kept.{IsKept}, ListedGroups.{is_listed}}
+use Rattle.nntp_facts.proofs.Base.{IsFalse, AllByRecursion, list_any, active_groups, Name, Fact, Together, denies_group, IsKept, is_listed}
+use Rattle.std.specs.Prelude.{IsTrue, List}
 use Rattle.nntp_facts.proofs.kept.Kept.first_denied.Given as goal
 
 -- what is left is listed, and no group before it is denied

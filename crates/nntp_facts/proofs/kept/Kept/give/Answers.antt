@@ -1,10 +1,6 @@
-use Rattle.std.{proofs.{Common.{◌≡◌, ℕ, true, false, [], Some, sym, ap, subst, ◌∙◌}, lemmas.Bool.{true≢false}}, specs.Prelude.{IsFalse, option_map}}
-use Rattle.std.specs.{List.{list_any}, Rc.{rc_str_bytes}}
-use Rattle.nntp_wire.specs.Inner.View.{overview_value}
-use Rattle.nntp_theory.{specs.{Given.{first_given, fields_in}, Together.{denies_article}, Inner.Together.{AreSame}}, proofs.OkResults.{on_ok}}
-use Rattle.nntp_article.specs.Article.Parts.{Id}
-use Rattle.nntp_facts.specs.Inner.{Articles.{telling}, Kept.{AreKept, AreKeptArticles, AreKeptWith, Agree, MayShow}, KeptSaying.{IsSaidAdded, IsSaidKept}}
-use Rattle.nntp_facts.{specs.Inner.{KeptSaying.{IsTextOf, said_alone}, ArticleView.{is_added}, SayingView.{id_at}}, proofs.Keeping.OverviewsJoin.{surely_added}}
+use Rattle.nntp_facts.proofs.Base.{◌≡◌, ℕ, true, false, [], Some, sym, ap, subst, ◌∙◌, true≢false, IsFalse, option_map, list_any, rc_str_bytes, overview_value}
+use Rattle.nntp_facts.proofs.Base.{first_given, fields_in, denies_article, AreSame, on_ok, Id, telling, AreKept, AreKeptArticles, AreKeptWith, Agree, MayShow}
+use Rattle.nntp_facts.proofs.{Base.{IsSaidAdded, IsSaidKept, IsTextOf, said_alone, is_added, id_at}, Keeping.OverviewsJoin.{surely_added}}
 use Rattle.nntp_facts.proofs.kept.Kept.give.Goals as goal
 
 pub returns-clause-kept : goal.returns-clause-kept

@@ -1,9 +1,5 @@
-use Rattle.std.{proofs.Common.{◌≡◌, true, List, map, take, drop}, specs.List.{AllByRecursion}}
-use Rattle.nntp_wire.specs.Inner.View.{overview_value}
-use Rattle.nntp_article.specs.{Inner.Fields.{TellsWords}, Session.Spool.{Name}}
-use Rattle.nntp_said.specs.Facts.{Fact}
-use Rattle.nntp_facts.specs.Inner.{Kept.{AreKept, AreKeptArticles, Told}, KeptSaying.{MayGive}, ListedOverviews.{HaveOwn}}
-use Rattle.nntp_facts.proofs.Keeping.OverviewsJoin.{AreGiven}
+use Rattle.nntp_facts.proofs.Base.{◌≡◌, true, List, map, take, drop, AllByRecursion, overview_value, TellsWords, Name, Fact, AreKept, AreKeptArticles, Told}
+use Rattle.nntp_facts.proofs.{Base.{MayGive, HaveOwn}, Keeping.OverviewsJoin.{AreGiven}}
 use Rattle.nntp_facts.proofs.kept.Kept.give_all.Given as goal
 
 -- the overviews so far are told and kept, and those that are left have words

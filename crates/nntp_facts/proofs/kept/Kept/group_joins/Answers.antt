@@ -1,27 +1,24 @@
-use Rattle.std.{proofs.Common.{◌≡◌, ◌++◌, Some, sym, ap, subst, ◌∙◌}, specs.Prelude.{◌↔◌, IfSome, IsTrue, option_map}}
+use Rattle.std.{proofs.Common.{◌≡◌, ◌++◌, Some, sym, ap, subst, ◌∙◌, arith}, specs.Prelude.{◌↔◌, IfSome, IsTrue, option_map}}
 use Rattle.nntp_facts.specs.Inner.{SayingView.{of_group}, Saying.{asked_id, facts_in}, Kept.{joins_at_all, IsKept, AreKeptGroups, told}}
 use Rattle.nntp_facts.{specs.Inner.KeptSaying.{GroupJoins}, proofs.Keeping.PartsJoin.{agree_told, shown_told, says_then, bounded_then, group_changes}}
-use Rattle.nntp_facts.proofs.Keeping.{PartsJoin.{groups_alike}, SaidAgain.{there_before, none_there}}
+use Rattle.nntp_facts.proofs.Keeping.{PartsJoin.{groups_alike}, SaidAgain.{there_before}}
 use Rattle.nntp_facts.proofs.kept.Kept.group_joins.Goals as goal
 
 pub returns-in-Some-clause-at_all : goal.returns-in-Some-clause-at_all
 returns-in-Some-clause-at_all g c facts s asks is kept together may =
-    let k = subst (IsKept facts) (sym c.self.view_is) kept in
     let part = of_group c.in-Some.group in
     let same : s.group ≡ Some part = is ∙ ap (option_map of_group) c.in-Some.is in
     subst (λ o. IsTrue (joins_at_all c.joins.result) ↔ IfSome o (GroupJoins facts asks)) (sym same)
-    (c.joins.ensures.at_all (told facts) (asks ++ asked_id part.id) k.groups (together.numbers part.name) (says_then facts s asks may part same) (bounded_then facts s asks may part same)
-    (agree_told facts together part.name part.id) (shown_told facts part.name part.id))
+    (c.joins.ensures.at_all (told facts) (asks ++ asked_id part.id) (subst (IsKept facts) (sym c.self.view_is) kept).groups (together.numbers part.name)
+    (says_then facts s asks may part same) (bounded_then facts s asks may part same) (agree_told facts together part.name part.id) (shown_told facts part.name part.id))
 
 pub returns-in-Some-clause-again : goal.returns-in-Some-clause-again
 returns-in-Some-clause-again g c again facts s asks is no_list kept together may =
-    let k = subst (IsKept facts) (sym c.self.view_is) kept in
     let part = of_group c.in-Some.group in
     let same : s.group ≡ Some part = is ∙ ap (option_map of_group) c.in-Some.is in
     subst (λ k. AreKeptGroups (facts ++ facts_in s asks) k.groups) c.self.view_is
-    (c.joins.ensures.again again (told facts) (asks ++ asked_id part.id) k.groups (says_then facts s asks may part same)
-    (agree_told facts together part.name part.id) (shown_told facts part.name part.id)
-    (told (facts ++ facts_in s asks)) (group_changes facts s asks no_list may part same))
+    (c.joins.ensures.again again (told facts) (asks ++ asked_id part.id) (subst (IsKept facts) (sym c.self.view_is) kept).groups (says_then facts s asks may part same)
+    (agree_told facts together part.name part.id) (shown_told facts part.name part.id) (told (facts ++ facts_in s asks)) (group_changes facts s asks no_list may part same))
 
 pub returns-in-Some-clause-there : goal.returns-in-Some-clause-there
 returns-in-Some-clause-there g c again facts s asks is kept may =
@@ -29,7 +26,7 @@ returns-in-Some-clause-there g c again facts s asks is kept may =
     (subst (IsKept facts) (sym c.self.view_is) kept).groups may (c.joins.ensures.said again)
 
 pub returns-in-None-clause-there : goal.returns-in-None-clause-there
-returns-in-None-clause-there g c again facts s asks is kept may = none_there facts s asks (is ∙ ap (option_map of_group) c.in-None.is) may
+returns-in-None-clause-there g c again facts s asks is kept may = let none = is ∙ ap (option_map of_group) c.in-None.is in grind arith
 
 pub returns-in-None-clause-again : goal.returns-in-None-clause-again
 returns-in-None-clause-again g c again facts s asks is no_list kept together may = groups_alike facts s asks no_list may (is ∙ ap (option_map of_group) c.in-None.is) c.args.self.now.groups kept.groups

@@ -1,5 +1,4 @@
-use Rattle.std.proofs.Common.{refl}
-use Rattle.nntp_facts.specs.Inner.SayingView.{saying_of}
+use Rattle.nntp_facts.proofs.Base.{refl, saying_of}
 use Rattle.nntp_facts.proofs.kept.Kept.groups_join.Goals as goal
 
 pub returns-then-may_be_missing-clause-again : goal.returns-then-may_be_missing-clause-again

@@ -1,6 +1,5 @@
-use Rattle.std.specs.{Prelude.{◌≡◌, if◌then◌else◌, false, Some, None}, Option.{option_map_or}, FinMap.{get}}
-use Rattle.nntp_wire.specs.Listing.{overviews_of}
-use Rattle.nntp_theory.specs.{Given.{first_given}, Conflict.{Article}}
+use Rattle.nntp_facts.proofs.Base.{option_map_or, get, overviews_of, first_given, Article}
+use Rattle.std.specs.Prelude.{◌≡◌, if◌then◌else◌, false, Some, None}
 use Rattle.nntp_facts.proofs.kept.Kept.lacked_listed_article.Given as goal
 
 -- the first of those that are left is the first of all

@@ -1,9 +1,6 @@
-use Rattle.std.{proofs.{Common.{◌≡◌, None, map, refl, sym, ap, subst, ◌∙◌}, lemmas.Bool.{true≢false}}, specs.List.{AllByRecursion}}
-use Rattle.nntp_wire.specs.Inner.View.{overview_value}
-use Rattle.nntp_theory.proofs.OkResults.{on_ok}
-use Rattle.nntp_facts.specs.Inner.{Kept.{Kept as KeptValue, IsKept, Told, told, Agree, MayShow, with_part}, KeptSaying.{IsTextOf, MayGive}}
-use Rattle.nntp_facts.{specs.Inner.SayingView.{of_group}, proofs.Keeping.OverviewsJoin.{asks, put, put_there, put_changes, asked_told, all_given}}
-use Rattle.nntp_facts.proofs.Keeping.OverviewsJoin.{overviews_kept}
+use Rattle.nntp_facts.proofs.Base.{◌≡◌, None, map, refl, sym, ap, subst, ◌∙◌, true≢false, AllByRecursion, overview_value, on_ok, IsKept, Told, told, Agree}
+use Rattle.nntp_facts.proofs.{Base.{MayShow, with_part, IsTextOf, MayGive, of_group}, Keeping.OverviewsJoin.{asks, put, put_there, put_changes, asked_told}}
+use Rattle.nntp_facts.{proofs.Keeping.OverviewsJoin.{all_given, overviews_kept}, specs.Inner.Kept.{Kept as KeptValue}}
 use Rattle.nntp_facts.proofs.kept.Kept.list_overviews.Goals as goal
 
 pub returns : goal.returns

@@ -7,8 +7,7 @@ not_is b d e = grind arith
 
 pub returns-then-is_shown : goal.returns-then-is_shown
 returns-then-is_shown g c facts kept t =
-    let k = subst (IsKept facts) (sym c.self.view_is) kept in
-    grind (arith, t.groups c.args.name.now, c.is_shown.ensures (told facts) k.groups, c.as_slice.ensures.value)
+    grind (arith, t.groups c.args.name.now, c.is_shown.ensures (told facts) (subst (IsKept facts) (sym c.self.view_is) kept).groups, c.as_slice.ensures.value)
 
 pub returns-else-is_shown : goal.returns-else-is_shown
 returns-else-is_shown g c facts kept t =

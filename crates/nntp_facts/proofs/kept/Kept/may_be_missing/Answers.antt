@@ -7,6 +7,4 @@ unless : (a b : Bool) → a ≡ b → IsTrue (not a) ↔ IsFalse b
 unless a b e = grind arith
 
 pub returns-in-Some : goal.returns-in-Some
-returns-in-Some g c facts kept =
-    let k = subst (IsKept facts) (sym c.self.view_is) kept in
-    grind (arith, unless, c.is_shown.ensures (told facts) k.groups)
+returns-in-Some g c facts kept = grind (arith, unless, c.is_shown.ensures (told facts) (subst (IsKept facts) (sym c.self.view_is) kept).groups)

@@ -1,8 +1,5 @@
-use Rattle.std.{proofs.{Common.{[], ◌∷◌, ◌++◌, sym, subst, ◌∙◌, arith}, lemmas.Bool.{not-true}}, specs.{Prelude.{IsFalse}, List.{list_any}}}
-use Rattle.nntp_wire.specs.{Listing.{ActiveValue}, Inner.View.{active_value}}
-use Rattle.nntp_said.specs.Asks.{Bounds}
-use Rattle.nntp_theory.specs.{Given.{asks_of}, Inner.Together.{AsksStand}, Together.{denies_group}}
-use Rattle.nntp_facts.{specs.Inner.Kept.{IsKept, told, Agree, IsShownAt}, proofs.kept.Kept.may_bound.Goals.{then-is_shown, else-is_shown}}
+use Rattle.nntp_facts.proofs.Base.{[], ◌∷◌, ◌++◌, sym, subst, ◌∙◌, arith, not-true, IsFalse, list_any, ActiveValue, active_value, Bounds, asks_of, AsksStand}
+use Rattle.nntp_facts.proofs.{Base.{denies_group, IsKept, told, Agree, IsShownAt}, kept.Kept.may_bound.Goals.{then-is_shown, else-is_shown}}
 use Rattle.nntp_facts.proofs.kept.Kept.may_bound.Goals as goal
 
 pub returns-then-not-denies : goal.returns-then-not-denies
@@ -17,7 +14,6 @@ returns-then-not-denies g c facts kept t same =
     let none = c.of_bounds.ensures.id in
     let joins = c.joins.ensures.at_all (told facts) (Bounds line.low line.high ∷ []) k.groups
     (t.numbers part.name.now) c.of_bounds.ensures.numbers (λ _. c.of_bounds.ensures.bounded)
-    (subst (Agree (told facts part.name.now).ids (told facts part.name.now).places) (sym none) tt)
-    (subst (IsShownAt (told facts part.name.now)) (sym none) tt) in
+    (subst (Agree (told facts part.name.now).ids (told facts part.name.now).places) (sym none) tt) (subst (IsShownAt (told facts part.name.now)) (sym none) tt) in
     let stands = subst (λ name. AsksStand (asks_of name facts ++ Bounds line.low line.high ∷ [])) c.of_bounds.ensures.name in
     let back = subst (λ name. AsksStand (asks_of name facts ++ Bounds line.low line.high ∷ [])) (sym c.of_bounds.ensures.name) in grind arith

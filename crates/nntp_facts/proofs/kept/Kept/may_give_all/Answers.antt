@@ -1,7 +1,4 @@
-use Rattle.std.proofs.{Common.{arith}, lemmas.Bool.{true≢false}}
-use Rattle.nntp_wire.specs.Inner.View.{overview_value}
-use Rattle.nntp_article.proofs.SessionLemmas.LinesLeft.{next_left, none_left}
-use Rattle.nntp_facts.{specs.Inner.Kept.{told}, proofs.Keeping.OverviewsJoin.{gives_joins}}
+use Rattle.nntp_facts.proofs.{Base.{arith, true≢false, overview_value, next_left, none_left, told}, Keeping.OverviewsJoin.{gives_joins}}
 use Rattle.nntp_facts.proofs.kept.Kept.may_give_all.Goals as goal
 
 pub returns-then-not-may_give : goal.returns-then-not-may_give

@@ -1,7 +1,4 @@
-use Rattle.std.{proofs.Common.{List, map, drop}, specs.{Prelude.{◌↔◌}, List.{AllByRecursion}}}
-use Rattle.nntp_wire.specs.Inner.View.{overview_value}
-use Rattle.nntp_said.specs.Facts.{Fact}
-use Rattle.nntp_facts.specs.Inner.{Kept.{IsKept}, ListedOverviews.{OverviewJoins}}
+use Rattle.nntp_facts.proofs.Base.{List, map, drop, ◌↔◌, AllByRecursion, overview_value, Fact, IsKept, OverviewJoins}
 use Rattle.nntp_facts.proofs.kept.Kept.may_give_all.Given as goal
 
 -- all overviews join if those do that are left

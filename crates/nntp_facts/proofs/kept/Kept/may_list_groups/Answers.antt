@@ -1,6 +1,5 @@
-use Rattle.std.proofs.{Common.{map, arith}, lemmas.Bool.{true≢false, Decides.{Decides-eqb}}}
-use Rattle.nntp_wire.specs.Inner.View.{active_value}
-use Rattle.nntp_facts.proofs.Keeping.{ListedGroups.{listing_joins}, CountedGroups.{as_many_shown}}
+use Rattle.nntp_facts.proofs.{Base.{map, arith, true≢false, active_value}, Keeping.{ListedGroups.{listing_joins}, CountedGroups.{as_many_shown}}}
+use Rattle.std.proofs.lemmas.Bool.Decides.{Decides-eqb}
 use Rattle.nntp_facts.proofs.kept.Kept.may_list_groups.Goals as goal
 
 pub returns-in-Some : goal.returns-in-Some

@@ -1,5 +1,4 @@
-use Rattle.std.proofs.Common.{sym, subst}
-use Rattle.nntp_facts.specs.Inner.Kept.{AreKeptArticles}
+use Rattle.nntp_facts.proofs.Base.{sym, subst, AreKeptArticles}
 use Rattle.nntp_facts.proofs.kept.Kept.mentions.Goals as goal
 
 pub returns : goal.returns

@@ -1,5 +1,4 @@
-use Rattle.std.proofs.{Common.{arith}, lemmas.Result.{IfOk-weaker}}
-use Rattle.nntp_facts.{specs.Inner.SayingView.{of_group, saying_of}, proofs.Keeping.NotedParts.{list_added, lists_none, overviews_added}}
+use Rattle.nntp_facts.proofs.{Base.{arith, IfOk-weaker, of_group, saying_of}, Keeping.NotedParts.{list_added, lists_none, overviews_added}}
 use Rattle.nntp_facts.proofs.kept.Kept.note.Goals as goal
 
 pub returns-in-None-None : goal.returns-in-None-None

@@ -1,9 +1,8 @@
-use Rattle.std.proofs.{Common.{true, not, ap, subst, sym, ◌∙◌}, lemmas.Result.{IfOk-weaker}}
+use Rattle.nntp_facts.proofs.Base.{true, not, ap, subst, sym, ◌∙◌, IfOk-weaker, Lists, facts_of, AreAdded, AreListed, nothing, saying_by}
+use Rattle.nntp_facts.proofs.Keeping.{FactsSaid.{no_first, none_added}, SayingRows.{lists_said, told_here}}
 use Rattle.nntp_wire.specs.Inner.{View.{asked}, AnswerView.{response}}
-use Rattle.nntp_article.specs.Inner.Listed.{Lists, lists}
-use Rattle.nntp_said.specs.{Facts.{facts_of}, Inner.FactView.{fact_of}}
-use Rattle.nntp_facts.{specs.Inner.{Kept.{AreAdded}, Saying.{AreListed, nothing, saying_by}}, proofs.Keeping.FactsSaid.{no_first, none_added}}
-use Rattle.nntp_facts.proofs.Keeping.SayingRows.{lists_said, told_here}
+use Rattle.nntp_article.specs.Inner.Listed.{lists}
+use Rattle.nntp_said.specs.Inner.FactView.{fact_of}
 use Rattle.nntp_facts.proofs.kept.Kept.note_answer.Goals as goal
 
 pub returns-then-is_none : goal.returns-then-is_none

@@ -1,8 +1,5 @@
-use Rattle.std.{proofs.Common.{arith, ◌≡◌, true, Some, sym, subst, ◌∙◌}, specs.Prelude.{IfSome, option_map}}
-use Rattle.nntp_theory.{specs.Inner.Together.{said_of}, proofs.OkResults.{if_ok}}
-use Rattle.nntp_facts.specs.Inner.{SayingView.{article_said}, ArticleView.{is_added}, Kept.{AreKeptArticles}, KeptSaying.{MayBeSaid, IsThereAlready}}
-use Rattle.nntp_facts.{specs.{Inner.KeptSaying.{IsArticleAdded}, declared.joins.Joins.TheVariants.{Again}}, proofs.Keeping.SaidOfArticles.{nothing_more}}
-use Rattle.nntp_facts.proofs.Keeping.SaidOfArticles.{nothing_joins}
+use Rattle.nntp_facts.proofs.Base.{arith, ◌≡◌, true, Some, sym, subst, ◌∙◌, IfSome, option_map, said_of, if_ok, article_said, is_added, AreKeptArticles}
+use Rattle.nntp_facts.proofs.{Base.{MayBeSaid, IsThereAlready, IsArticleAdded, Again}, Keeping.SaidOfArticles.{nothing_more, nothing_joins}}
 use Rattle.nntp_facts.proofs.kept.Kept.note_article.Goals as goal
 
 pub returns-in-Some-clause-added : goal.returns-in-Some-clause-added

@@ -1,6 +1,5 @@
-use Rattle.std.proofs.Common.{[], sym, subst}
-use Rattle.nntp_theory.{specs.Conflict.{a_group}, proofs.OkResults.{if_ok}}
-use Rattle.nntp_facts.{specs.Inner.{Saying.{AreListed}, SayingView.{saying_of}}, proofs.Keeping.ToldAnswers.{widest_told}}
+use Rattle.nntp_facts.proofs.{Base.{[], sym, subst, if_ok, AreListed, saying_of, Lenient, widest, refl}, Keeping.SayingRows.{tells_marks}}
+use Rattle.nntp_theory.specs.Conflict.{a_group}
 use Rattle.nntp_facts.proofs.kept.Kept.note_group.Goals as goal
 
 pub returns : goal.returns
@@ -9,4 +8,5 @@ returns g c = if_ok c.note.result (λ does adds profile facts limit kept togethe
     let says = c.of_widest-numbers.ensures in
     adds (subst (λ s. AreListed s (record { numbers = []; groups = []; overviews = [] })) (sym c.selects.ensures.says) (tt, tt))
     facts (a_group profile name) kept together (c.selects.ensures.is_name, (tt, tt))
-    (widest_told profile facts name _ (saying_of c.selects.result) (says.says profile limit) (says.bounded profile limit) c.selects.ensures.says)) c.note.ensures
+    (tells_marks {selected = name} facts name _ Lenient (widest profile) (saying_of c.selects.result) (a_group profile name) (says.says profile limit) (says.bounded profile limit)
+    c.selects.ensures.says refl).tells) c.note.ensures

@@ -1,6 +1,4 @@
-use Rattle.std.{proofs.Common.{rules, None, Some, refl, ap}, specs.Prelude.{option_map}}
-use Rattle.nntp_wire.specs.Listing.{overviews_of}
-use Rattle.nntp_facts.specs.Inner.{Saying.{Lacks, Exists, Describes}, SayingView.{article_said}, PointView.{point_of}, StatementView.{statement_of}}
+use Rattle.nntp_facts.proofs.Base.{rules, None, Some, refl, ap, option_map, overviews_of, Lacks, Exists, Describes, article_said, point_of, statement_of}
 use Rattle.nntp_facts.proofs.PointsFound.ArticlesBeside.{Body, no_part, part_point}
 use Rattle.nntp_facts.proofs.kept.Kept.other_body.Goals as goal
 
@@ -24,7 +22,5 @@ returns-in-Some-Describes g c profile facts more h =
 pub returns-in-Some-Sends : goal.returns-in-Some-Sends
 returns-in-Some-Sends g c profile facts more h =
     let w = c.in-Some-Sends in
-    let id = w.id.now in
-    let lines = option_map (λ b. b.now) w.block in
-    part_point profile facts c.args.self.now (statement_of c.args.told.now) more h Body id w.what lines (search rules) c.of.result.body (c.of.ensures.body id)
+    part_point profile facts c.args.self.now (statement_of c.args.told.now) more h Body w.id.now w.what (option_map (λ b. b.now) w.block) (search rules) c.of.result.body (c.of.ensures.body w.id.now)
     (option_map point_of c.other_body_sent.result) (c.other_body_sent.ensures facts h.kept)

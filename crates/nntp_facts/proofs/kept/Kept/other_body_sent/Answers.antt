@@ -1,5 +1,4 @@
-use Rattle.std.proofs.Common.{sym, subst, arith}
-use Rattle.nntp_facts.specs.Inner.Kept.{IsKept}
+use Rattle.nntp_facts.proofs.Base.{sym, subst, arith, IsKept}
 use Rattle.nntp_facts.proofs.kept.Kept.other_body_sent.Goals as goal
 
 pub returns-then-may_have_body : goal.returns-then-may_have_body

@@ -1,6 +1,4 @@
-use Rattle.std.{proofs.Common.{rules, None, refl, ap}, specs.Prelude.{option_map}}
-use Rattle.nntp_wire.specs.Listing.{overviews_of}
-use Rattle.nntp_facts.specs.Inner.{Saying.{Lacks, Exists}, SayingView.{article_said, overviews_said}, PointView.{point_of}, StatementView.{statement_of}}
+use Rattle.nntp_facts.proofs.Base.{rules, None, refl, ap, option_map, overviews_of, Lacks, Exists, article_said, overviews_said, point_of, statement_of}
 use Rattle.nntp_facts.proofs.PointsFound.FieldsBeside.{listed_field, no_field, field_point, head_point, overview_point}
 use Rattle.nntp_facts.proofs.kept.Kept.other_field.Goals as goal
 
@@ -24,13 +22,10 @@ returns-in-Some-Exists g c profile facts more h =
 pub returns-in-Some-Sends : goal.returns-in-Some-Sends
 returns-in-Some-Sends g c profile facts more h =
     let w = c.in-Some-Sends in
-    let id = w.id.now in
-    let lines = option_map (λ b. b.now) w.block in
-    head_point profile facts c.args.self.now (statement_of c.args.told.now) more h id w.what lines (search rules) c.of.result.head (c.of.ensures.head id)
+    head_point profile facts c.args.self.now (statement_of c.args.told.now) more h w.id.now w.what (option_map (λ b. b.now) w.block) (search rules) c.of.result.head (c.of.ensures.head w.id.now)
     (option_map point_of c.other_field_sent.result) c.other_field_sent.ensures
 
 pub returns-in-Some-Describes : goal.returns-in-Some-Describes
 returns-in-Some-Describes g c profile facts more h =
-    let w = c.in-Some-Describes in
-    overview_point profile facts c.args.self.now (statement_of c.args.told.now) more h w.field-0-0.now (overviews_of w.block.now) (search rules)
+    overview_point profile facts c.args.self.now (statement_of c.args.told.now) more h c.in-Some-Describes.field-0-0.now (overviews_of c.in-Some-Describes.block.now) (search rules)
     (option_map point_of c.other_listed_field-in-Some-Describes.result) c.other_listed_field-in-Some-Describes.ensures

@@ -1,5 +1,4 @@
-use Rattle.std.proofs.Common.{arith}
-use Rattle.nntp_facts.proofs.PointsFound.FieldsBeside.{past_found, at_found}
+use Rattle.nntp_facts.proofs.{Base.{arith}, PointsFound.FieldsBeside.{past_found, at_found}}
 use Rattle.nntp_facts.proofs.kept.Kept.other_listed_field.Goals as goal
 
 pub returns-then-is_some : goal.returns-then-is_some

@@ -1,8 +1,5 @@
+use Rattle.nntp_facts.{proofs.Base.{overviews_of, Name, first_given, AreKept, Told}, specs.Inner.Points.{other_id_at}}
 use Rattle.std.specs.Prelude.{◌≡◌}
-use Rattle.nntp_wire.specs.Listing.{overviews_of}
-use Rattle.nntp_article.specs.Session.Spool.{Name}
-use Rattle.nntp_theory.specs.Given.{first_given}
-use Rattle.nntp_facts.specs.Inner.{Kept.{AreKept, Told}, Points.{other_id_at}}
 use Rattle.nntp_facts.proofs.kept.Kept.other_listed_id.Given as goal
 
 -- the first of those that are left is the first of all

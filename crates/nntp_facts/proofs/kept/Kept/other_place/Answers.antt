@@ -1,6 +1,4 @@
-use Rattle.std.{proofs.Common.{ap, sym, ◌∙◌, None, Some, refl}, specs.Prelude.{option_map}}
-use Rattle.nntp_theory.proofs.Together.TwoListsOfFacts.{or_none}
-use Rattle.nntp_facts.specs.Inner.{Kept.{told}, PointView.{point_of}, SayingView.{of_group, id_at, overviews_said}, StatementView.{statement_of}}
+use Rattle.nntp_facts.proofs.Base.{ap, sym, ◌∙◌, None, Some, refl, option_map, or_none, told, point_of, of_group, id_at, overviews_said, statement_of}
 use Rattle.nntp_facts.proofs.PointsFound.IdsBeside.{no_places, place_point, listed_place_point}
 use Rattle.nntp_facts.proofs.kept.Kept.other_place.Goals as goal
 

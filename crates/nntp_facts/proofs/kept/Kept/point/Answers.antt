@@ -1,6 +1,4 @@
-use Rattle.std.{proofs.Common.{◌++◌, sym, subst, arith}, specs.Prelude.{option_map}}
-use Rattle.nntp_facts.specs.Inner.{PointView.{point_of}, Points.{IsPointOf, NoneBefore}, StatementView.{rank_of}}
-use Rattle.nntp_theory.proofs.OkResults.{if_ok}
+use Rattle.nntp_facts.{proofs.Base.{◌++◌, sym, subst, arith, option_map, if_ok, point_of, IsPointOf, NoneBefore}, specs.Inner.StatementView.{rank_of}}
 use Rattle.nntp_facts.proofs.kept.Kept.point.Goals as goal
 
 pub returns-in-Step : goal.returns-in-Step

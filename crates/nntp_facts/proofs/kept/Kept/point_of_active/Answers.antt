@@ -1,7 +1,5 @@
-use Rattle.std.{proofs.Common.{◌++◌, ap, ◌∙◌}, specs.Prelude.{option_map}}
-use Rattle.nntp_facts.specs.Inner.{SayingView.{active_said}, PointView.{point_of}, StatementView.{rank_of_numbers}}
-use Rattle.nntp_facts.proofs.PointsFound.{KindsOfPoints.{listed_point, no_numbers_free}, NumbersBeside.{above_one, below_five}}
-use Rattle.nntp_theory.proofs.OkResults.{if_ok}
+use Rattle.nntp_facts.proofs.{Base.{◌++◌, ap, ◌∙◌, option_map, if_ok, active_said, point_of, rank_of_numbers}, PointsFound.KindsOfPoints.{listed_point}}
+use Rattle.nntp_facts.proofs.PointsFound.{KindsOfPoints.{no_numbers_free}, NumbersBeside.{above_one, below_five}}
 use Rattle.nntp_facts.proofs.kept.Kept.point_of_active.Goals as goal
 
 pub returns-in-Some : goal.returns-in-Some

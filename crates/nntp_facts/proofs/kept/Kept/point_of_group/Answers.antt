@@ -1,16 +1,12 @@
-use Rattle.std.proofs.Common.{◌++◌, ◌∷◌, [], sym, subst, append_assoc, arith}
-use Rattle.nntp_wire.specs.declared.marks.Marks.TheVariants.{Lenient}
-use Rattle.nntp_said.specs.Asks.{Estimates}
-use Rattle.nntp_theory.specs.{Given.{asks_of}, Conflict.{widest}}
-use Rattle.nntp_facts.{specs.Inner.Kept.{IsKept, told}, proofs.PointsFound.NumbersBeside.{bounded_behind, bounded_widest}}
+use Rattle.nntp_facts.proofs.Base.{◌++◌, ◌∷◌, [], sym, subst, append_assoc, arith, Lenient, Estimates, asks_of, widest, IsKept, told}
+use Rattle.nntp_facts.proofs.PointsFound.NumbersBeside.{bounded_behind, bounded_widest}
 use Rattle.nntp_facts.proofs.kept.Kept.point_of_group.Goals as goal
 
 pub returns : goal.returns
 returns g c profile facts all asks limit kept says whole before =
-    let k = subst (IsKept facts) (sym c.self.view_is) kept in
     let name = c.args.group.now.name.now in
     let wide = Estimates Lenient (widest profile) ∷ [] in
-    let start = c.in_ok-numbers.ensures (told facts) k.groups in
+    let start = c.in_ok-numbers.ensures (told facts) (subst (IsKept facts) (sym c.self.view_is) kept).groups in
     let middle = c.in_ok-add.ensures (asks_of name facts) wide start (c.of_widest.ensures.says profile limit) in
     let summary = c.in_ok-add-2.ensures (asks_of name facts ++ wide) asks middle says in
     grind (arith, bounded_widest, append_assoc, bounded_behind (asks_of name facts) (wide ++ asks) (bounded_widest profile c.args.limit asks limit))

@@ -1,8 +1,6 @@
-use Rattle.std.{proofs.Common.{◌≡◌, ◌++◌, ◌∷◌, [], List}, specs.List.{AllByRecursion}}
-use Rattle.nntp_wire.specs.Listing.{active_groups}
-use Rattle.nntp_said.specs.{Asks.{Bounds}, Facts.{Fact}}
-use Rattle.nntp_theory.specs.{Given.{asks_of}, Conflict.{Point, rank, ConflictAt}}
-use Rattle.nntp_facts.specs.Inner.{Kept.{IsKept}, Points.{IsAbout, NoneBefore}, StatementView.{rank_of_numbers}}
+use Rattle.nntp_facts.proofs.Base.{◌≡◌, ◌++◌, ◌∷◌, [], List, AllByRecursion, active_groups, Bounds, Fact, asks_of, Point, IsKept, NoneBefore, rank_of_numbers}
+use Rattle.nntp_facts.specs.Inner.Points.{IsAbout}
+use Rattle.nntp_theory.specs.Conflict.{rank, ConflictAt}
 use Rattle.nntp_facts.proofs.kept.Kept.point_of_listed.Given as goal
 
 -- what is left are bounds of the groups that are listed, and of those before it none is a point

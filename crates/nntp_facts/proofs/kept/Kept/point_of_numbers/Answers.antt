@@ -1,7 +1,5 @@
-use Rattle.std.{proofs.Common.{◌++◌, ap, refl}, specs.Prelude.{option_map}}
-use Rattle.nntp_facts.specs.Inner.{SayingView.{of_group}, PointView.{point_of}, StatementView.{statement_of, rank_of_numbers}}
+use Rattle.nntp_facts.proofs.Base.{◌++◌, ap, refl, option_map, if_ok, of_group, point_of, statement_of, rank_of_numbers}
 use Rattle.nntp_facts.proofs.PointsFound.{KindsOfPoints.{group_point}, NumbersBeside.{above_one, below_five}}
-use Rattle.nntp_theory.proofs.OkResults.{if_ok}
 use Rattle.nntp_facts.proofs.kept.Kept.point_of_numbers.Goals as goal
 
 pub returns-in-Some : goal.returns-in-Some

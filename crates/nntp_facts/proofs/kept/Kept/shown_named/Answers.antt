@@ -1,7 +1,5 @@
-use Rattle.std.{proofs.{Common.{◌≡◌, sym, subst, ◌∙◌, arith}, lemmas.Bool.{cases_Bool}}, specs.Prelude.{MatchOption, SomeIff, IsTrue, IsFalse}}
-use Rattle.nntp_wire.specs.Name.{IsGroupName}
-use Rattle.nntp_theory.{specs.Given.{is_shown_group}, proofs.Given.ShownNames.{shown_named}}
-use Rattle.nntp_facts.specs.Inner.Kept.{IsKept, told}
+use Rattle.nntp_facts.proofs.Base.{◌≡◌, sym, subst, ◌∙◌, arith, cases_Bool, IsFalse, IsGroupName, is_shown_group, shown_named, IsKept, told}
+use Rattle.std.specs.Prelude.{MatchOption, SomeIff, IsTrue}
 use Rattle.nntp_facts.proofs.kept.Kept.shown_named.Goals as goal
 
 pub returns-in_err-group : goal.returns-in_err-group
@@ -13,10 +11,7 @@ returns-in_err-group g c facts kept together =
 pub returns-then-is_shown : goal.returns-then-is_shown
 returns-then-is_shown g c facts kept together =
     let name = c.args.name.now in
-    let k = subst (IsKept facts) (sym c.self.view_is) kept in
-    grind (arith, c.is_shown.ensures (told facts) k.groups, subst (λ o. SomeIff o (IsGroupName name) name) c.in_ok-group.was c.parse.ensures)
+    grind (arith, c.is_shown.ensures (told facts) (subst (IsKept facts) (sym c.self.view_is) kept).groups, subst (λ o. SomeIff o (IsGroupName name) name) c.in_ok-group.was c.parse.ensures)
 
 pub returns-else-is_shown : goal.returns-else-is_shown
-returns-else-is_shown g c facts kept together =
-    let k = subst (IsKept facts) (sym c.self.view_is) kept in
-    sym (c.is_shown.ensures (told facts) k.groups) ∙ c.if-is_shown.false
+returns-else-is_shown g c facts kept together = sym (c.is_shown.ensures (told facts) (subst (IsKept facts) (sym c.self.view_is) kept).groups) ∙ c.if-is_shown.false

@@ -1,9 +1,5 @@
-use Rattle.std.proofs.Common.{ap, sym, subst, ◌∙◌, refl}
-use Rattle.nntp_article.specs.{Session.{Limit.{profile_of}, Machine.{start}}, Inner.Listed.{Lists}}
-use Rattle.nntp_said.specs.Facts.{group_of}
-use Rattle.nntp_theory.{specs.Conflict.{said, the_group}, proofs.OkResults.{if_ok}}
-use Rattle.nntp_facts.specs.{Inner.{Kept.{AreAdded}, Saying.{TellsThere}, SayingView.{saying_of}}, Standing.{stands_of}}
-use Rattle.nntp_facts.proofs.Keeping.ToldAnswers.{there_told, group_refused, answer_told}
+use Rattle.nntp_facts.proofs.Base.{ap, sym, subst, ◌∙◌, refl, profile_of, start, Lists, group_of, said, the_group, if_ok, AreAdded, TellsThere, saying_of}
+use Rattle.nntp_facts.proofs.{Base.{stands_of}, Keeping.ToldAnswers.{there_told, group_refused, answer_told}}
 use Rattle.nntp_facts.proofs.kept.Kept.tell.Goals as goal
 
 pub returns-then-not-branch : goal.returns-then-not-branch
@@ -15,9 +11,7 @@ returns-then-not-branch g c facts kept together fit =
     let there = there_told profile a _ _ _ _ _ saying fit c.prompt.ensures c.answer-response.ensures.value c.position.ensures
     c.selected_name.ensures.value (c.numbers.ensures ∙ ap (λ (l : Lists). l.numbers) c.in_ok-listed.ensures) c.of-saying.ensures.tells in
     let group = c.in_ok-tell_group.ensures profile facts own refl kept together (subst (λ o. TellsThere o saying own) (sym c.selected.ensures) there) in
-    group_refused profile a facts together c.tell_group.new.self
-    (subst (λ does. AreAdded facts (the_group profile (group_of own)) c.args.self.now c.tell_group.new.self does)
-    c.if-not-branch.true group).0
+    group_refused profile a facts together c.tell_group.new.self (subst (AreAdded facts (the_group profile (group_of own)) _ _) c.if-not-branch.true group).0
 
 pub returns : goal.returns
 returns g c = if_ok c.note.result (λ does adds facts kept together fit.

@@ -1,8 +1,6 @@
-use Rattle.std.proofs.{Common.{◌≡◌, ◌<◌, ◌≤◌, ◌∙◌, length, map, Some, sym, ap, rules}, lemmas.Option.{slice_get-get_or, slice_get-map, slice_get_past}}
-use Rattle.std.specs.{Prelude.{slice_get}, Option.{option_map}}
-use Rattle.nntp_article.specs.Session.Limit.{profile_of}
-use Rattle.nntp_theory.{specs.Conflict.{told_with}, proofs.OkResults.{if_ok}}
-use Rattle.nntp_facts.{specs.Standing.{stands_of}, proofs.Keeping.ToldAnswers.{place_told, nothing_told, fits_at}}
+use Rattle.nntp_facts.proofs.Base.{◌≡◌, ◌<◌, ◌≤◌, ◌∙◌, length, map, Some, sym, ap, rules, slice_get, profile_of, told_with, if_ok, stands_of}
+use Rattle.nntp_facts.proofs.Keeping.ToldAnswers.{place_told, nothing_told, fits_at}
+use Rattle.std.{proofs.lemmas.Option.{slice_get-get_or, slice_get-map, slice_get_past}, specs.Option.{option_map}}
 use Rattle.nntp_facts.proofs.kept.Kept.tell_at.Goals as goal
 
 pub returns-in-Some : goal.returns-in-Some

@@ -1,6 +1,4 @@
-use Rattle.nntp_theory.proofs.OkResults.{if_ok}
-use Rattle.nntp_facts.proofs.Keeping.FactsSaid.{none_added}
-use Rattle.std.proofs.Common.{arith}
+use Rattle.nntp_facts.proofs.{Base.{if_ok, arith}, Keeping.FactsSaid.{none_added}}
 use Rattle.nntp_facts.proofs.kept.Kept.tell_group.Goals as goal
 
 pub returns-in-Some : goal.returns-in-Some

@@ -1,9 +1,9 @@
-use Rattle.std.proofs.Common.{rules, ◌≡◌, ◌<◌, ◌^◌, ◌++◌, ◌∷◌, [], length, map, Some, sym, ap, subst, ◌∙◌, arith, length-append}
+use Rattle.std.proofs.Common.{rules, refl, ◌≡◌, ◌<◌, ◌^◌, ◌++◌, ◌∷◌, [], length, map, Some, sym, ap, subst, ◌∙◌, arith, length-append}
 use Rattle.std.proofs.lemmas.{Option.{slice_get-get_or}, List.{length-map, get_or-map}}
 use Rattle.nntp_article.specs.Session.Limit.{profile_of}
-use Rattle.nntp_facts.specs.{Inner.{Kept.{IsKept}, Points.{Answers, AreHeld}, StatementView.{held_of}, Told.{AreToldWith}}, Standing.{stands_of}}
-use Rattle.nntp_facts.proofs.Keeping.HeldAnswers.{no_places, core_conflicts, held_alone, held_behind, last_there, others_stand, told_front}
-use Rattle.nntp_theory.{specs.Conflict.{SomeHas, places_of, told_with}, proofs.OkResults.{if_two}}
+use Rattle.nntp_facts.{specs.{Inner.Points.{AreHeld}, Standing.{stands_of}}, proofs.Keeping.HeldAnswers.{no_places, core_conflicts, held_alone, held_behind}}
+use Rattle.nntp_facts.proofs.Keeping.HeldAnswers.{last_there, others_stand, told_front}
+use Rattle.nntp_theory.{specs.Conflict.{places_of, told_with}, proofs.OkResults.{if_two}}
 use Rattle.nntp_facts.proofs.points.Conflict.of.Goals as goal
 
 pub returns-in_default : goal.returns-in_default
@@ -16,10 +16,8 @@ returns-in_default g c =
     let places : places_of core ≡ [] = sym (c.deref.ensures.value ∙ c.in_ok-places.ensures) ∙ no_places c.deref.result.now empty in
     if_two c.with_last.result
     (λ conflict is few fits found last.
-    let held = held_of conflict in
-    subst (λ places. AreHeld profile (told_with profile bad answers places) held) (sym places)
-    (held_alone profile bad answers fits (subst (λ places. SomeHas profile (told_with profile bad answers places) → ⊥) places (core_conflicts profile bad answers core found))
-    few held (ap (λ (h : Answers). h.profile) is) (subst (IsKept []) (sym (ap (λ (h : Answers). h.kept) is)) c.new-kept.ensures) (ap (λ (h : Answers). h.last) is)))
+    subst (AreHeld profile (told_with profile bad answers (places_of core))) (sym is)
+    (rw places (held_alone profile bad answers fits (rw places at (core_conflicts profile bad answers core found)) few _ refl c.new-kept.ensures refl)))
     c.with_last.ensures.held c.with_last.ensures.few
 
 pub returns : goal.returns
@@ -30,23 +28,17 @@ returns g c =
     let core = c.args.core.now in
     let front = c.in-Some.others.now in
     let k = c.in-Some.place.now in
-    let last-answer = stands_of c.answer_or-last.result.now in
     let ends : c.deref.result.now ≡ front ++ k ∷ [] = search rules in
     let parts : places_of core ≡ front ++ k ∷ [] = sym (c.deref.ensures.value ∙ c.in_ok-places.ensures) ∙ ends in
     let small : length c.in_ok-places.places.items < 2 ^ 64 = search rules in
-    let same = ap length (sym c.deref.ensures.value ∙ ends) in
-    let count = length-append front (k ∷ []) in
-    let fewer : length front < 2 ^ 66 = omega (arith, small, same, count) in
+    let fewer : length front < 2 ^ 66 = omega (arith, small, ap length (sym c.deref.ensures.value ∙ ends), length-append front (k ∷ [])) in
     if_two c.with_last-2.result
     (λ conflict is few fits found last.
-    let held = held_of conflict in
     let there = last_there profile bad answers core front k found last parts in
     let within = subst (λ n. k < n) (length-map c.args.answers.now stands_of) there in
     let here = slice_get-get_or answers k bad there ∙ ap (λ a. Some a) (get_or-map stands_of c.args.answers.now k c.args.bad.now bad within ∙ ap stands_of (sym c.answer_or-last.ensures)) in
     let told = told_front profile bad answers front c.tell_all.new.kept c.in_ok-tell_all.field-0 (others_stand profile bad answers core front k found last parts)
     (c.in_ok-tell_all.ensures c.new-kept.ensures fits) in
-    subst (λ places. AreHeld profile (told_with profile bad answers places) held) (sym parts)
-    (held_behind profile bad answers fits front k (subst (λ places. SomeHas profile (told_with profile bad answers places) → ⊥) parts (core_conflicts profile bad answers core found))
-    last-answer here few fewer held (ap (λ (h : Answers). h.profile) is) (subst (AreToldWith profile bad answers front) (sym (ap (λ (h : Answers). h.kept) is)) told)
-    (ap (λ (h : Answers). h.last) is)))
+    subst (AreHeld profile (told_with profile bad answers (places_of core))) (sym is)
+    (rw parts (held_behind profile bad answers fits front k (rw parts at (core_conflicts profile bad answers core found)) (stands_of c.answer_or-last.result.now) here few fewer _ refl told refl)))
     c.with_last-2.ensures.held c.with_last-2.ensures.few

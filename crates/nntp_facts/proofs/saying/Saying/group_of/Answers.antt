@@ -1,9 +1,9 @@
-use Rattle.std.{proofs.Common.{sym, ap}, specs.Prelude.{option_map}}
+use Rattle.std.{proofs.Common.{ap, arith}, specs.Prelude.{option_map}}
 use Rattle.nntp_facts.{specs.Inner.SayingView.{saying_of, of_group}, proofs.Keeping.ToldAnswers.{group_said, none_said, selected_spoken}}
 use Rattle.nntp_facts.proofs.saying.Saying.group_of.Goals as goal
 
 pub returns-in-Some-default : goal.returns-in-Some-default
-returns-in-Some-default c facts tells = sym (group_said _ (saying_of c.args.self.now) facts tells _ (ap (option_map (λ name. name.now)) c.in-Some-default.is-0))
+returns-in-Some-default c facts tells = grind (arith, group_said _ (saying_of c.args.self.now) facts tells, c.in-Some-default.is-0)
 
 pub returns-in-None-Some : goal.returns-in-None-Some
 returns-in-None-Some c facts tells =
@@ -11,4 +11,4 @@ returns-in-None-Some c facts tells =
     (option_map of_group) c.in-None-Some.is-1)
 
 pub returns-in-None-None : goal.returns-in-None-None
-returns-in-None-None c facts tells = sym (none_said _ (saying_of c.args.self.now) facts tells (ap (option_map of_group) c.in-None-None.is-1))
+returns-in-None-None c facts tells = grind (arith, none_said _ (saying_of c.args.self.now) facts tells, c.in-None-None.is-1)

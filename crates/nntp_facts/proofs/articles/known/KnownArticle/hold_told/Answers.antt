@@ -1,5 +1,4 @@
-use Rattle.std.proofs.Common.{◌≡◌, None, arith}
-use Rattle.nntp_facts.{specs.Inner.ArticleView.{known_article}, proofs.Keeping.NamedArticles.{not_denied}}
+use Rattle.nntp_facts.proofs.{Base.{◌≡◌, None, arith, known_article}, Keeping.KeptIds.{not_denied}}
 use Rattle.nntp_facts.proofs.articles.known.KnownArticle.hold_told.Goals as goal
 
 pub returns-then-is_none : goal.returns-then-is_none

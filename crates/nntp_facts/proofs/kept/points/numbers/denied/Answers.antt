@@ -1,5 +1,4 @@
-use Rattle.nntp_facts.proofs.PointsFound.NumbersBeside.{number_free}
-use Rattle.std.proofs.Common.{arith}
+use Rattle.nntp_facts.proofs.{Base.{arith}, PointsFound.NumbersBeside.{number_free}}
 use Rattle.nntp_facts.proofs.kept.points.numbers.denied.Goals as goal
 
 pub returns-in-None : goal.returns-in-None

@@ -1,5 +1,4 @@
-use Rattle.std.{proofs.Common.{ap, refl}, specs.Prelude.{option_map}}
-use Rattle.nntp_facts.{specs.Inner.{SayingView.{of_group}, StatementView.{statement_of}}, proofs.PointsFound.KindsOfPoints.{step_found, no_step, possible_step}}
+use Rattle.nntp_facts.proofs.{Base.{ap, refl, option_map, of_group, statement_of}, PointsFound.KindsOfPoints.{step_found, no_step, possible_step}}
 use Rattle.nntp_facts.proofs.kept.points.numbers.impossible.Goals as goal
 
 pub returns-in_default : goal.returns-in_default

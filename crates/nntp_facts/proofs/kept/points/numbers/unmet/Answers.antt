@@ -1,6 +1,4 @@
-use Rattle.std.proofs.{Common.{arith, refl, sym, ◌∙◌}, lemmas.Bool.{true≢false}}
-use Rattle.nntp_theory.specs.Given.{asks_of}
-use Rattle.nntp_facts.proofs.PointsFound.NumbersBeside.{apart, first_free}
+use Rattle.nntp_facts.proofs.{Base.{arith, refl, sym, ◌∙◌, true≢false, asks_of}, PointsFound.NumbersBeside.{apart, first_free}}
 use Rattle.nntp_facts.proofs.kept.points.numbers.unmet.Goals as goal
 
 pub returns-then-meet_demand : goal.returns-then-meet_demand
