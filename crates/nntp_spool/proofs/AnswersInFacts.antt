@@ -1,13 +1,13 @@
--- An answer, as the facts that it says.
-use Rattle.std.proofs.Common.{arith, ◌≡◌, Bool, true, false, ◌↔◌, IsTrue, List, Option, None, Some, is_some, sym, ◌∙◌, Result, Ok, Err, IfOk}
-use Rattle.std.{proofs.lemmas.Bool.{true≢false}, specs.List.{AllByRecursion}}
-use Rattle.nntp_wire.specs.Answer.{Asked, Response}
-use Rattle.nntp_article.specs.{Session.{Spool.{Spool}, Machine.{Visible, MayAnswer, fits}, Misfit.{misfit}}, Inner.Listed.{Lists, lists_of}}
-use Rattle.nntp_article.specs.{Inner.MisfitView.{why_if}, declared.session.{profile.Profile.{Profile}, misfit.Misfit.{Misfit}}}
+-- An answer, as the facts that it says, and facts that hold of a spool, one after the other.
+use Rattle.std.proofs.Common.{arith, ◌≡◌, Bool, true, false, ◌↔◌, IsTrue, List, Option, None, Some, is_some, sym, ◌∙◌, Result, Ok, Err, IfOk, [], ◌∷◌, drop}
+use Rattle.std.{proofs.{Common.{IsSome}, lemmas.Bool.{true≢false}}, specs.{FinMap.{get}, List.{AllByRecursion}, Prelude.{slice_get}}}
+use Rattle.nntp_wire.specs.{Answer.{Asked, Response}, declared.command.What.{What, TheVariants.{Stat}}}
+use Rattle.nntp_article.specs.{Article.Parts.{Id, Line}, Inner.{Listed.{Lists, lists_of}, MisfitView.{why_if}}, Session.Machine.{Visible, MayAnswer, fits}}
+use Rattle.nntp_article.specs.{Session.{Misfit.{misfit}, Spool.{Spool}}, declared.session.{misfit.Misfit.{Misfit}, profile.Profile.{Profile}}}
 use Rattle.nntp_article.proofs.SessionLemmas.Misfits.{fits_by_reason}
-use Rattle.nntp_said.{specs.{Inner.Asks.{state_at}, Facts.{Fact, Holds, facts_of}, declared.position.Position.{Position}}, proofs.Rows.{Row, row}}
-use Rattle.nntp_said.proofs.FactsHold.{may_by_facts}
-use Rattle.nntp_spool.specs.Inner.Sessions.{SayThese}
+use Rattle.nntp_said.specs.{Facts.{Fact, Holds, facts_of, IdAt, TextIs}, Inner.{Asks.{state_at}, Places.{Place}}, declared.position.Position.{Position}}
+use Rattle.nntp_said.proofs.{FactsHold.{may_by_facts}, Rows.{Row, row}}
+use Rattle.nntp_spool.specs.Inner.{Content.{IdsHaveArticles}, Sessions.{SayThese}}
 
 -- ---- what fits
 
@@ -42,3 +42,41 @@ pub permitted_where_held : {E : Type 0} (profile : Profile) (S : Spool) (v : Vis
     → IfOk r (λ hold. IsTrue hold ↔ AllByRecursion (Holds S) facts) → IfOk r (λ may. IsTrue may ↔ MayAnswer profile S (state_at S v at) p a)
 permitted_where_held profile S v at p a facts (Ok hold) is_open f same h = grind (arith, may_by_facts)
 permitted_where_held profile S v at p a facts (Err e) is_open f same h = tt
+
+-- ---- facts that hold, one after the other
+
+-- those that are left hold exactly if all do
+pub record AreLeft (S : Spool) (listed : Lists) (facts left : List Fact) : Type 0 where
+  pub same : AllByRecursion (Holds S) left ↔ AllByRecursion (Holds S) facts
+  pub these : SayThese listed left
+
+module _ (S : Spool) (listed : Lists) (facts : List Fact) where
+  -- none is left, so all hold
+  pub none_left : (left : List Fact) → AreLeft S listed facts left → None ≡ slice_get left 0 → AllByRecursion (Holds S) facts
+  none_left [] are e = are.same.0 tt
+  none_left (fact ∷ left) are e = absurd cc
+
+  -- the first of them holds where those behind it do, so it may be passed
+  pub first_passed : (left behind : List Fact) → AreLeft S listed facts left → behind ≡ drop 1 left
+      → (AllByRecursion (Holds S) (drop 1 left) → AllByRecursion (Holds S) left) → AreLeft S listed facts behind
+  first_passed left behind are e h = grind arith
+
+-- it does where it holds by itself
+pub first_held : (S : Spool) (fact : Fact) (left : List Fact) → Some fact ≡ slice_get left 0 → Holds S fact → AllByRecursion (Holds S) (drop 1 left) → AllByRecursion (Holds S) left
+first_held S fact left e held h = grind arith
+
+-- an id that stands at a number has an article
+placed_has : (S : Spool) (id : Id) (facts : List Fact) → IdsHaveArticles S → Place id facts → AllByRecursion (Holds S) facts → IsSome (get S.articles id)
+placed_has S id [] ids place h = elim place [ ]
+placed_has S id (IdAt name n other ∷ facts) ids place h = grind (arith, placed_has S id facts ids)
+placed_has S id (fact ∷ facts) ids place h = placed_has S id facts ids place h.1
+
+-- and nothing is sent of it
+placed_text : (S : Spool) (id : Id) (facts : List Fact) → IdsHaveArticles S → Place id facts → AllByRecursion (Holds S) facts → Holds S (TextIs Stat id None)
+placed_text S id facts ids place h = let has = placed_has S id facts ids place h in grind arith
+
+-- so the first of the facts holds where it says this, and one behind it gives the id at a number
+pub first_implied : (S : Spool) (what : What) (id : Id) (lines : Option (List Line)) (facts : List Fact) → Some (TextIs what id lines) ≡ slice_get facts 0
+    → what ≡ Stat → lines ≡ None → Place id facts → IdsHaveArticles S → AllByRecursion (Holds S) (drop 1 facts) → AllByRecursion (Holds S) facts
+first_implied S what id lines [] first stat nothing place ids h = elim place [ ]
+first_implied S what id lines (fact ∷ facts) first stat nothing place ids h = grind (arith, placed_text)

@@ -1,12 +1,16 @@
--- Words of a line, and the one spelling of a number.
-use Rattle.std.proofs.Common.{◌≡◌, ℕ, suc, ◌^◌, ◌<◌, Bool, true, false, not, cond, eqb, List, [], ◌∷◌, ◌++◌, Option, None, Some, length, get_or, refl, sym, ap}
-use Rattle.std.proofs.{Common.{subst, ◌∙◌, arith}, lemmas.{Slice.Eq.{bytes_eq-Decides}, Bool.{and_from, and_parts, not-true, Decides.{nat_tests}}}}
-use Rattle.std.proofs.lemmas.List.{Splits.{join_with_byte-slice_split}, Folds.{list_all-append}, Sums.{AllPass-from_list_all, list_all-from_AllPass}}
-use Rattle.std.proofs.lemmas.Fmt.{digits_decimal, digits_value-decimal, decimal-digits_value, decimal_nonempty, first_decimal, decimal_digit}
-use Rattle.std.specs.{Prelude.{◌&&◌, bytes_eq, codes}, List.{list_all, join_with_byte}, Char.{is_ascii_digit}, Fmt.{decimal}}
+-- Words of a line, the value of digits, the one spelling of a number, and octets that stand in no name and no id.
+use Rattle.std.proofs.Common.{◌≡◌, ℕ, suc, ◌^◌, ◌<◌, Bool, true, false, not, eqb, List, [], ◌∷◌, ◌++◌, Some, length, get_or, refl, subst, ◌∙◌, arith, ◌+◌, ◌-◌}
+use Rattle.std.proofs.{Common.{◌*◌, ◌≤◌, take, rules, sym}, lemmas.{Bool.{and_from, and_parts, not-true, Decides.{nat_tests}}, Fmt.{digits_decimal}}}
+use Rattle.std.proofs.lemmas.{Fmt.{digits_value-decimal, decimal-digits_value, decimal_nonempty, first_decimal, decimal_digit}, Int.Digits.{digits_value_more}}
+use Rattle.std.proofs.lemmas.List.{append-nil, Folds.{list_all-append}, Splits.{join_with_byte-slice_split, slice_split_at, slice_split_none}}
+use Rattle.std.proofs.lemmas.{List.Sums.{AllPass-from_list_all, list_all-from_AllPass}, Option.{cond_some}, Slice.Eq.{bytes_eq-Decides}}
+use Rattle.std.proofs.lemmas.Str.{digit_value_digit, inside_one, Parse.{IsNumeralModel, numerals_by_value, digit_at, digits_value-take-le}}
+use Rattle.std.specs.{Char.{is_ascii_digit, encode_utf8}, Fmt.{decimal}, List.{list_all}, Prelude.{◌↔◌, bytes_eq, codes, All}, Str.{encode_utf8_all}}
+use Rattle.std.specs.Str.Parse.{digits_value}
 use Rattle.nntp_article.specs.Article.Parts.{is_empty}
-use Rattle.nntp_spool.specs.{Text.{number_line, group_line, article_line}, Fields.{fields_of, are_digits, is_decimal, is_count, value_of, number_and_id}}
-use Rattle.nntp_spool.{specs.Fields.{opening_of, OpeningValue, Group, Article, End}, proofs.{SplitLines.{segments_at}, Decimals.{own}, MapEntries.{some_is}}}
+use Rattle.nntp_wire.{specs.{Decided.{is_group_name, is_message_id}, Name.{is_name_char}}, proofs.DecidedLemmas.{group_name-iff}}
+use Rattle.nntp_spool.specs.Fields.{fields_of, are_digits, is_decimal, is_count, value_of, number_and_id, opening_of, OpeningValue, Group, Article, End}
+use Rattle.nntp_spool.{specs.Text.{spaced, number_line, group_line, article_line}, proofs.{MapEntries.{some_is}, SplitLines.{segments_at}}}
 
 -- ---- octets that are not there
 
@@ -28,15 +32,29 @@ lacks-append c xs ys h g = list_all-append (λ x. not (eqb x c)) xs ys ∙ and_f
 pub lacks-digits : (c : ℕ) (xs : List ℕ) → c < 48 → are_digits xs ≡ true → lacks c xs ≡ true
 lacks-digits c xs lt h = list_all_weaken is_ascii_digit (λ x. not (eqb x c)) (λ x d. grind (arith, nat_tests)) xs h
 
+lacks_all : (c : ℕ) (xs : List ℕ) → lacks c xs ≡ true → All (λ x. eqb x c ≡ false) xs
+lacks_all c xs h k d lt = not-true _ (AllPass-from_list_all (λ x. not (eqb x c)) xs h k d lt)
+
 pub parts_front : (c : ℕ) (xs ys : List ℕ) → lacks c xs ≡ true → segments_at c (xs ++ c ∷ ys) ≡ xs ∷ segments_at c ys
-parts_front c [] ys h = let same : eqb c c ≡ true = grind (arith, nat_tests) in rw same refl
-parts_front c (x ∷ xs) ys h = grind (arith, and_parts, not-true, parts_front c xs ys)
+parts_front c xs ys h = slice_split_at (λ x. eqb x c) xs c ys (lacks_all c xs h) (grind (arith, nat_tests))
 
 pub parts_one : (c : ℕ) (xs : List ℕ) → lacks c xs ≡ true → segments_at c xs ≡ xs ∷ []
-parts_one c [] h = refl
-parts_one c (x ∷ xs) h = grind (arith, and_parts, not-true, parts_one c xs)
+parts_one c xs h = slice_split_none (λ x. eqb x c) xs (lacks_all c xs h)
 
 -- ---- numbers
+
+own : IsNumeralModel (λ ds. are_digits ds ≡ true) (digits_value 10)
+own = numerals_by_value (λ ds. are_digits ds ≡ true) (search rules)
+
+pub digit_least : (ds : List ℕ) (i : ℕ) → are_digits ds ≡ true → i < length ds → 48 ≤ get_or ds i 0
+digit_least ds i all lt = (digit_at ds i (own.to ds all) lt).0
+
+-- one more digit
+pub value_more : (ds : List ℕ) (i v : ℕ) → are_digits ds ≡ true → i < length ds → v ≡ value_of (take i ds) → v * 10 + (get_or ds i 0 - 48) ≡ value_of (take (i + 1) ds)
+value_more ds i v all lt e = grind (arith, digit_value_digit, digit_at, own, digits_value_more)
+
+pub value_past : (ds : List ℕ) (i v : ℕ) → are_digits ds ≡ true → i < length ds → v ≡ value_of (take i ds) → v * 10 + (get_or ds i 0 - 48) ≤ value_of ds
+value_past ds i v all lt e = let least = digits_value-take-le 10 ds (i + 1) (omega arith) in rw (value_more ds i v all lt e) least
 
 pub are_digits-decimal : (n : ℕ) → n < 2 ^ 64 → are_digits (decimal n) ≡ true
 are_digits-decimal n lt = digits_decimal own n lt
@@ -44,26 +62,19 @@ are_digits-decimal n lt = digits_decimal own n lt
 pub value_of-decimal : (n : ℕ) → n < 2 ^ 64 → value_of (decimal n) ≡ n
 value_of-decimal n lt = digits_value-decimal own n lt
 
-decimal_if : (ds : List ℕ) → are_digits ds ≡ true → 0 < length ds → (get_or ds 0 0 ≡ 48 → length ds ≡ 1) → is_decimal ds ≡ true
-decimal_if ds all some one = grind arith
-
-one_digit : (n : ℕ) → n < 2 ^ 64 → get_or (decimal n) 0 0 ≡ 48 → length (decimal n) ≡ 1
-one_digit n lt e = grind (arith, decimal_digit, first_decimal)
-
-decimal_parts : (ds : List ℕ) → is_decimal ds ≡ true → (are_digits ds ≡ true) × (0 < length ds) × (get_or ds 0 0 ≡ 48 → length ds ≡ 1)
-decimal_parts ds h = grind arith
+decimal_if : (ds : List ℕ) → (is_decimal ds ≡ true) ↔ ((are_digits ds ≡ true) × (0 < length ds) × (get_or ds 0 0 ≡ 48 → length ds ≡ 1))
+decimal_if ds = (λ h. grind arith, λ h. grind arith)
 
 pub is_decimal-decimal : (n : ℕ) → n < 2 ^ 64 → is_decimal (decimal n) ≡ true
-is_decimal-decimal n lt = decimal_if (decimal n) (are_digits-decimal n lt) (decimal_nonempty n lt) (λ e. one_digit n lt e)
+is_decimal-decimal n lt = (decimal_if (decimal n)).1 (are_digits-decimal n lt, decimal_nonempty n lt, λ e. grind (arith, decimal_digit, first_decimal))
 
 pub decimal-value_of : (ds : List ℕ) → is_decimal ds ≡ true → value_of ds < 2 ^ 64 → decimal (value_of ds) ≡ ds
-decimal-value_of ds h lt = decimal-digits_value own ds (decimal_parts ds h).0 (decimal_parts ds h).1 (decimal_parts ds h).2 lt
+decimal-value_of ds h lt = let is = (decimal_if ds).0 h in decimal-digits_value own ds is.0 is.1 is.2 lt
 
 -- ---- the line of a number
 
 pub words-number_line : (n : ℕ) (id : List ℕ) → n < 2 ^ 64 → lacks 32 id ≡ true → fields_of (number_line n id) ≡ decimal n ∷ id ∷ []
-words-number_line n id lt word =
-    parts_front 32 (decimal n) id (lacks-digits 32 (decimal n) (omega arith) (are_digits-decimal n lt)) ∙ ap (λ ws. decimal n ∷ ws) (parts_one 32 id word)
+words-number_line n id lt word = grind (arith, parts_front 32 (decimal n) id, lacks-digits 32 (decimal n), are_digits-decimal n lt, parts_one 32 id word)
 
 pub number_and_id-number_line : (n : ℕ) (id : List ℕ) → n < 2 ^ 64 → lacks 32 id ≡ true → is_empty id ≡ false → number_and_id (fields_of (number_line n id)) ≡ Some (n, id)
 number_and_id-number_line n id lt word some = rw (words-number_line n id lt word, is_decimal-decimal n lt, some, value_of-decimal n lt) refl
@@ -73,15 +84,9 @@ number_words : (words : List (List ℕ)) (n : ℕ) (id : List ℕ) → number_an
 number_words words n id e = search (arith, some_is)
 
 pub number_line-number_and_id : (l : List ℕ) (n : ℕ) (id : List ℕ) → n < 2 ^ 64 → number_and_id (fields_of l) ≡ Some (n, id) → l ≡ number_line n id
-number_line-number_and_id l n id lt e =
-    let w = number_words (fields_of l) n id e in
-    let text : decimal n ≡ w.0 = ap decimal (sym w.3) ∙ decimal-value_of w.0 w.2 (subst (λ k. k < 2 ^ 64) (sym w.3) lt) in
-    sym (join_with_byte-slice_split 32 l) ∙ ap (join_with_byte 32) w.1 ∙ ap (λ t. t ++ 32 ∷ id) (sym text)
+number_line-number_and_id l n id lt e = grind (arith, number_words (fields_of l) n id e, decimal-value_of, join_with_byte-slice_split 32 l)
 
 -- ---- the lines that begin a group or an article, and the last one
-
-chosen : {A : Type 0} (t : Bool) (x y : A) → cond t (Some x) None ≡ Some y → (t ≡ true) × (x ≡ y)
-chosen t x y e = grind arith
 
 same_bytes : (xs ys : List ℕ) → bytes_eq xs ys ≡ true → xs ≡ ys
 same_bytes xs ys h = (bytes_eq-Decides xs ys).0 h
@@ -105,44 +110,43 @@ opening-article_line id heads bodies word some h b =
     rw (parts_front 32 id (decimal heads ++ 32 ∷ decimal bodies) word, parts_front 32 (decimal heads) (decimal bodies) head_digits, parts_one 32 (decimal bodies) body_digits) (
     rw (some, is_count-decimal heads h, is_count-decimal bodies b, value_of-decimal heads h, value_of-decimal bodies b) refl)
 
--- the words of which an item is read
-abbrev OpeningWords : OpeningValue → List (List ℕ) → Type 0
-OpeningWords (Group name count) words = (count < 2 ^ 64) × (words ≡ codes "group" ∷ name ∷ decimal count ∷ [])
-OpeningWords (Article id heads bodies) words = (heads < 2 ^ 64) × (bodies < 2 ^ 64) × (words ≡ codes "article" ∷ id ∷ decimal heads ∷ decimal bodies ∷ [])
-OpeningWords End words = words ≡ codes "end" ∷ []
-
-opening_words : (words : List (List ℕ)) (item : OpeningValue) → opening_of words ≡ Some item → OpeningWords item words
-opening_words [] item e = absurd cc
-opening_words (w ∷ []) item e =
-    let c = chosen (bytes_eq w (codes "end")) End item e in
-    subst (λ (i : OpeningValue). OpeningWords i (w ∷ [])) c.1 (ap (λ (t : List ℕ). t ∷ []) (same_bytes w (codes "end") c.0))
-opening_words (w ∷ x ∷ []) item e = absurd cc
-opening_words (w ∷ x ∷ y ∷ []) item e =
-    let c = chosen (bytes_eq w (codes "group") && not (is_empty x) && is_count y) (Group x (value_of y)) item e in
-    let all = and_parts (bytes_eq w (codes "group") && not (is_empty x)) (is_count y) c.0 in
-    let word = same_bytes w (codes "group") (and_parts (bytes_eq w (codes "group")) (not (is_empty x)) all.0).0 in
-    grind (arith, count_parts)
-opening_words (w ∷ x ∷ y ∷ z ∷ []) item e =
-    let c = chosen (bytes_eq w (codes "article") && not (is_empty x) && is_count y && is_count z) (Article x (value_of y) (value_of z)) item e in
-    let all = and_parts (bytes_eq w (codes "article") && not (is_empty x) && is_count y) (is_count z) c.0 in
-    let front = and_parts (bytes_eq w (codes "article") && not (is_empty x)) (is_count y) all.0 in
-    let word = same_bytes w (codes "article") (and_parts (bytes_eq w (codes "article")) (not (is_empty x)) front.0).0 in
-    grind (arith, count_parts)
-opening_words (w ∷ x ∷ y ∷ z ∷ u ∷ more) item e = absurd cc
-
-line_is : (l : List ℕ) (words : List (List ℕ)) → fields_of l ≡ words → l ≡ join_with_byte 32 words
-line_is l words e = sym (join_with_byte-slice_split 32 l) ∙ ap (join_with_byte 32) e
-
 -- the line of which an item is read
 abbrev pub OpeningLine : OpeningValue → List ℕ → Type 0
 OpeningLine (Group name count) l = (count < 2 ^ 64) × (l ≡ group_line name count)
 OpeningLine (Article id heads bodies) l = (heads < 2 ^ 64) × (bodies < 2 ^ 64) × (l ≡ article_line id heads bodies)
 OpeningLine End l = l ≡ codes "end"
 
+opening_words : (words : List (List ℕ)) (item : OpeningValue) → opening_of words ≡ Some item → OpeningLine item (spaced words)
+opening_words [] item e = absurd cc
+opening_words (w ∷ []) item e = grind (arith, cond_some, same_bytes)
+opening_words (w ∷ x ∷ []) item e = absurd cc
+opening_words (w ∷ x ∷ y ∷ []) item e = grind (arith, cond_some, and_parts, same_bytes w, count_parts y)
+opening_words (w ∷ x ∷ y ∷ z ∷ []) item e = grind (arith, cond_some, and_parts, same_bytes w, count_parts y, count_parts z)
+opening_words (w ∷ x ∷ y ∷ z ∷ u ∷ more) item e = absurd cc
+
 pub opening_line : (l : List ℕ) (item : OpeningValue) → opening_of (fields_of l) ≡ Some item → OpeningLine item l
-opening_line l item e = from item (opening_words (fields_of l) item e)
-  where
-    from : (item : OpeningValue) → OpeningWords item (fields_of l) → OpeningLine item l
-    from (Group name count) w = (w.0, line_is l _ w.1)
-    from (Article id heads bodies) w = (w.0, w.1, line_is l _ w.2)
-    from End w = line_is l _ w
+opening_line l item e = subst (OpeningLine item) (join_with_byte-slice_split 32 l) (opening_words (fields_of l) item e)
+
+-- ---- octets that stand in no group name and in no message id
+
+encode-lacks : (c d : ℕ) → c < 128 → (d ≡ c → ⊥) → lacks c (encode_utf8 d) ≡ true
+encode-lacks c d lt other = lacks_from c (encode_utf8 d) (λ k inside e. other (inside_one d [] (encode_utf8 d) k (sym (append-nil (encode_utf8 d))) inside (omega (arith, e)) ∙ e))
+
+encodes-lacks : (c : ℕ) (cs : List ℕ) → c < 128 → list_all (λ d. not (eqb d c)) cs ≡ true → lacks c (encode_utf8_all cs) ≡ true
+encodes-lacks c [] lt h = refl
+encodes-lacks c (d ∷ ds) lt h = grind (arith, and_parts, nat_tests, lacks-append, encode-lacks, encodes-lacks c ds lt)
+
+is_other : (p : ℕ → Bool) (c d : ℕ) (b : Bool) → p c ≡ false → p d ≡ true → eqb d c ≡ b → not b ≡ true
+is_other p c d b fails passes e = grind arith
+
+pub name-lacks : (c : ℕ) (name : List ℕ) → c < 128 → is_name_char c ≡ false → is_group_name name ≡ true → lacks c name ≡ true
+name-lacks c name lt fails h = grind (arith, group_name-iff name, list_all_weaken is_name_char, is_other is_name_char c, lacks c, encodes-lacks c)
+
+pub name-some : (name : List ℕ) → is_group_name name ≡ true → is_empty name ≡ false
+name-some name h = grind arith
+
+pub id-lacks : (c : ℕ) (id : List ℕ) → c ≤ 32 → is_message_id id ≡ true → lacks c id ≡ true
+id-lacks c id le h = grind (arith, and_parts, list_all_weaken, nat_tests)
+
+pub id-some : (id : List ℕ) → is_message_id id ≡ true → is_empty id ≡ false
+id-some id h = grind arith

@@ -1,9 +1,9 @@
 -- Numbers that are listed one after the other are those of a group within a range.
 use Rattle.std.proofs.Common.{◌≡◌, ◌⊎◌, inl, inr, ⊎_elim, ℕ, suc, ◌<◌, ◌≤◌, true, List, [], ◌∷◌, Option, Some, MatchOption, refl, sym, ap, subst, ◌∙◌, arith}
 use Rattle.std.proofs.lemmas.{Bool.{and_parts, cases_lt, Decides.{nat_tests}}, List.{Elements.{All-contains}, Sums.{AllPass-from_list_all}}}
-use Rattle.std.specs.{Prelude.{Contains, IfSome, ◌↔◌, nat_lt, ⊤}, List.{list_all}}
+use Rattle.std.specs.{List.{list_all}, Prelude.{Contains, IfSome, ◌↔◌, nat_lt, ⊤}}
 use Rattle.nntp_wire.specs.declared.range.Range.{Range}
-use Rattle.nntp_article.specs.Session.{Spool.{Numbers, IsNumber, IsNextAbove, Lists, NoneAbove}, Machine.{is_ascending}}
+use Rattle.nntp_article.specs.Session.{Machine.{is_ascending}, Spool.{Numbers, IsNumber, IsNextAbove, Lists, NoneAbove}}
 use Rattle.nntp_spool.specs.Inner.ListedNumbers.{IsAbove, IsNextFrom, ListsFrom}
 
 contains_cons : {X : Type 0} (n m : X) (ns : List X) → Contains (n ∷ ns) m → (m ≡ n) ⊎ Contains ns m
@@ -18,60 +18,51 @@ above_all n m ns h c =
     let lt : nat_lt n m ≡ true = All-contains (λ k. nat_lt n k ≡ true) ns m (AllPass-from_list_all (λ k. nat_lt n k) ns h) c in
     grind (arith, nat_tests)
 
--- the first of the numbers that are left, in a list that ascends
-module _ (N : Numbers) (r : Range) (before : Option ℕ) (n : ℕ) (ns : List ℕ) (ascends : is_ascending (n ∷ ns) ≡ true) where
-  behind : (m : ℕ) → Contains ns m → n < m
-  behind m c = above_all n m ns (and_parts (list_all (λ k. nat_lt n k) ns) (is_ascending ns) ascends).0 c
+-- the first of the numbers that are left of a list, where they are listed from here on exactly if the whole is
+module _ (N : Numbers) (r : Range) (before : Option ℕ) (left : List ℕ) (n : ℕ) (ns : List ℕ) (steps : left ≡ n ∷ ns) (ascends : is_ascending left ≡ true) (Whole : Type 0)
+    (same : ListsFrom N r before left ↔ Whole) where
+  up : (list_all (λ k. nat_lt n k) ns ≡ true) × (is_ascending ns ≡ true)
+  up = and_parts (list_all (λ k. nat_lt n k) ns) (is_ascending ns) (ap is_ascending (sym steps) ∙ ascends)
+
+  listed : ListsFrom N r before (n ∷ ns) ↔ Whole
+  listed = subst (λ (ls : List ℕ). ListsFrom N r before ls ↔ Whole) steps same
 
   below_last : (last : Option ℕ) (m : ℕ) → m < n → IfSome last (λ l. n ≤ l) → IfSome last (λ l. m ≤ l)
   below_last last m lt fit = grind arith
 
   -- it is the next one
-  first_next : ListsFrom N r before (n ∷ ns) → IsNextFrom N before (Some n) × IfSome r.last (λ last. n ≤ last)
-  first_next h = ((is.0, is.1, least), is.2)
+  pub is_next : Whole → IsNextFrom N before (Some n) × IfSome r.last (λ last. n ≤ last)
+  is_next whole = ((is.0, is.1, least), is.2)
     where
       is : IsNumber N n × IsAbove before n × IfSome r.last (λ last. n ≤ last)
-      is = (h n).0 (cons_contains n n ns (inl refl))
+      is = (listed.1 whole n).0 (cons_contains n n ns (inl refl))
 
       least : (m : ℕ) → IsAbove before m → IsNumber N m → n ≤ m
       least m a is_m = elim (cases_lt m n) [
         | inr le ↦ le
-        | inl lt ↦ ⊎_elim (λ e. omega (arith, e)) (λ c. omega (arith, behind m c)) (contains_cons n m ns ((h m).1 (is_m, a, below_last r.last m lt is.2)))
+        | inl lt ↦ ⊎_elim (λ e. omega (arith, e)) (λ c. omega (arith, above_all n m ns up.0 c)) (contains_cons n m ns ((listed.1 whole m).1 (is_m, a, below_last r.last m lt is.2)))
       ]
 
   -- and those behind it are listed from it on
-  first_taken : IsNextFrom N before (Some n) → IfSome r.last (λ last. n ≤ last) → ListsFrom N r before (n ∷ ns) ↔ ListsFrom N r (Some n) ns
-  first_taken here fits = (
-    λ h m. (
-      λ c. let is = (h m).0 (cons_contains n m ns (inr c)) in (is.0, behind m c, is.2),
-      λ (is, lt, fit). ⊎_elim (λ e. absurd (omega (arith, e, lt))) (λ c. c) (contains_cons n m ns ((h m).1 (is, above m lt, fit))),
+  pub taken : IsNextFrom N before (Some n) × IfSome r.last (λ last. n ≤ last) → (ListsFrom N r (Some n) ns ↔ Whole) × (is_ascending ns ≡ true)
+  taken (here, fits) = (
+    (
+      λ h. listed.0 (λ m. (
+        λ c. ⊎_elim (λ e. subst (λ (k : ℕ). IsNumber N k × IsAbove before k × IfSome r.last (λ last. k ≤ last)) (sym e) (here.0, here.1, fits))
+            (λ c. let is = (h m).0 c in (is.0, above m is.1, is.2)) (contains_cons n m ns c),
+        λ (is, a, fit). let le = here.2 m a is in
+            cons_contains n m ns (elim (cases_lt n m) [ inl lt ↦ inr ((h m).1 (is, lt, fit)) | inr ge ↦ inl (omega arith) ]),
+      )),
+      λ whole m. let h = listed.1 whole m in (
+        λ c. let is = h.0 (cons_contains n m ns (inr c)) in (is.0, above_all n m ns up.0 c, is.2),
+        λ (is, lt, fit). ⊎_elim (λ e. absurd (omega (arith, e, lt))) (λ c. c) (contains_cons n m ns (h.1 (is, above m lt, fit))),
+      ),
     ),
-    λ h m. (
-      λ c. ⊎_elim (λ e. subst (λ (k : ℕ). IsNumber N k × IsAbove before k × IfSome r.last (λ last. k ≤ last)) (sym e) (here.0, here.1, fits))
-          (λ c. let is = (h m).0 c in (is.0, above m is.1, is.2)) (contains_cons n m ns c),
-      λ (is, a, fit). let le = here.2 m a is in
-          cons_contains n m ns (elim (cases_lt n m) [ inl lt ↦ inr ((h m).1 (is, lt, fit)) | inr ge ↦ inl (omega arith) ]),
-    ),
+    up.1,
   )
     where
       above : (m : ℕ) → n < m → IsAbove before m
       above m lt = grind arith
-
--- the same of what is left of a list, which is listed from here on exactly if the whole is
-module _ (N : Numbers) (r : Range) (before : Option ℕ) (left : List ℕ) (n : ℕ) (ns : List ℕ) (steps : left ≡ n ∷ ns) (ascends : is_ascending left ≡ true) (Whole : Type 0)
-    (same : ListsFrom N r before left ↔ Whole) where
-  up : is_ascending (n ∷ ns) ≡ true
-  up = ap is_ascending (sym steps) ∙ ascends
-
-  pub is_next : Whole → IsNextFrom N before (Some n) × IfSome r.last (λ last. n ≤ last)
-  is_next whole = first_next N r before n ns up (subst (ListsFrom N r before) steps (same.1 whole))
-
-  pub taken : IsNextFrom N before (Some n) × IfSome r.last (λ last. n ≤ last) → (ListsFrom N r (Some n) ns ↔ Whole) × (is_ascending ns ≡ true)
-  taken here =
-      let step = first_taken N r before n ns up here.0 here.1 in (
-        (λ h. same.0 (subst (ListsFrom N r before) (sym steps) (step.1 h)), λ whole. step.0 (subst (ListsFrom N r before) steps (same.1 whole))),
-        (and_parts (list_all (λ k. nat_lt n k) ns) (is_ascending ns) up).1,
-      )
 
 -- nothing is left
 pub none_left : (N : Numbers) (r : Range) (before first : Option ℕ) → IsNextFrom N before first

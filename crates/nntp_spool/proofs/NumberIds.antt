@@ -1,14 +1,14 @@
 -- The ids of a group's numbers, and one more.
-use Rattle.std.proofs.Common.{arith, add-one, ◌≡◌, ◌+◌, ◌<◌, ℕ, Bool, true, false, inl, inr, List, [], ◌∷◌, map, length, get_or, drop, drop-cons, None, Some}
-use Rattle.std.proofs.{Common.{not, refl, sym, ap, subst, if◌then◌else◌, ◌∙◌}, lemmas.Bool.{false≢true, and_parts, and_from, cases_Bool}}
-use Rattle.std.proofs.lemmas.{Bool.Decides.{same_from_decides}, List.{drop_all}, Map.Text.{is_eq-slice_cmp}, Slice.Eq.{bytes_eq-Decides}}
-use Rattle.std.specs.{declared.{cmp.Ordering.{Ordering}, rc.RcStr.{RcStr}}, Prelude.{◌||◌, bytes_eq}, Ordering.{nat_cmp, is_eq}, Cmp.{nat_cmp_total}}
-use Rattle.std.specs.{Cmp.Lexicographic.{slice_cmp}, Bool.{Decides}, List.{list_all, list_any}, Rc.{rc_str_bytes}, BTreeSet.{insert_key}, FinMap.{get, insert}}
-use Rattle.std.specs.FinMap.{empty, entries, find, put, entries-insert, get-entries}
-use Rattle.nntp_article.{specs.{Session.Spool.{Numbers}, Article.Parts.{Id}}, proofs.SessionLemmas.SetKeys.{or_swap, any-insert_key}}
+use Rattle.std.proofs.Common.{arith, add-one, ◌≡◌, ◌+◌, ◌<◌, ℕ, Bool, true, false, List, [], ◌∷◌, map, length, get_or, drop, drop-cons, None, not, refl, sym}
+use Rattle.std.proofs.{Common.{ap, ◌∙◌}, lemmas.{Bool.{false≢true, and_parts, and_from, cases_Bool, Decides.{same_from_decides}}, List.{drop_all}}}
+use Rattle.std.{proofs.lemmas.{Map.Text.{is_eq-slice_cmp}, Slice.Eq.{bytes_eq-Decides}}, specs.{BTreeSet.{insert_key}, Bool.{Decides}, Cmp.{both_ways}}}
+use Rattle.std.specs.{Cmp.{nat_cmp_total, Lexicographic.{slice_cmp}}, FinMap.{get, insert, empty, entries, find, put, entries-insert, get-entries}}
+use Rattle.std.specs.{List.{list_all, list_any}, Ordering.{nat_cmp, is_eq}, Prelude.{◌||◌, bytes_eq}, Rc.{rc_str_bytes}, declared.cmp.Ordering.{Ordering}}
+use Rattle.std.specs.declared.rc.RcStr.{RcStr}
+use Rattle.nntp_article.{specs.{Article.Parts.{Id}, Session.Spool.{Numbers}}, proofs.SessionLemmas.SetKeys.{or_swap, any-insert_key}}
 use Rattle.nntp_wire.proofs.ShownMaps.{list_all-map}
-use Rattle.nntp_spool.{specs.{Numbers.{has_id}, Inner.Numbers.{AreIdsOf, AreKnown, AreAscending, numbers_shown, with_number}}, proofs.ShownNumbers.{each_entry}}
-use Rattle.nntp_spool.proofs.{NumbersInOrder.{entries-empty}, ShownMaps.{octet_keys}, MapEntries.{some_none}}
+use Rattle.nntp_spool.specs.{Inner.Numbers.{AreIdsOf, AreKnown, AreAscending, numbers_shown, with_number}, Numbers.{has_id}}
+use Rattle.nntp_spool.proofs.{MapEntries.{entries-empty, some_none}, ShownMaps.{octet_keys}, ShownNumbers.{each_entry}}
 
 -- a test over entries, once one was put at a key that was not there
 any-put : {K X : Type 0} (R : K → K → Ordering) (t : K × X → Bool) (k : K) (v : X) (es : List (K × X)) → find R k es ≡ None → list_any t (put R k v es) ≡ (t (k, v) || list_any t es)
@@ -49,16 +49,14 @@ all_ids {A = A} t ids N are =
     let id : ℕ × Id → Id = λ e. e.1 in
     let at : Id → ℕ × Id → Bool = λ q e. bytes_eq e.1 q in
     let decides_at : (q : Id) (e : ℕ × Id) → Decides (at q e) (id e ≡ q) = λ q e. bytes_eq-Decides e.1 q in
-    same_from_decides (list_all (λ k. t (rc_str_bytes k)) ids) (list_all (λ e. t e.1) (entries N)) (
-      (λ all. passes-all t id at decides_at (entries N) (λ q there. passes-there t rc_str_bytes known decides ids q all (are q ∙ there))),
-      (λ all. passes-all t rc_str_bytes known decides ids (λ q there. passes-there t id at decides_at (entries N) q all (sym (are q) ∙ there))),
-    ) (λ e. e, λ e. e)
+    both_ways (list_all (λ k. t (rc_str_bytes k)) ids) (list_all (λ e. t e.1) (entries N))
+    (λ all. passes-all t id at decides_at (entries N) (λ q there. passes-there t rc_str_bytes known decides ids q all (are q ∙ there)))
+    (λ all. passes-all t rc_str_bytes known decides ids (λ q there. passes-there t id at decides_at (entries N) q all (sym (are q) ∙ there)))
 
 module _ {A : Type 0} where
   -- the ids that are known, where there are some
   pub known_are : (known : List (RcStr A)) (N : Numbers) → AreKnown known N → (known ≡ [] → ⊥) → AreIdsOf known N
-  known_are known N (inl none) some = absurd (some none)
-  known_are known N (inr are) some = are
+  known_are known N h some = grind arith
 
   -- the ids of a list of numbers
   pub listed_id : (ids : List (ℕ × RcStr A)) (id : Id) → AreAscending ids → list_any (λ e. bytes_eq (rc_str_bytes e.1) id) ids ≡ has_id (numbers_shown ids) id
@@ -96,20 +94,14 @@ module _ {A : Type 0} where
   -- an id more, if it was not there
   pub known_with : (ids new : List (RcStr A)) (N : Numbers) (n : ℕ) (k : RcStr A) (added : Bool) → AreIdsOf ids N → get N n ≡ None → added ≡ not (has_id N (rc_str_bytes k))
       → new ≡ insert_key octets_cmp ids k → (added ≡ false → new ≡ ids) → AreIdsOf new (with_number N n (rc_str_bytes k))
-  known_with ids new N n k added are absent e put same = by (has_id N (rc_str_bytes k)) refl
-    where
-      by : (there : Bool) → has_id N (rc_str_bytes k) ≡ there → AreIdsOf new (if there then N else insert N n (rc_str_bytes k))
-      by true h = subst (λ ids. AreIdsOf ids N) (sym (same (e ∙ ap not h))) are
-      by false h = one_id_more ids new N n (rc_str_bytes k) k are absent refl put
+  known_with ids new N n k added are absent e put same = grind (arith, one_id_more)
 
   -- one more of the numbers was passed, and its id put among those that are known
   pub one_passed : (ids : List (ℕ × RcStr A)) (i : ℕ) (e : ℕ × RcStr A) (known new : List (RcStr A)) (k : RcStr A) (id : Id) → i < length ids → e ≡ get_or ids i e
       → rc_str_bytes k ≡ rc_str_bytes e.1 → new ≡ insert_key octets_cmp known k
       → (list_any (λ known. bytes_eq id (rc_str_bytes known)) new || list_any (λ e. bytes_eq (rc_str_bytes e.1) id) (drop (i + 1) ids))
       ≡ (list_any (λ known. bytes_eq id (rc_str_bytes known)) known || list_any (λ e. bytes_eq (rc_str_bytes e.1) id) (drop i ids))
-  one_passed ids i e known new k id lt is same put =
-      let rest : drop i ids ≡ e ∷ drop (i + 1) ids = grind (arith, add-one, drop-cons) in
-      grind (arith, any-insert_key, octet_keys, either_way, or_swap)
+  one_passed ids i e known new k id lt is same put = grind (arith, add-one, drop-cons, any-insert_key, octet_keys, either_way, or_swap)
 
   -- none is left
   pub all_passed : (ids : List (ℕ × RcStr A)) (i : ℕ) (known : List (RcStr A)) (id : Id) → i ≡ length ids

@@ -1,11 +1,11 @@
 -- What a binary search finds among entries in the order of their keys.
-use Rattle.std.proofs.Common.{◌≡◌, ℕ, ◌+◌, ◌<◌, zero, suc, true, false, Option, None, Some, option_map, List, [], ◌∷◌, map, length, get_or, refl, sym, ap}
-use Rattle.std.proofs.{Common.{subst, ◌∙◌, arith}, lemmas.{Bool.{and_parts, cases_lt}, Option.{slice_get-get_or, slice_get_within, get_or_from_slice_get}}}
+use Rattle.std.proofs.Common.{◌≡◌, ℕ, ◌+◌, ◌<◌, true, false, Option, None, Some, option_map, List, [], ◌∷◌, map, length, get_or, refl, sym, ap, subst, ◌∙◌}
+use Rattle.std.proofs.{Common.{arith}, Math.ListN.{get_or-map}, lemmas.{Bool.{and_parts, cases_lt}, List.Sorted.{searchable_from_sorted}}}
 use Rattle.std.proofs.lemmas.Map.{Entries.{lookup_from_place, place_from_lookup, length-keys_of}, Keys.{IsDistinct-from_sorted, Less-from_sorted}}
-use Rattle.std.{proofs.{lemmas.List.Sorted.{searchable_from_sorted}, Math.ListN.{get_or-map}}, specs.declared.cmp.Ordering.{Ordering, TheVariants.{Less}}}
-use Rattle.std.specs.{declared.cmp.Ordering.TheVariants.{Equal, Greater}, Ordering.{is_lt, is_eq, eq_by_cmp, ordering_index}, Cmp.{IsTotalOrder, IsEquivalence}}
-use Rattle.std.specs.{List.{slice_get, AllByRecursion, Sorted.{IsNonDecreasingBy, IsPartitionPoint, IsStrictlySortedBy}}, Map.{lookup, keys_of}, FinMap.{get}}
-use Rattle.std.specs.FinMap.{is_sorted, IsAntisymmetric, Entries.{below_all}}
+use Rattle.std.{proofs.lemmas.Option.{slice_get-get_or, slice_get_within, get_or_from_slice_get}, specs.{Cmp.{IsTotalOrder, IsEquivalence}, FinMap.{get}}}
+use Rattle.std.specs.{FinMap.{is_sorted, IsAntisymmetric, Entries.{below_all}}, List.{slice_get, AllByRecursion, Sorted.{IsNonDecreasingBy, IsPartitionPoint}}}
+use Rattle.std.specs.{List.Sorted.{IsStrictlySortedBy}, Map.{lookup, keys_of}, Ordering.{is_lt, is_eq, eq_by_cmp, ordering_index}}
+use Rattle.std.specs.declared.cmp.Ordering.{Ordering, TheVariants.{Less, Equal, Greater}}
 use Rattle.nntp_wire.proofs.ShownMaps.{shown, shown_entry, get-shown, equal_is}
 use Rattle.nntp_spool.proofs.MapEntries.{less_is}
 
@@ -30,9 +30,7 @@ module _ {L V K X : Type 0} (R : K → K → Ordering) (key : L → K) (value : 
   pub strict : (es : List (L × V)) → is_sorted R (map (shown_entry R key value) es) ≡ true → IsStrictlySortedBy (λ a b. R (key a) (key b)) (keys_of es)
   unfolding IsStrictlySortedBy
   strict [] h = tt
-  strict (e ∷ es) h =
-      let both = and_parts (below_all R (key e.0) (map (shown_entry R key value) es)) (is_sorted R (map (shown_entry R key value) es)) h in
-      (above e.0 es both.0, strict es both.1)
+  strict (e ∷ es) h = grind (arith, and_parts, above, strict es)
 
   -- an element whose key is the one that is looked for
   pub found_at : (es : List (L × V)) (q : K) (i : ℕ) (d : L × V) → is_sorted R (map (shown_entry R key value) es) ≡ true → i < length es → R (key (get_or es i d).0) q ≡ Equal

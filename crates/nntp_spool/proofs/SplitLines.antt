@@ -1,11 +1,11 @@
 -- The segments of octets between the octets that are a given one.
 use Rattle.std.proofs.Common.{◌≡◌, ℕ, zero, suc, ◌+◌, true, false, cond, eqb, List, [], ◌∷◌, Option, None, Some, Ok, length, take, drop, add-one, refl, sym, ap}
-use Rattle.std.proofs.{Common.{◌∙◌, arith}, lemmas.{Bool.{cases_lt, le-ltb, lt-ltb}, List.Splits.{slice_split_first, slice_split_none}}}
-use Rattle.std.{proofs.lemmas.List.Sums.{fails_before_first}, specs.{Prelude.{position}, List.{slice_split, onto_first}}}
+use Rattle.std.proofs.{Common.{◌∙◌, arith}, lemmas.{List.{drop-drop, Splits.{slice_split_first, slice_split_none}, Sums.{fails_before_first}}, Bool.{cases_lt}}}
+use Rattle.std.{proofs.lemmas.Bool.{le-ltb, lt-ltb}, specs.{List.{slice_split, onto_first}, Prelude.{position}}}
 use Rattle.memchr.specs.Find.{IsFirstByte, is_byte}
 use Rattle.nntp_wire.proofs.ArgumentLemmas.{position-found}
-use Rattle.nntp_spool.{proofs.MapEntries.{some_is, some_none}, specs.Reading.{next_line, segments_of, fault, is_end}}
 use Rattle.nntp_article.specs.Article.Parts.{is_empty}
+use Rattle.nntp_spool.{specs.Reading.{next_line, segments_of, fault, is_end}, proofs.MapEntries.{some_is, some_none}}
 use Rattle.nntp_spool.specs.declared.text.read_fault.Kind.TheVariants as kinds
 
 abbrev pub segments_at : ℕ → List ℕ → List (List ℕ)
@@ -35,27 +35,18 @@ segments_none c bytes e = grind (arith, cases_lt, some_none, lt-ltb, slice_split
 -- the next line of a text
 pub line_found : (line : ℕ) (bytes : List ℕ) (at : ℕ) → position (λ x. eqb x 10) bytes ≡ Some at
     → next_line line (segments_of bytes) ≡ Ok (take at bytes, record { line = line + 1; segments = segments_of (drop (at + 1) bytes) })
-line_found line bytes at e =
-    let first = first_segment 10 (drop (at + 1) bytes) in
-    rw (segments_found 10 bytes at e, first.2) refl
+line_found line bytes at e = grind (arith, first_segment 10 (drop (at + 1) bytes), segments_found 10 bytes at e)
 
 pub line_none : (line : ℕ) (bytes : List ℕ) → position (λ x. eqb x 10) bytes ≡ None → next_line line (segments_of bytes) ≡ fault line kinds.Shape
 line_none line bytes e = ap (next_line line) (segments_none 10 bytes e)
 
-drop_more : (n : ℕ) (xs : List ℕ) → drop 1 (drop n xs) ≡ drop (suc n) xs
-drop_more zero xs = refl
-drop_more (suc n) [] = refl
-drop_more (suc n) (x ∷ xs) = drop_more n xs
-
 -- what stands behind the octet at a place
 pub behind : (n : ℕ) (xs ys zs : List ℕ) → ys ≡ drop n xs → zs ≡ drop 1 ys → zs ≡ drop (n + 1) xs
-behind n xs ys zs e f = f ∙ ap (drop 1) e ∙ rw add-one (drop_more n xs)
+behind n xs ys zs e f = f ∙ ap (drop 1) e ∙ drop-drop 1 n xs
 
 pub is_end-segments : (bytes : List ℕ) → is_end (segments_of bytes) ≡ is_empty bytes
 is_end-segments [] = refl
-is_end-segments (x ∷ bytes) =
-    let first = first_segment 10 bytes in
-    grind arith
+is_end-segments (x ∷ bytes) = grind (arith, first_segment 10 bytes)
 
 pub length_is_empty : (bytes : List ℕ) → eqb (length bytes) 0 ≡ is_empty bytes
 length_is_empty bytes = grind arith

@@ -7,7 +7,7 @@ use Rattle.nntp_article.specs.declared.session.profile.Profile.{Profile}
 use Rattle.nntp_said.specs.{Asks.{position_after}, Inner.Asks.{state_at}, declared.position.Position.{Position, TheVariants.{Nowhere}}}
 use Rattle.nntp_said.proofs.CurrentArticle.{after-state_at}
 use Rattle.nntp_spool.specs.{declared.verification.verified.Verified.{Verified}, Verifying.{IsVerified}, Inner.Sessions.{state_after, MayAnswerAll}}
-use Rattle.nntp_spool.{specs.Sessions.{RefusesAt}, proofs.PermittedPairs.{state-more, all-more, permitted-explained, unpermitted-refused, bad-refused}}
+use Rattle.nntp_spool.{specs.Sessions.{RefusesAt}, proofs.PermittedPairs.{state-more, may-append, permitted-explained, unpermitted-refused, bad-refused}}
 use Rattle.nntp_wire.specs.Session.{ClientStream}
 
 -- a spool and a profile that are the same leave what is verified as it is
@@ -23,17 +23,6 @@ pub record Permitted (profile : Profile) (S : Spool) (client : ClientStream) (se
   pub state : s ≡ state_after S start pairs
   pub counted : count ≡ length pairs
 
-one_more_pair : (profile : Profile) (S : Spool) (client : ClientStream) (server : List ℕ) (left behind : Unpaired) (s new : State) (count : ℕ)
-    (x : Paired) → Permitted profile S client server left s count → IsNext left x behind
-    → MayAnswer profile S s (asked_at x.place) x.response → new ≡ after S s (asked_at x.place) x.response → Permitted profile S client server behind new (x.index + 1)
-one_more_pair profile S client server left behind s new count x p is may leads = record {
-  pairs = p.pairs ++ x ∷ [];
-  next = AreNext-push p.pairs (streams client server) left behind x p.next is;
-  may = all-more profile S start p.pairs x p.may (subst (λ (t : State). MayAnswer profile S t (asked_at x.place) x.response) p.state may);
-  state = leads ∙ ap (λ (t : State). after S t (asked_at x.place) x.response) p.state ∙ sym (state-more S start p.pairs x);
-  counted = ap (λ n. n + 1) (is.index ∙ index-counts client server p.pairs left p.next) ∙ sym (length-append p.pairs (x ∷ []));
-}
-
 -- no exchange yet
 pub none_permitted : (profile : Profile) (S : Spool) (client : ClientStream) (server : List ℕ) (v : Visible) → v ≡ start.visible
     → Permitted profile S client server (streams client server) (state_at S v Nowhere) 0
@@ -44,7 +33,14 @@ pub one_more_answer : (profile : Profile) (S : Spool) (client : ClientStream) (s
     (x : Paired) → Permitted profile S client server left (state_at S v at) count → IsNext left x behind
     → MayAnswer profile S (state_at S v at) (asked_at x.place) x.response → w ≡ visible_after v (asked_at x.place) x.response
     → moved ≡ position_after at (asked_at x.place) x.response → Permitted profile S client server behind (state_at S w moved) (x.index + 1)
-one_more_answer profile S client server left behind v w at moved count x p is may shown stands = grind (arith, one_more_pair, after-state_at)
+one_more_answer profile S client server left behind v w at moved count x p is may shown stands = record {
+  pairs = p.pairs ++ x ∷ [];
+  next = AreNext-push p.pairs (streams client server) left behind x p.next is;
+  may = (may-append profile S start p.pairs (x ∷ [])).1 (p.may, (subst (λ (t : State). MayAnswer profile S t (asked_at x.place) x.response) p.state may, tt));
+  state = (λ i. state_at S (shown i) (stands i)) ∙ sym (after-state_at profile.marks S v at (asked_at x.place) x.response may.agrees)
+      ∙ ap (λ (t : State). after S t (asked_at x.place) x.response) p.state ∙ sym (state-more S start p.pairs x);
+  counted = ap (λ n. n + 1) (is.index ∙ index-counts client server p.pairs left p.next) ∙ sym (length-append p.pairs (x ∷ []));
+}
 
 module _ (profile : Profile) (S : Spool) (is : IsSpool profile.limit S) (client : ClientStream) (server : List ℕ) (left : Unpaired) (s : State) (count : ℕ)
     (p : Permitted profile S client server left s count) where

@@ -1,13 +1,13 @@
 -- What a writer took after several calls.
 use Rattle.std.proofs.Common.{arith, ◌≡◌, ℕ, false, List, [], ◌∷◌, ◌++◌, Option, Result, Ok, Err, take, drop, subst, map as list_map, refl, sym, ap, ◌∙◌}
 use Rattle.std.{proofs.{Common.{append_assoc}, lemmas.List.{append-nil, take-append-drop, Concat.{flat_map-append}}}, specs.Io.KnownBytes.{Appends}}
-use Rattle.std.specs.{Prelude.{◌||◌, String}, List.{flat_map}, declared.rc.RcStr.{RcStr}, Rc.{rc_str_bytes}, String.{string_bytes}}
-use Rattle.nntp_spool.specs.{Writing.{Wrote}, Inner.{Writing.{WritesBut}, Buffering.{taken, waiting, writer_failed, IsSameWriter}, ArticleLines.{text_stored}}}
-use Rattle.nntp_spool.specs.{Watched.{inner_of}, declared.{buffered_output.BufferedOutput.{BufferedOutput}, watched.Watched.{Watched}}}
-use Rattle.nntp_spool.specs.{declared.value.article.StoredArticle.{StoredArticle}, Limited.{LimitedSpool}, Text.{with_line_ends, group_line, number_line}}
-use Rattle.nntp_spool.specs.Text.{article_line, limit_lines, content_lines, spool_text, barred, group_lines, article_lines}
+use Rattle.std.specs.{List.{flat_map}, Prelude.{◌||◌, String, IsErrAnd}, Rc.{rc_str_bytes}, String.{string_bytes}, declared.rc.RcStr.{RcStr}}
 use Rattle.nntp_wire.specs.declared.limit.Limit.{Limit}
 use Rattle.nntp_article.specs.Session.Spool.{Spool, Numbers}
+use Rattle.nntp_spool.specs.Inner.{ArticleLines.{text_stored}, Buffering.{taken, waiting, writer_failed, IsSameWriter}, Writing.{WritesBut}}
+use Rattle.nntp_spool.specs.{Limited.{LimitedSpool}, Text.{with_line_ends, number_line, limit_lines, content_lines, spool_text, barred, group_lines}}
+use Rattle.nntp_spool.specs.{Text.{article_lines}, Watched.{inner_of}, Writing.{Wrote}, declared.buffered_output.BufferedOutput.{BufferedOutput}}
+use Rattle.nntp_spool.specs.declared.{value.article.StoredArticle.{StoredArticle}, watched.Watched.{Watched}}
 
 Appends-then : (a b c : Option (List ℕ)) (x y : List ℕ) → Appends a b x → Appends b c y → Appends a c (x ++ y)
 Appends-then a b c x y h g = grind (arith, append_assoc)
@@ -69,6 +69,10 @@ pub Writes-last : {A E : Type 0} (r : Result A E) (a b c : Option (List ℕ)) (w
 Writes-last (Ok x) a b c whole y rest h g = Wrote-last a b c whole y rest h g
 Writes-last (Err e) a b c whole y rest h g = (g.0, Wrote-last a b c whole y g.0 h g.1)
 
+-- a call that stops with an error wrote a front of it
+pub stopped : {A E : Type 0} (r : Result A E) (Q : E → Type 0) (a b : Option (List ℕ)) (whole rest : List ℕ) → IsErrAnd r Q → (left : List ℕ) × Wrote a b whole left → WritesBut r a b whole rest
+stopped r Q a b whole rest never w = grind arith
+
 -- the first of several calls
 pub Wrote-first : (a b : Option (List ℕ)) (waiting x y rest : List ℕ) → Wrote a b (waiting ++ x) rest → Wrote a b (waiting ++ (x ++ y)) (rest ++ y)
 Wrote-first a b waiting x y rest g = Wrote-on a a b (waiting ++ (x ++ y)) waiting x y rest (Wrote-start a (waiting ++ (x ++ y))) g
@@ -89,36 +93,18 @@ with_line_ends-append xs ys = flat_map-append (λ line. line ++ 10 ∷ []) xs ys
 -- the same for lines
 pub Lines-first : (a b : Option (List ℕ)) (waiting : List ℕ) (xs ys : List (List ℕ)) (rest : List ℕ)
     → Wrote a b (waiting ++ with_line_ends xs) rest → Wrote a b (waiting ++ with_line_ends (xs ++ ys)) (rest ++ with_line_ends ys)
-Lines-first a b waiting xs ys rest g =
-    rw (with_line_ends-append xs ys) (Wrote-first a b waiting (with_line_ends xs) (with_line_ends ys) rest g)
+Lines-first a b waiting xs ys rest g = grind (arith, with_line_ends-append xs ys, Wrote-first a b waiting (with_line_ends xs) (with_line_ends ys) rest g)
 
 pub Lines-next : (a b c : Option (List ℕ)) (whole waiting : List ℕ) (xs ys : List (List ℕ)) (rest : List ℕ)
     → Wrote a b whole (waiting ++ with_line_ends (xs ++ ys)) → Wrote b c (waiting ++ with_line_ends xs) rest
     → Wrote a c whole (rest ++ with_line_ends ys)
-Lines-next a b c whole waiting xs ys rest h g =
-    Wrote-on a b c whole waiting (with_line_ends xs) (with_line_ends ys) rest (rw (with_line_ends-append xs ys) at h) g
-
--- the first line of a group, and of an article
-pub Group-first : (a b : Option (List ℕ)) (waiting name : List ℕ) (n count : ℕ) (more : List (List ℕ)) (rest : List ℕ) → n ≡ count
-    → Wrote a b (waiting ++ with_line_ends (group_line name n ∷ [])) rest
-    → Wrote a b (waiting ++ with_line_ends (group_line name count ∷ more)) (rest ++ with_line_ends more)
-Group-first a b waiting name n count more rest e g =
-    Lines-first a b waiting (group_line name count ∷ []) more rest (rw e at g)
-
-pub Article-first : (a b : Option (List ℕ)) (waiting id : List ℕ) (m heads n bodies : ℕ) (more : List (List ℕ)) (rest : List ℕ) → m ≡ heads → n ≡ bodies
-    → Wrote a b (waiting ++ with_line_ends (article_line id m n ∷ [])) rest
-    → Wrote a b (waiting ++ with_line_ends (article_line id heads bodies ∷ more)) (rest ++ with_line_ends more)
-Article-first a b waiting id m heads n bodies more rest e f g =
-    Lines-first a b waiting (article_line id heads bodies ∷ []) more rest (rw (e, f) at g)
+Lines-next a b c whole waiting xs ys rest h g = grind (arith, Wrote-on a b c whole waiting (with_line_ends xs) (with_line_ends ys) rest, with_line_ends-append xs ys)
 
 -- the lines of a spool's limit, where nothing waits before them
 pub Limit-first : (start a b : Option (List ℕ)) (waiting : List ℕ) (limit : Limit) (L : LimitedSpool) (S : Spool) (rest : List ℕ)
     → a ≡ start → waiting ≡ [] → limit ≡ L.limit → S ≡ L.spool
     → Wrote a b (waiting ++ with_line_ends (limit_lines limit)) rest → Wrote start b (spool_text L) (rest ++ with_line_ends (content_lines S))
-Limit-first start a b waiting limit L S rest same none e f g =
-    let first = rw e at g in
-    let all = Lines-first a b waiting (limit_lines L.limit) (content_lines S) rest first in
-    grind arith
+Limit-first start a b waiting limit L S rest same none e f g = grind (arith, Lines-first a b waiting (limit_lines L.limit) (content_lines S) rest)
 
 -- ---- the texts of a loop's items
 
@@ -132,16 +118,15 @@ number_texts = record {
   law = λ x xs. with_line_ends-cons (number_line x.0 (rc_str_bytes x.1)) _;
 }
 
-abbrev pub group_texts : {A : Type 0} → Texts (String A × Numbers)
-group_texts = record {
-  all = λ es. with_line_ends (flat_map group_lines (list_map (λ e. (string_bytes e.0, e.1)) es));
-  one = λ e. with_line_ends (group_lines (string_bytes e.0, e.1));
-  law = λ x xs. with_line_ends-append (group_lines (string_bytes x.0, x.1)) _;
+abbrev pub lines_texts : {X Y : Type 0} → (Y → List (List ℕ)) → (X → Y) → Texts X
+lines_texts lines view = record {
+  all = λ xs. with_line_ends (flat_map lines (list_map view xs));
+  one = λ x. with_line_ends (lines (view x));
+  law = λ x xs. with_line_ends-append (lines (view x)) _;
 }
 
+abbrev pub group_texts : {A : Type 0} → Texts (String A × Numbers)
+group_texts = lines_texts group_lines (λ e. (string_bytes e.0, e.1))
+
 abbrev pub article_texts : {A : Type 0} → Texts (RcStr A × StoredArticle A)
-article_texts = record {
-  all = λ es. with_line_ends (flat_map article_lines (list_map (λ e. (rc_str_bytes e.0, text_stored e.1)) es));
-  one = λ e. with_line_ends (article_lines (rc_str_bytes e.0, text_stored e.1));
-  law = λ x xs. with_line_ends-append (article_lines (rc_str_bytes x.0, text_stored x.1)) _;
-}
+article_texts = lines_texts article_lines (λ e. (rc_str_bytes e.0, text_stored e.1))

@@ -1,13 +1,12 @@
-use Rattle.std.proofs.{Common.{[], ap, ◌∙◌}, lemmas.Result.{err_from_is_err_and}}
-use Rattle.nntp_spool.{specs.Inner.Buffering.{waiting}, proofs.Written.{Wrote-first, Writes-last}}
+use Rattle.std.proofs.Common.{[], ap, ◌∙◌}
+use Rattle.nntp_spool.{specs.Inner.Buffering.{waiting}, proofs.Written.{Wrote-first, Writes-last, stopped}}
 use Rattle.nntp_spool.proofs.buffered_output.BufferedOutput.put.Goals as goal
 
 pub returns-in_err-hand_on-clause-text : goal.returns-in_err-hand_on-clause-text
 returns-in_err-hand_on-clause-text g c =
-    let p = err_from_is_err_and c.from_residual.result c.from_residual.ensures.1 in
     let w = c.in_err-hand_on.ensures.text in
     let kept = ap (λ v. v.items) c.in-Err.ensures.err in
-    rw p.1 (_, Wrote-first _ _ [] (waiting c.args.self.now) c.args.octets.now w.0 (rw kept at w.1))
+    stopped c.from_residual.result _ _ _ _ _ c.from_residual.ensures.1 (_, Wrote-first _ _ [] (waiting c.args.self.now) c.args.octets.now w.0 (rw kept at w.1))
 
 pub returns-in-Err-try_extend_from_slice-clause-text : goal.returns-in-Err-try_extend_from_slice-clause-text
 returns-in-Err-try_extend_from_slice-clause-text g c =

@@ -1,5 +1,5 @@
 use Rattle.std.proofs.Common.{arith}
-use Rattle.nntp_spool.proofs.Decimals.{value_more, value_past, digit_least}
+use Rattle.nntp_spool.proofs.LineFields.{value_more, value_past, digit_least}
 use Rattle.nntp_spool.proofs.text.fields.value.Goals as goal
 
 pub returns-in_default : goal.returns-in_default

@@ -1,15 +1,14 @@
-use Rattle.std.{proofs.{Common.{T, arith, sym, subst, ap, map as list_map}, lemmas.{Result.{err_from_is_err_and}, List.{drop_more}}}, specs.List.{flat_map}}
-use Rattle.std.specs.{Cmp.Lexicographic.{nat_list_cmp_total}, Rc.{rc_str_bytes}}
-use Rattle.nntp_spool.{specs.{Text.{with_line_ends, article_lines}, Inner.ArticleLines.{text_stored}}, proofs.{ShownMaps.{octet_keys}, Written.{starts}}}
-use Rattle.nntp_spool.proofs.Written.{goes_on, stops, article_texts}
+use Rattle.std.{proofs.{Common.{T, arith, sym, subst, ap, map as list_map}, lemmas.List.{drop_more}}, specs.Cmp.Lexicographic.{nat_list_cmp_total}}
+use Rattle.std.specs.{List.{flat_map}, Rc.{rc_str_bytes}}
 use Rattle.nntp_wire.proofs.ShownMaps.{entries-from_entries}
+use Rattle.nntp_spool.{specs.{Inner.ArticleLines.{text_stored}, Text.{with_line_ends, article_lines}}, proofs.{ShownMaps.{octet_keys}, Written.{starts}}}
+use Rattle.nntp_spool.proofs.Written.{stopped, goes_on, stops, article_texts}
 use Rattle.nntp_spool.proofs.text.write.put_articles.Goals as goal
 
 pub returns-in_err-put_article-clause-text : goal.returns-in_err-put_article-clause-text
 returns-in_err-put_article-clause-text g c =
-    let p = err_from_is_err_and c.from_residual.result c.from_residual.ensures.1 in
     let first = drop_more c.args.articles.now c.loop-article.article-index c.article-item.result c.loop-article-test.true in
-    rw p.1 (stops article_texts _ _ _ _ _ _ _ _ first (grind arith) c.loop-article.invariant _ c.in_err-put_article.ensures.text)
+    stopped c.from_residual.result _ _ _ _ _ c.from_residual.ensures.1 (stops article_texts _ _ _ _ _ _ _ _ first (grind arith) c.loop-article.invariant _ c.in_err-put_article.ensures.text)
 
 pub loop-article-preserved : goal.loop-article-preserved
 loop-article-preserved g c =

@@ -1,12 +1,12 @@
-use Rattle.std.{proofs.{Common.{arith, refl, sym, ◌∙◌, ap}, lemmas.Result.{err_from_is_err_and}}, specs.List.{flat_map}}
-use Rattle.nntp_spool.{specs.{Text.{with_line_ends, article_lines}, Inner.ArticlesView.{articles_shown}}, proofs.ShownMaps.{article_entries}}
-use Rattle.nntp_spool.proofs.Written.{starts, goes_on, stops, article_texts}
+use Rattle.std.{proofs.Common.{arith, refl, sym, ◌∙◌, ap}, specs.List.{flat_map}}
+use Rattle.nntp_spool.{specs.{Inner.ArticlesView.{articles_shown}, Text.{with_line_ends, article_lines}}, proofs.ShownMaps.{article_entries}}
+use Rattle.nntp_spool.proofs.Written.{starts, goes_on, stops, article_texts, stopped}
 use Rattle.nntp_spool.proofs.text.write.put_articles_of_map.Goals as goal
 
 pub returns-in_err-put_article-clause-text : goal.returns-in_err-put_article-clause-text
 returns-in_err-put_article-clause-text g c =
-    let p = err_from_is_err_and c.from_residual.result c.from_residual.ensures.1 in
-    rw p.1 (stops article_texts _ _ _ _ _ _ _ _ c.in-Some.ensures.steps (grind arith) c.loop-id.invariant _ c.in_err-put_article.ensures.text)
+    stopped c.from_residual.result _ _ _ _ _ c.from_residual.ensures.1
+    (stops article_texts _ _ _ _ _ _ _ _ c.in-Some.ensures.steps (grind arith) c.loop-id.invariant _ c.in_err-put_article.ensures.text)
 
 pub loop-id-preserved : goal.loop-id-preserved
 loop-id-preserved g c =

@@ -1,5 +1,5 @@
-use Rattle.std.proofs.{Common.{arith, refl}, lemmas.Result.{err_from_is_err_and}}
-use Rattle.nntp_spool.proofs.Written.{starts, goes_on, stops, barred_texts}
+use Rattle.std.proofs.Common.{arith, refl}
+use Rattle.nntp_spool.proofs.Written.{starts, goes_on, stops, barred_texts, stopped}
 use Rattle.nntp_spool.proofs.text.write.put_barred_lines.Goals as goal
 
 pub loop-line-init : goal.loop-line-init
@@ -7,8 +7,8 @@ loop-line-init g c = starts _ _ _ _ (grind arith)
 
 pub returns-in_err-put_pieces-clause-text : goal.returns-in_err-put_pieces-clause-text
 returns-in_err-put_pieces-clause-text g c =
-    let p = err_from_is_err_and c.from_residual.result c.from_residual.ensures.1 in
-    rw p.1 (stops barred_texts _ _ _ _ _ _ c.in-Some.line.now _ c.in-Some.ensures.steps refl c.loop-line.invariant _ c.in_err-put_pieces.ensures.text)
+    stopped c.from_residual.result _ _ _ _ _ c.from_residual.ensures.1
+    (stops barred_texts _ _ _ _ _ _ c.in-Some.line.now _ c.in-Some.ensures.steps refl c.loop-line.invariant _ c.in_err-put_pieces.ensures.text)
 
 pub loop-line-preserved : goal.loop-line-preserved
 loop-line-preserved g c =

@@ -2,9 +2,6 @@ use Rattle.std.{proofs.Common.{arith, ◌≡◌, ◌∙◌}, specs.Rc.{rc_str_by
 use Rattle.nntp_spool.proofs.NumberIds.{one_passed, listed_id, all_passed}
 use Rattle.nntp_spool.proofs.value.numbers.ids_of.Goals as goal
 
-pub loop-numbered-init : goal.loop-numbered-init
-loop-numbered-init g c id = grind arith
-
 pub loop-numbered-preserved : goal.loop-numbered-preserved
 loop-numbered-preserved g c id =
     let same : rc_str_bytes c.in_ok-clone.field-0 ≡ rc_str_bytes c.numbered-item.result.1 = grind arith in

@@ -1,6 +1,6 @@
 use Rattle.std.proofs.Common.{◌≡◌, length}
 use Rattle.nntp_article.specs.Inner.Listed.{lists}
-use Rattle.nntp_spool.{specs.Inner.AskedCounts.{AreCounted}, proofs.HeldFacts.{AreLeft}}
+use Rattle.nntp_spool.{specs.Inner.AskedCounts.{AreCounted}, proofs.AnswersInFacts.{AreLeft}}
 use Rattle.nntp_spool.proofs.verification.holding.hold.Given as goal
 
 abbrev pub invariant-loop-fact : goal.invariant-loop-fact

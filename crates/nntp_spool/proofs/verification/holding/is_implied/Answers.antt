@@ -1,5 +1,5 @@
 use Rattle.std.specs.Prelude.{option_map}
-use Rattle.nntp_spool.proofs.HeldFacts.{first_implied}
+use Rattle.nntp_spool.proofs.AnswersInFacts.{first_implied}
 use Rattle.nntp_spool.proofs.verification.holding.is_implied.Goals as goal
 
 pub returns-then-sends_nothing : goal.returns-then-sends_nothing

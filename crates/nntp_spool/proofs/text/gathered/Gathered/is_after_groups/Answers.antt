@@ -1,6 +1,6 @@
 use Rattle.std.{proofs.Common.{◌-◌, length, ap, ◌∙◌}, specs.{List.{slice_get}, Ordering.{nat_cmp, is_lt}, Cmp.Lexicographic.{slice_cmp, nat_list_cmp_total}}}
 use Rattle.std.specs.String.{string_bytes}
-use Rattle.nntp_spool.proofs.{GatheredEntries.{last_listed, none_listed}, GreatestKeys.{none_shown}, ShownMaps.{octet_keys}}
+use Rattle.nntp_spool.proofs.{GatheredEntries.{last_listed, none_listed, none_shown}, ShownMaps.{octet_keys}}
 use Rattle.nntp_spool.proofs.text.gathered.Gathered.is_after_groups.Goals as goal
 
 pub returns-in-Some : goal.returns-in-Some

@@ -1,6 +1,6 @@
 use Rattle.std.{proofs.{Common.{◌<◌, ◌-◌, length, sym, ap, ◌∙◌, arith}, lemmas.{Bool.{true≢false}, List.{nil_from_length}}}, specs.List.{slice_get}}
 use Rattle.std.specs.{Ordering.{nat_cmp}, Cmp.Lexicographic.{slice_cmp, nat_list_cmp_total}, Rc.{rc_str_bytes}}
-use Rattle.nntp_spool.{specs.Inner.ArticleLines.{text_stored}, proofs.{GatheredEntries.{last_listed, none_listed}, GreatestKeys.{last_shown, none_shown}}}
+use Rattle.nntp_spool.{specs.Inner.ArticleLines.{text_stored}, proofs.GatheredEntries.{last_listed, none_listed, last_shown, none_shown}}
 use Rattle.nntp_spool.proofs.ShownMaps.{octet_keys}
 use Rattle.nntp_spool.proofs.value.articles.Articles.is_after.Goals as goal
 

@@ -1,6 +1,6 @@
 use Rattle.std.{proofs.Common.{is_some, option_map, ap, sym, ◌∙◌}, specs.{Ordering.{nat_cmp}, Cmp.Lexicographic.{slice_cmp, nat_list_cmp_total}}}
 use Rattle.std.specs.Rc.{rc_str_bytes}
-use Rattle.nntp_spool.{specs.Inner.{ArticleLines.{text_stored}, ArticlesView.{entries_held}}, proofs.TextKeys.{no_key}}
+use Rattle.nntp_spool.{specs.Inner.{ArticleLines.{text_stored}, ArticlesView.{entries_held}}, proofs.ShownMaps.{no_key}}
 use Rattle.nntp_wire.proofs.ShownMaps.{get-shown}
 use Rattle.std.specs.FinMap as map
 use Rattle.nntp_spool.proofs.value.articles.Articles.knows.Goals as goal

@@ -9,12 +9,4 @@ invariant_of-self g c =
     rw c.in-Ok-true.ensures.ok (number_added _ _ c.self.invariant _ _ _ faultless)
 
 pub invariant_of-self-in-Ok-false : goal.invariant_of-self-in-Ok-false
-invariant_of-self-in-Ok-false g c =
-    let faultless = ap (λ b. place_fault (greatest b.limit) b.spool c.args.name.now c.args.number (rc_str_bytes c.args.id.now)) c.self.view_is ∙ c.requires.faultless in
-    rw c.in-Ok-false.ensures.ok (number_added _ _ c.self.invariant _ _ _ faultless)
-
-pub returns-in-Ok-true : goal.returns-in-Ok-true
-returns-in-Ok-true g c = grind arith
-
-pub returns-in-Ok-false : goal.returns-in-Ok-false
-returns-in-Ok-false g c = search arith
+invariant_of-self-in-Ok-false g c = search (arith, number_added)

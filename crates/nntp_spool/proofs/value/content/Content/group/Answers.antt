@@ -2,9 +2,6 @@ use Rattle.std.{proofs.Common.{Some, sym, ap, ◌∙◌}, specs.Prelude.{option_
 use Rattle.nntp_spool.proofs.ShownMaps.{group_got}
 use Rattle.nntp_spool.proofs.value.content.Content.group.Goals as goal
 
-pub or-requires : goal.or-requires
-or-requires g c = c.self.invariant.1
-
 pub returns-in-Some : goal.returns-in-Some
 returns-in-Some g c =
     ap Some c.or.ensures ∙ ap option_copied (sym c.in-Some.is) ∙ c.get.ensures.value ∙ group_got _ _ c.args.name.now (ap (λ s. s.groups) c.self.view_is)

@@ -1,9 +1,6 @@
 use Rattle.std.{proofs.Common.{Some, sym, ap, ◌∙◌}, specs.Prelude.{option_copied}}
-use Rattle.nntp_spool.proofs.{TextKeys.{no_name}, ShownMaps.{group_got}}
+use Rattle.nntp_spool.proofs.ShownMaps.{no_name, group_got}
 use Rattle.nntp_spool.proofs.value.content.Content.group_named.Goals as goal
-
-pub or-requires : goal.or-requires
-or-requires g c = c.self.invariant.1
 
 pub returns-in-Some-clause-numbers : goal.returns-in-Some-clause-numbers
 returns-in-Some-clause-numbers g c = rw (← c.in-Ok.ensures.cases.0) (

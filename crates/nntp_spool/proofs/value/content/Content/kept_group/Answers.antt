@@ -1,9 +1,6 @@
 use Rattle.std.{proofs.Common.{Some, sym, ap, ◌∙◌}, specs.{Prelude.{option_map}, String.{string_bytes}}}
-use Rattle.nntp_spool.proofs.{TextKeys.{no_name}, ShownMaps.{group_got, octet_keys}}
+use Rattle.nntp_spool.proofs.ShownMaps.{no_name, group_got, octet_keys}
 use Rattle.nntp_spool.proofs.value.content.Content.kept_group.Goals as goal
-
-pub or-requires : goal.or-requires
-or-requires g c = c.self.invariant.1
 
 pub returns-in-Some-clause-numbers : goal.returns-in-Some-clause-numbers
 returns-in-Some-clause-numbers g c = rw (← c.in-Ok.ensures.cases.0) (

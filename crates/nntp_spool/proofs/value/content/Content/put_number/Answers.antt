@@ -1,34 +1,23 @@
-use Rattle.std.{proofs.{Common.{is_some, ap, sym, ◌∙◌}, lemmas.{Bool.{true≢false}, Result.{on_ok_weaker, on_err_weaker}}}, specs.Option.{option_copied_mut}}
-use Rattle.std.specs.{Ordering.{nat_cmp}, Cmp.Lexicographic.{slice_cmp, nat_list_cmp_total}, Rc.{rc_str_bytes}, String.{string_bytes}}
+use Rattle.std.{proofs.{Common.{is_some, ap, sym, ◌∙◌}, lemmas.{Bool.{true≢false}, Result.{on_ok_weaker, on_err_weaker}}}, specs.Cmp.Lexicographic.{slice_cmp}}
+use Rattle.std.specs.{Cmp.Lexicographic.{nat_list_cmp_total}, Option.{option_copied_mut}, Ordering.{nat_cmp}, Rc.{rc_str_bytes}, String.{string_bytes}}
 use Rattle.nntp_wire.proofs.ShownMaps.{replaced, insert-same}
 use Rattle.nntp_spool.proofs.{BuiltContent.{number_in_group}, ShownMaps.{octet_keys, spool_is, group_got}}
 use Rattle.std.specs.FinMap as map
 use Rattle.nntp_spool.proofs.value.content.Content.put_number.Goals as goal
 
-pub returns-in_default-clause-added : goal.returns-in_default-clause-added
-returns-in_default-clause-added g c =
-    let none = ap option_copied_mut (sym c.in_default.is) ∙ c.get_mut.ensures.value ∙ group_got _ c.args.self.now.groups c.args.name.now (ap (λ s. s.groups) c.self.view_is) in
-    absurd (true≢false (sym c.requires.0 ∙ ap is_some (sym none)))
-
-pub returns-in_default-clause-ok : goal.returns-in_default-clause-ok
-returns-in_default-clause-ok g c =
+pub returns-in_default : goal.returns-in_default
+returns-in_default g c =
     let none = ap option_copied_mut (sym c.in_default.is) ∙ c.get_mut.ensures.value ∙ group_got _ c.args.self.now.groups c.args.name.now (ap (λ s. s.groups) c.self.view_is) in
     absurd (true≢false (sym c.requires.0 ∙ ap is_some (sym none)))
 
 pub put-requires : goal.put-requires
-put-requires g c =
-    let here = sym (c.in-Some.ensures.value ∙ group_got _ c.args.self.now.groups c.args.name.now (ap (λ s. s.groups) c.self.view_is)) in
-    rw here at c.requires.1
+put-requires g c = rw (sym (c.in-Some.ensures.value ∙ group_got _ c.args.self.now.groups c.args.name.now (ap (λ s. s.groups) c.self.view_is))) at c.requires.1
 
 pub returns-clause-added : goal.returns-clause-added
-returns-clause-added g c =
-    let here = sym (c.in-Some.ensures.value ∙ group_got _ c.args.self.now.groups c.args.name.now (ap (λ s. s.groups) c.self.view_is)) in
-    rw here c.put.ensures.added
+returns-clause-added g c = rw (sym (c.in-Some.ensures.value ∙ group_got _ c.args.self.now.groups c.args.name.now (ap (λ s. s.groups) c.self.view_is))) c.put.ensures.added
 
 pub returns-clause-absent : goal.returns-clause-absent
-returns-clause-absent g c =
-    let here = sym (c.in-Some.ensures.value ∙ group_got _ c.args.self.now.groups c.args.name.now (ap (λ s. s.groups) c.self.view_is)) in
-    rw here c.put.ensures.absent
+returns-clause-absent g c = rw (sym (c.in-Some.ensures.value ∙ group_got _ c.args.self.now.groups c.args.name.now (ap (λ s. s.groups) c.self.view_is))) c.put.ensures.absent
 
 pub returns-clause-ok : goal.returns-clause-ok
 returns-clause-ok g c =

@@ -1,11 +1,11 @@
-use Rattle.std.{proofs.{Common.{sym, ◌∙◌, ap}, lemmas.Result.{err_from_is_err_and}}, specs.List.{flat_map}}
-use Rattle.nntp_spool.{specs.Text.{with_line_ends, group_lines}, proofs.{ShownMaps.{group_entries}, Written.{starts, goes_on, stops, group_texts}}}
+use Rattle.std.{proofs.Common.{sym, ◌∙◌, ap}, specs.List.{flat_map}}
+use Rattle.nntp_spool.{specs.Text.{with_line_ends, group_lines}, proofs.{ShownMaps.{group_entries}, Written.{starts, goes_on, stops, group_texts, stopped}}}
 use Rattle.nntp_spool.proofs.value.content.Content.write_groups.Goals as goal
 
 pub returns-in_err-put_group-clause-text : goal.returns-in_err-put_group-clause-text
 returns-in_err-put_group-clause-text g c =
-    let p = err_from_is_err_and c.from_residual.result c.from_residual.ensures.1 in
-    rw p.1 (stops group_texts _ _ _ _ _ _ _ _ c.in-Some.ensures.steps (λ i. with_line_ends (group_lines (c.as_bytes.ensures.value i, c.or.ensures i))) c.loop-name.invariant _
+    stopped c.from_residual.result _ _ _ _ _ c.from_residual.ensures.1
+    (stops group_texts _ _ _ _ _ _ _ _ c.in-Some.ensures.steps (λ i. with_line_ends (group_lines (c.as_bytes.ensures.value i, c.or.ensures i))) c.loop-name.invariant _
     c.in_err-put_group.ensures.text)
 
 pub loop-name-preserved : goal.loop-name-preserved

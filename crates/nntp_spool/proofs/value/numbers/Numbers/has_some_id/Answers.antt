@@ -1,10 +1,6 @@
 use Rattle.std.proofs.{Common.{length, ap, sym, ◌∙◌}, lemmas.Bool.{true≢false}}
-use Rattle.nntp_spool.{specs.{Numbers.{has_id}, Inner.Numbers.{numbers_shown}}, proofs.NumberIds.{any_known, known_are}}
+use Rattle.nntp_spool.{specs.Numbers.{has_id}, proofs.NumberIds.{any_known, known_are}}
 use Rattle.nntp_spool.proofs.value.numbers.Numbers.has_some_id.Goals as goal
-
-pub returns-then-is_empty : goal.returns-then-is_empty
-returns-then-is_empty g c =
-    c.is_among.ensures ∙ ap (λ ids. has_id (numbers_shown ids) c.args.id.now) c.deref.ensures.value ∙ ap (λ N. has_id N c.args.id.now) c.self.view_is
 
 pub returns-else-is_empty : goal.returns-else-is_empty
 returns-else-is_empty g c =

@@ -1,5 +1,5 @@
 use Rattle.std.specs.Cmp.{nat_cmp_total}
-use Rattle.nntp_spool.proofs.GreatestKeys.{last_number, none_last}
+use Rattle.nntp_spool.proofs.GatheredEntries.{last_number, none_last}
 use Rattle.std.specs.FinMap as map
 use Rattle.nntp_spool.proofs.value.numbers.Numbers.is_after.Goals as goal
 

@@ -1,4 +1,4 @@
-use Rattle.nntp_spool.proofs.ShownNumbers.{least_is, none_is, nothing}
+use Rattle.nntp_spool.proofs.{GatheredEntries.{nothing}, ShownNumbers.{least_is, none_is}}
 use Rattle.nntp_spool.proofs.value.numbers.Numbers.least.Goals as goal
 
 pub returns-in-Some : goal.returns-in-Some

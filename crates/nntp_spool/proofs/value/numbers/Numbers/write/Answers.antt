@@ -1,14 +1,12 @@
-use Rattle.std.proofs.{Common.{arith, sym, ◌∙◌, ap, map as list_map}, lemmas.{Simd.{map-map}, Result.{err_from_is_err_and}, List.{drop_more}}}
-use Rattle.std.specs.Rc.{rc_str_bytes}
-use Rattle.nntp_spool.{specs.Text.{with_line_ends, number_line}, proofs.{ShownNumbers.{each_entry}, Written.{starts, goes_on, stops, number_texts}}}
+use Rattle.std.{proofs.{Common.{arith, sym, ◌∙◌, ap, map as list_map}, lemmas.{List.{drop_more}, Simd.{map-map}}}, specs.Rc.{rc_str_bytes}}
+use Rattle.nntp_spool.{specs.Text.{with_line_ends, number_line}, proofs.{ShownNumbers.{each_entry}, Written.{starts, goes_on, stops, number_texts, stopped}}}
 use Rattle.std.specs.FinMap as map
 use Rattle.nntp_spool.proofs.value.numbers.Numbers.write.Goals as goal
 
 pub returns-in_err-put_number_line-clause-text : goal.returns-in_err-put_number_line-clause-text
 returns-in_err-put_number_line-clause-text g c =
-    let p = err_from_is_err_and c.from_residual.result c.from_residual.ensures.1 in
     let first = drop_more c.deref-numbered-items.result.now c.loop-numbered.numbered-index c.numbered-item.result c.loop-numbered-test.true in
-    rw p.1 (stops number_texts _ _ _ _ _ _ _ _ first (grind arith) c.loop-numbered.invariant _ c.in_err-put_number_line.ensures.text)
+    stopped c.from_residual.result _ _ _ _ _ c.from_residual.ensures.1 (stops number_texts _ _ _ _ _ _ _ _ first (grind arith) c.loop-numbered.invariant _ c.in_err-put_number_line.ensures.text)
 
 pub loop-numbered-preserved : goal.loop-numbered-preserved
 loop-numbered-preserved g c =
