@@ -1,6 +1,6 @@
 -- An answer that closes the connection is never refused.
-use Rattle.std.proofs.Common.{◌≡◌, ◌⊎◌, ◌∙◌, ◌==◌, ◌||◌, ℕ, Bool, true, false, IsTrue, List, [], ◌∷◌, ◌++◌, append-nil, arith, map, refl, sym, ap, subst}
-use Rattle.std.{proofs.lemmas.Bool.{true≢false, Decides.{nat_tests}}, specs.List.{AllByRecursion}}
+use Rattle.std.proofs.Common.{◌≡◌, ◌⊎◌, ◌∙◌, ◌==◌, ◌||◌, ℕ, true, false, inl, inr, IsTrue, List, [], ◌∷◌, ◌++◌, append-nil, arith, map, refl, sym, ap, subst}
+use Rattle.std.{proofs.lemmas.Bool.{true≢false, cases_Bool, Decides.{nat_tests}}, specs.List.{AllByRecursion}}
 use Rattle.nntp_wire.specs.{Answer.{Asked, Response, greeting, to, plain}, Session.{closes}, Command.{Request, mode_reader, quit}}
 use Rattle.nntp_article.specs.{declared.session.profile.Profile.{Profile}, Session.Machine.{Visible, fits, start}}
 use Rattle.nntp_pair.specs.Pairing.{Paired, asked_at}
@@ -51,7 +51,7 @@ module _ (profile : Profile) (facts : FactsKept) (earlier : List (List Paired)) 
 
   -- and it isn't refused
   pub never_refused : (ArePermittedBehind profile earlier (past ++ pair ∷ []) → ⊥) → closes (asked_at pair.place) pair.response ≡ false
-  never_refused none = by (closes (asked_at pair.place) pair.response) refl where
-    by : (b : Bool) → closes (asked_at pair.place) pair.response ≡ b → closes (asked_at pair.place) pair.response ≡ false
-    by true is = absurd (is_permitted is none)
-    by false is = is
+  never_refused none = elim (cases_Bool (closes (asked_at pair.place) pair.response)) [
+    | inl closing ↦ absurd (is_permitted closing none)
+    | inr is ↦ is
+  ]

@@ -1,10 +1,7 @@
-pub mod AnswerLemmas
-pub mod SessionLemmas
-pub mod ExplainLemmas
-pub mod EndLemmas
-pub mod SaysLemmas
-pub mod ConflictLemmas
-pub mod ReasonsGoOn
-pub mod OneSession
+pub mod SessionAnswers
+pub mod ToldAnswers
+pub mod ReadSessions
+pub mod SaidLines
+pub mod ContradictionReasons
 pub mod LowMarks
 pub mod ClosingAnswers

@@ -1,5 +1,5 @@
 use Rattle.std.specs.Prelude.{codes}
-use Rattle.nntp_explain.{specs.Says.{current_place}, proofs.SaysLemmas.{one_more}}
+use Rattle.nntp_explain.{specs.Says.{current_place}, proofs.SaidLines.{one_more}}
 use Rattle.nntp_explain.proofs.ask.put_no_current.Goals as goal
 
 pub returns : goal.returns

@@ -1,6 +1,6 @@
-use Rattle.std.{proofs.Common.{◌∙◌, ◌++◌, ap}, specs.List.{flat_map}}
+use Rattle.std.{proofs.{lemmas.Result.{on_ok_weaker}, Common.{◌∙◌, ◌++◌, ap}}, specs.List.{flat_map}}
 use Rattle.nntp_facts.specs.{Inner.PointView.{point_of}, Standing.{stands_of}}
-use Rattle.nntp_explain.{specs.{Reasons.{about_line, rest_line}, Says.{said_lines, reason_lines, told_line}}, proofs.SaysLemmas.{on_ok, conflict_told}}
+use Rattle.nntp_explain.{specs.{Reasons.{about_line, rest_line}, Says.{said_lines, reason_lines, told_line}}, proofs.SaidLines.{conflict_told}}
 use Rattle.nntp_explain.proofs.conflict.put_conflict.Goals as goal
 
 pub returns : goal.returns
@@ -8,7 +8,7 @@ returns g c =
     let point = point_of c.args.point in
     let answers = c.args.answers.now in
     let core = c.args.core.now in
-    on_ok c.put_reasons.result
+    on_ok_weaker c.put_reasons.result
     (λ put. conflict_told c.args.text.now.items (about_line point) (rest_line c.args.here answers core.rest) (λ k. said_lines c.args.how k point (stands_of c.args.bad.now))
     (λ k. flat_map (reason_lines c.args.here c.args.how k point answers) core.places)
     c.told_line-line.result (told_line point (stands_of c.args.bad.now) answers core.places) c.put_about.new.text.items c.put_said.new.text.items c.put_rest.new.text.items c.put_reasons.new.text.items

@@ -1,4 +1,4 @@
-use Rattle.nntp_explain.proofs.OneSession.{alone_of_all, all_of_alone}
+use Rattle.nntp_explain.proofs.ReadSessions.{alone_of_all, all_of_alone}
 use Rattle.nntp_explain.proofs.laws.one_session_is_explained_alone.Goals as goal
 
 pub returns : goal.returns

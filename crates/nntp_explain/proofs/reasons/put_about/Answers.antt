@@ -1,29 +1,24 @@
-use Rattle.std.{proofs.Common.{arith, ◌++◌, ◌∙◌, ap, sym}, specs.Prelude.{codes}}
+use Rattle.std.{proofs.{lemmas.Result.{on_ok_weaker}, Common.{◌∙◌, ap, sym}}, specs.Prelude.{codes}}
 use Rattle.nntp_facts.specs.Inner.PointView.{point_of}
-use Rattle.nntp_explain.{specs.Reasons.{about_line, octets_line}, proofs.SaysLemmas.{on_ok, line_told}}
+use Rattle.nntp_explain.{specs.Reasons.{about_line, octets_line}, proofs.SaidLines.{line_told}}
 use Rattle.nntp_explain.proofs.reasons.put_about.Goals as goal
 
 pub returns-in-Group : goal.returns-in-Group
 returns-in-Group g c =
-    on_ok c.put_escaped_line-in-Group.result
+    on_ok_weaker c.put_escaped_line-in-Group.result
     (λ put. line_told c.args.text.now.items (codes "about group ") c.as_slice.result.now (about_line (point_of c.args.point.now)) c.put_escaped_line-in-Group.new.text.items put
     (ap (octets_line (codes "about group ")) c.as_slice.ensures.value ∙ ap (λ p. about_line (point_of p)) (sym c.in-Group.is)))
     c.put_escaped_line-in-Group.ensures
 
 pub returns-in-Number : goal.returns-in-Number
-returns-in-Number g c =
-    on_ok c.put_named_number.result (λ put. put ∙ ap (λ p. c.args.text.now.items ++ about_line (point_of p)) (sym c.in-Number.is)) c.put_named_number.ensures
-
-pub returns-in-IdOf : goal.returns-in-IdOf
-returns-in-IdOf g c = grind (arith, on_ok)
+returns-in-Number g c = rw c.in-Number.is c.put_named_number.ensures
 
 pub returns-in-PlaceOf : goal.returns-in-PlaceOf
-returns-in-PlaceOf g c =
-    on_ok c.put_named_id.result (λ put. put ∙ ap (λ p. c.args.text.now.items ++ about_line (point_of p)) (sym c.in-PlaceOf.is)) c.put_named_id.ensures
+returns-in-PlaceOf g c = rw c.in-PlaceOf.is c.put_named_id.ensures
 
 pub returns-in-Article : goal.returns-in-Article
 returns-in-Article g c =
-    on_ok c.put_escaped_line-in-Article.result
+    on_ok_weaker c.put_escaped_line-in-Article.result
     (λ put. line_told c.args.text.now.items (codes "about article ") c.in-Article.id.now (about_line (point_of c.args.point.now)) c.put_escaped_line-in-Article.new.text.items put
     (ap (λ p. about_line (point_of p)) (sym c.in-Article.is)))
     c.put_escaped_line-in-Article.ensures

@@ -1,5 +1,5 @@
-use Rattle.std.{proofs.Common.{◌≡◌, ◌≢◌, ◌∙◌, ◌++◌, ap, append_assoc, arith, ℕ, List}, specs.Prelude.{codes, decimal}}
-use Rattle.nntp_explain.{specs.Reasons.{session_text}, proofs.SaysLemmas.{on_ok}}
+use Rattle.std.{proofs.{lemmas.Result.{on_ok_weaker}, Common.{◌≡◌, ◌≢◌, ◌∙◌, ◌++◌, ap, append_assoc, arith, ℕ, List}}, specs.Prelude.{codes, decimal}}
+use Rattle.nntp_explain.specs.Reasons.{session_text}
 use Rattle.nntp_explain.proofs.reasons.put_answer.Goals as goal
 
 -- the session is another one
@@ -12,7 +12,7 @@ joined text label index word number one two e1 e2 = rw (e2, e1) (simp append_ass
 pub returns : goal.returns
 returns g c =
     let answer = c.args.answer.now in
-    on_ok c.put_number-2.result
+    on_ok_weaker c.put_number-2.result
     (λ put. joined c.args.text.now.items c.args.label.now (decimal answer.exchange.index) (codes " of session ") (decimal answer.session) c.put_number.new.text.items c.put_number-2.new.text.items
     (c.in_ok-put_number.ensures ∙ ap (λ n. c.args.text.now.items ++ c.args.label.now ++ decimal n) c.index.ensures.value) put
     ∙ ap (λ t. c.args.text.now.items ++ c.args.label.now ++ (decimal answer.exchange.index ++ t)) (another c.args.here answer.session c.if-answer-here.false))

@@ -1,5 +1,5 @@
 use Rattle.std.specs.Prelude.{codes}
-use Rattle.nntp_explain.{specs.Reasons.{field_text}, proofs.SaysLemmas.{line_ended}}
+use Rattle.nntp_explain.{specs.Reasons.{field_text}, proofs.SaidLines.{line_ended}}
 use Rattle.nntp_explain.proofs.reasons.put_field_line.Goals as goal
 
 pub returns : goal.returns

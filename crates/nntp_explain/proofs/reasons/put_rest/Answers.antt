@@ -1,4 +1,4 @@
-use Rattle.nntp_explain.proofs.AnswerLemmas.{rest_told}
+use Rattle.nntp_explain.proofs.SessionAnswers.{rest_told}
 use Rattle.nntp_explain.proofs.reasons.put_rest.Goals as goal
 
 pub returns : goal.returns

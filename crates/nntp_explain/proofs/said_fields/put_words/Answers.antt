@@ -1,13 +1,9 @@
-use Rattle.nntp_explain.proofs.SaysLemmas.{words_begin, word_told}
+use Rattle.std.proofs.Common.{rules}
+use Rattle.nntp_explain.proofs.SaidLines.{words_begin, word_told}
 use Rattle.nntp_explain.proofs.said_fields.put_words.Goals as goal
 
 pub loop-word-init : goal.loop-word-init
-loop-word-init g c = (
-  tt,
-  tt,
-  words_begin c.args.text.now.items c.args.first.now c.into_iter-word-iterator.result c.args.more c.put_front.new.text.items c.in_ok-room.room
-      c.into_iter-word-iterator.ensures.into_iter_gives c.in_ok-room.ensures.front c.in_ok-room.ensures.left,
-)
+loop-word-init g c = search (rules, words_begin)
 
 pub loop-word-preserved : goal.loop-word-preserved
 loop-word-preserved g c = (

@@ -1,15 +1,13 @@
-use Rattle.std.{proofs.Common.{◌∙◌, ap, refl, sym}, specs.Prelude.{codes}}
+use Rattle.std.{proofs.{Common.{◌∙◌, ap, refl, sym}, lemmas.Result.{on_ok_weaker}}, specs.Prelude.{codes}}
 use Rattle.nntp_said.specs.Facts.{NoArticle}
-use Rattle.nntp_facts.specs.Inner.PointView.{point_of}
 use Rattle.nntp_article.specs.Session.Machine.{is_same}
-use Rattle.nntp_explain.{specs.Reasons.{octets_line}, proofs.SaysLemmas.{on_ok, line_told, told_article}}
+use Rattle.nntp_facts.specs.Inner.PointView.{point_of}
+use Rattle.nntp_explain.proofs.SaidLines.{told_article}
 use Rattle.nntp_explain.proofs.says.put_no_article.Goals as goal
 
 pub returns-in-Article : goal.returns-in-Article
 returns-in-Article g c =
-    on_ok c.put_escaped_line.result
-    (λ put. line_told c.args.text.now.items (codes "says no article ") c.args.id.now _ c.put_escaped_line.new.text.items put
-    (sym (told_article c.args.about.now.line (point_of c.args.about.now.point) c.in-Article.other.now (NoArticle c.args.id.now)
-    (octets_line (codes "says no article ") c.args.id.now) (is_same c.args.id.now c.in-Article.other.now)
-    (ap point_of c.in-Article.is) refl (sym c.is_same.ensures ∙ c.if-is_same.true))))
-    c.put_escaped_line.ensures
+    on_ok_weaker c.put_escaped_line.result
+    (told_article c.args.about.now.line (point_of c.args.about.now.point) c.in-Article.other.now (NoArticle c.args.id.now)
+    c.args.text.now.items (codes "says no article ") c.args.id.now c.put_escaped_line.new.text.items
+    (is_same c.args.id.now c.in-Article.other.now) (ap point_of c.in-Article.is) refl (sym c.is_same.ensures ∙ c.if-is_same.true)) c.put_escaped_line.ensures

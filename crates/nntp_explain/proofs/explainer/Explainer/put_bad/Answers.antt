@@ -1,5 +1,5 @@
 use Rattle.std.proofs.Common.{length-append, arith}
-use Rattle.nntp_explain.proofs.AnswerLemmas.{bad_long}
+use Rattle.nntp_explain.proofs.SessionAnswers.{bad_long}
 use Rattle.nntp_explain.proofs.explainer.Explainer.put_bad.Goals as goal
 
 -- there are no more bad answers than octets of the text

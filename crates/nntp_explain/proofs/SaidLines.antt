@@ -1,33 +1,13 @@
 -- What lines say, one after the other.
 use Rattle.std.proofs.Common.{arith, ◌≡◌, ◌∙◌, ap, refl, sym, ℕ, zero, suc, ◌-◌, Bool, true, cond, List, [], ◌∷◌, ◌++◌, length, take, Option, append_assoc}
-use Rattle.std.{proofs.{Common.{append-nil, Result}, lemmas.List.Concat.{flat_map-append}}, specs.{Prelude.{OnOk, IsTrue, codes, decimal}, List.{flat_map}}}
-use Rattle.std.specs.List.{list_any}
-use Rattle.nntp_article.specs.{Article.{Parts.{Id, Line, is_empty, head_part, body_part}, Fields.{Word}}, Session.Spool.{Name}}
-use Rattle.nntp_wire.specs.{Octets.{space}, Listing.{ActiveValue}}
-use Rattle.nntp_said.specs.{Asks.{Bounds}, Facts.{Fact, Asks, GroupsAre}}
+use Rattle.std.{proofs.{Common.{Result}, lemmas.List.Concat.{flat_map-append}}, specs.{Prelude.{OnOk, IsTrue, codes, if◌then◌else◌}, List.{flat_map, list_any}}}
+use Rattle.std.specs.Result.{is_ok}
+use Rattle.nntp_article.specs.Article.{Parts.{Id, Line, is_empty, head_part, body_part}, Fields.{Word}}
+use Rattle.nntp_wire.specs.Octets.{space}
+use Rattle.nntp_said.specs.Facts.{Fact}
 use Rattle.nntp_theory.specs.Conflict.{Point, Article}
-use Rattle.nntp_explain.specs.{Reasons.{octets_line}, Says.{numbers_said, says, article_line, spaced}}
+use Rattle.nntp_explain.specs.{Reasons.{octets_line}, Says.{says, article_line, spaced}}
 use Rattle.nntp_printing.specs.{Printing.{escaped}, BadAnswer.{shown}}
-
--- the text goes on with them
-pub bounds_told : (name : Name) (about : Option ℕ) (p : Option (List ℕ)) (line : ActiveValue) (left lines : List ActiveValue) (text more whole : List ℕ)
-    → (of : Name) → of ≡ line.name → left ≡ line ∷ lines → more ≡ text ++ numbers_said name about (Asks of (Bounds line.low line.high)) → text ++ numbers_said name about (GroupsAre p left) ≡ whole
-    → more ++ numbers_said name about (GroupsAre p lines) ≡ whole
-bounds_told name about p line left lines text more whole of same is told h = grind (arith, append_assoc, flat_map-append)
-
--- where no line is left, the text is whole
-pub bounds_end : (name : Name) (about : Option ℕ) (p : Option (List ℕ)) (left : List ActiveValue) (text whole : List ℕ)
-    → left ≡ [] → text ++ numbers_said name about (GroupsAre p left) ≡ whole → text ≡ whole
-bounds_end name about p left text whole none h = grind (arith, append-nil)
-
--- the text goes on with what is said of one of these
-pub one_told : {X : Type 0} (says : X → List ℕ) (x : X) (left xs : List X) (text more whole : List ℕ) → left ≡ x ∷ xs → more ≡ text ++ says x → text ++ flat_map says left ≡ whole
-    → more ++ flat_map says xs ≡ whole
-one_told says x left xs text more whole is told h = grind (arith, append_assoc)
-
--- where none is left, the text is whole
-pub all_told : {X : Type 0} (says : X → List ℕ) (left : List X) (text whole : List ℕ) → left ≡ [] → text ++ flat_map says left ≡ whole → text ≡ whole
-all_told says left text whole none h = grind (arith, append-nil)
 
 -- one piece more
 pub one_more : (text s x one two : List ℕ) → one ≡ text ++ s → two ≡ one ++ x → two ≡ text ++ (s ++ x)
@@ -42,33 +22,25 @@ pub three_more : (text s x y z one two : List ℕ) → one ≡ text ++ s → two
 three_more text s x y z one two first second = grind (arith, append_assoc)
 
 -- where no line is empty, all lines are the head, and none is the body
-pub all_head : (lines : List Line) → ¬ (IsTrue (list_any is_empty lines)) → lines ≡ head_part lines
-all_head [] none = refl
-all_head ([] ∷ lines) none = absurd (none refl)
-all_head ((c ∷ cs) ∷ lines) none = ap (λ ls. (c ∷ cs) ∷ ls) (all_head lines none)
+pub no_parts : (lines : List Line) → ¬ (IsTrue (list_any is_empty lines)) → (lines ≡ head_part lines) × ([] ≡ body_part lines)
+no_parts [] none = (refl, refl)
+no_parts ([] ∷ lines) none = absurd (none refl)
+no_parts ((c ∷ cs) ∷ lines) none = let rest = no_parts lines none in (ap (λ ls. (c ∷ cs) ∷ ls) rest.0, rest.1)
 
-pub no_body : (lines : List Line) → ¬ (IsTrue (list_any is_empty lines)) → [] ≡ body_part lines
-no_body [] none = refl
-no_body ([] ∷ lines) none = absurd (none refl)
-no_body ((c ∷ cs) ∷ lines) none = no_body lines none
-
--- what follows where a result is a value
-pub on_ok : {A E P Q : Type 0} (r : Result A E) → (P → Q) → OnOk r P → OnOk r Q
-on_ok r f p = grind arith
-
--- the line of a fact about the id of an article, which is told under a test
-pub told_article : (line : Option ℕ) (point : Point) (other : Id) (fact : Fact) (text : List ℕ) (b : Bool) → point ≡ Article other → article_line other fact ≡ cond b text []
-    → b ≡ true → says line point fact ≡ text
-told_article line point other fact text b is by t = grind arith
+-- a text that goes on, where there is no error
+pub extended : {T E : Type 0} (r : Result T E) (new old more : List ℕ) → new ≡ (if is_ok r then old ++ more else old) → OnOk r (new ≡ old ++ more)
+extended r new old more is = grind arith
 
 -- a line of a label and octets is another text, that is the same
 pub line_told : (text label octets other new : List ℕ) → new ≡ text ++ label ++ escaped octets ++ 10 ∷ [] → octets_line label octets ≡ other → new ≡ text ++ other
 line_told text label octets other new is same = grind (arith, append_assoc)
 
--- a label and a count, and then a line
-pub counted : (text label octets one two w word : List ℕ) (count n : ℕ) → one ≡ text ++ label ++ decimal count → count ≡ n → two ≡ one ++ w ++ escaped octets ++ 10 ∷ [] → w ≡ word
-    → two ≡ text ++ (label ++ decimal n ++ octets_line word octets)
-counted text label octets one two w word count n first count-is second word-is = grind (arith, append_assoc)
+-- a line of a label and octets is what a fact says of an article, which is told under a test
+pub told_article : (line : Option ℕ) (point : Point) (other : Id) (fact : Fact) (text label octets new : List ℕ) (b : Bool) → point ≡ Article other
+    → article_line other fact ≡ cond b (octets_line label octets) [] → b ≡ true → new ≡ text ++ label ++ escaped octets ++ 10 ∷ [] → new ≡ text ++ says line point fact
+told_article line point other fact text label octets new b is by t put =
+    let same = ap (λ b. cond b (octets_line label octets) []) (sym t) ∙ sym by ∙ ap (λ p. says line p fact) (sym is) in
+    line_told text label octets (says line point fact) new put same
 
 -- a line, and another between two texts that hang on a place
 pub conflict_told : (text about rest : List ℕ) (said reasons : Option ℕ → List ℕ) (place told : Option ℕ) (one two three four : List ℕ)
