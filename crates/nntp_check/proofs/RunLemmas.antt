@@ -3,7 +3,7 @@ use Rattle.std.proofs.Common.{◌≡◌, ◌<◌, ◌⊎◌, ◌∙◌, arith, i
 use Rattle.std.{proofs.lemmas.{List.{append-nil, length-map}, Option.{slice_get-get_or, slice_get-map, slice_get_within}}, specs.Prelude.{MatchOption, Vec}}
 use Rattle.std.specs.{Prelude.{unwrap_or}, Io.KnownBytes.{Appends, Keeps}}
 use Rattle.nntp_wire.specs.{Inner.Held.{held as names_in}, declared.{limit.Limit.{Limit}, marks.Marks.{Marks}}}
-use Rattle.nntp_spool.specs.{Writing.{Wrote}, Inner.Writing.{Writes}}
+use Rattle.nntp_store.specs.{Writing.{Wrote}, Inner.Writing.{Writes}}
 use Rattle.nntp_several.specs.Sessions.{Named, Recorded, unnamed}
 use Rattle.nntp_verdict.specs.{Judging.{IsVerdictOfAll, StopsAt}, Verdict.{JudgementOfAll, consistent_of_all, bad_of_all}}
 use Rattle.nntp_pair.specs.declared.pair_error.PairError.{PairError}

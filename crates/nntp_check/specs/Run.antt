@@ -2,8 +2,8 @@
 use Rattle.std.specs.Prelude.{◌≡◌, ◌⊎◌, ℕ, ◌+◌, ◌≤◌, ◌<◌, ◌^◌, Bool, true, false, List, [], ◌++◌, length, take, Option, Result, Ok, Err}
 use Rattle.std.specs.Io.KnownBytes.{Appends, Consumes, IsAtEnd}
 use Rattle.nntp_wire.specs.{declared.{limit.Limit.{Limit}, marks.Marks.{Marks}, overviews.Overviews.{Overviews, TheVariants.{Opaque}}}, Session.{taken}}
-use Rattle.nntp_spool.specs.{Faults.{IsFirstFault}, Limited.{LimitedSpool, IsWithinLimit}, Text.{spool_text}, Watched.{inner_of}, Writing.{Wrote}}
-use Rattle.nntp_spool.specs.declared.{text.read_fault.ReadFault.{ReadFault}, watched.Watched.{Watched}}
+use Rattle.nntp_store.specs.{Faults.{IsFirstFault}, Limited.{LimitedSpool, IsWithinLimit}, Text.{spool_text}, Watched.{inner_of}, Writing.{Wrote}}
+use Rattle.nntp_store.specs.declared.{text.read_fault.ReadFault.{ReadFault}, watched.Watched.{Watched}}
 use Rattle.nntp_article.specs.Session.Limit.{profile_of}
 use Rattle.nntp_several.specs.{Sessions.{unnamed}, Verifying.{VerifiedOfAll, IsVerifiedOfAll}}
 use Rattle.nntp_explain.specs.Explaining.{IsExplanation, IsExplanationOfAll}

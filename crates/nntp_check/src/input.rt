@@ -1,7 +1,7 @@
 //! What a run reads: a capture, to its end.
 ghost use Rattle.std.specs.Prelude.{◌≡◌, ◌↔◌, ◌<◌, [], ℕ, List, length, false, true, IfOk, OnOk, IfErr, IsErrOf};
 ghost use Rattle.nntp_pair.specs.declared.pair_error.PairError.TheVariants.{Memory};
-ghost use Rattle.nntp_spool.specs.Inner.Watched.{has_failed_of};
+ghost use Rattle.nntp_store.specs.Inner.Watched.{has_failed_of};
 ghost use Rattle.nntp_check.specs.Capture.{Held, nothing};
 ghost use Rattle.nntp_check.specs.Run.{read_by, ReadsCapture, IsInputFault};
 ghost use Rattle.nntp_check.specs.Inner.Sinks.{FitBehind, HasRoom, PassesOn, StopsBehind, Takes};

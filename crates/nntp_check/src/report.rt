@@ -3,9 +3,9 @@ ghost use Rattle.std.specs.Prelude.{◌≡◌, ◌+◌, ◌<◌, ◌^◌, ◌++�
 ghost use Rattle.std.specs.Option.{option_copied, option_map};
 ghost use Rattle.nntp_printing.specs.Title.{title_line};
 ghost use Rattle.nntp_several.specs.Inner.VerifyingView.{verified_shown};
-ghost use Rattle.nntp_spool.specs.Watched.{inner_of};
-ghost use Rattle.nntp_spool.specs.Inner.Watched.{has_failed_of};
-ghost use Rattle.nntp_spool.specs.Inner.Writing.{Writes};
+ghost use Rattle.nntp_store.specs.Watched.{inner_of};
+ghost use Rattle.nntp_store.specs.Inner.Watched.{has_failed_of};
+ghost use Rattle.nntp_store.specs.Inner.Writing.{Writes};
 ghost use Rattle.nntp_wire.specs.Inner.Held.{held as names_in};
 ghost use Rattle.nntp_check.specs.Inner.Report.{IsVerifiedWithin, IsWithin, text_behind};
 ghost use Rattle.nntp_check.specs.Report.{answers_text, if_several, names_of, report_of, verified_report};

@@ -2,10 +2,10 @@
 ghost use Rattle.std.specs.Prelude.{◌≡◌, ◌≢◌, ◌↔◌, ◌⊎◌, ◌||◌, ◌++◌, false, true, ℕ, List, [], is_err, length, IfOk, IfErr, IsErrOf};
 ghost use Rattle.std.specs.Io.KnownBytes.{Keeps};
 ghost use Rattle.nntp_several.specs.Inner.VerifyingView.{verified_shown};
-ghost use Rattle.nntp_spool.specs.Watched.{inner_of};
-ghost use Rattle.nntp_spool.specs.Inner.Watched.{has_failed_of};
-ghost use Rattle.nntp_spool.specs.Writing.{Wrote};
-ghost use Rattle.nntp_spool.specs.Inner.Writing.{Writes};
+ghost use Rattle.nntp_store.specs.Watched.{inner_of};
+ghost use Rattle.nntp_store.specs.Inner.Watched.{has_failed_of};
+ghost use Rattle.nntp_store.specs.Writing.{Wrote};
+ghost use Rattle.nntp_store.specs.Inner.Writing.{Writes};
 ghost use Rattle.nntp_check.specs.Inner.Collecting.{held_in, judged_report};
 ghost use Rattle.nntp_check.specs.Inner.Report.{IsWithin, text_behind};
 ghost use Rattle.nntp_check.specs.Report.{is_permitted};

@@ -1,17 +1,11 @@
-//! The spool of a news server: its groups, their article numbers and its articles. A spool is built
-//! call by call, written as text, read back, and put to the streams of a session.
+//! The spool of a news server, put to the streams of a session. What a spool is, how it is built, and
+//! its text are those of nntp_store, and are handed on.
 #![tactic(auto)]
 
-mod buffered_output;
 pub mod laws;
-mod output;
-mod text;
-mod value;
 mod verification;
-mod watched;
 
-pub use output::{WriteFault, put};
-pub use text::{Kind, ReadFault};
-pub use value::{Article, Counts, Spool, SpoolBuilder, SpoolFault};
+pub use nntp_store::{
+    Article, Counts, Kind, ReadFault, Spool, SpoolBuilder, SpoolFault, Watched, WriteFault, put,
+};
 pub use verification::{Verified, verify, verify_taking};
-pub use watched::Watched;

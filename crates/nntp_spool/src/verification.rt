@@ -20,14 +20,13 @@ mod lookups;
 mod sent_lines;
 mod verified;
 
-use crate::value::Spool;
-use crate::value::content::Content;
 use asked_counts::AskedCounts;
 use holding::hold;
 use last_group::LastGroup;
 use nntp_article::{Listed, Profile, Visible};
 use nntp_pair::{Exchange, Pairs, Step};
 use nntp_said::{Position, facts_of};
+use nntp_store::{Content, Spool};
 use nntp_wire::{Marks, Overviews};
 use std::alloc::{AllocError, Allocator};
 pub use verified::Verified;

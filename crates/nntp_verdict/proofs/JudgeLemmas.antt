@@ -12,7 +12,7 @@ use Rattle.nntp_pair.{specs.Classes.{class_of}, proofs.PairingLemmas.{AreNext-pu
 use Rattle.nntp_theory.specs.{declared.noted.Noted.{Noted}, Answered.{facts_of_all}, Classes.{visible_from}, Given.{IsGiven}, Inner.Given.{size}}
 use Rattle.nntp_theory.{specs.Permitted.{exchanged}, proofs.Given.SessionsGoOn.{facts_behind, small_behind}}
 use Rattle.nntp_facts.{specs.Inner.Noted.{FactsKept, HasNotedBehind, IsDue, IsNotedBehind, begun}, proofs.Keeping.NotedSessions.{session_begins}}
-use Rattle.nntp_spool.{specs.{Limited.{LimitedSpool}, Inner.Text.{IsWritten}}, proofs.WholeSpools.{written_is_read}}
+use Rattle.nntp_store.{specs.{Limited.{LimitedSpool}, Inner.Text.{IsWritten}}, proofs.WholeSpools.{written_is_read}}
 use Rattle.nntp_several.specs.{Outcome.{NoOfAll, IsOutcomeOfAll}, Inner.{Paired.{ArePaired}, Passing.{PassedOfAll}}, Sessions.{Recorded}}
 use Rattle.nntp_several.proofs.PassingSessions.{paired_push, as_many_sessions, earlier_permitted, passing_stops, passing_contradicted, passing_unfitting}
 use Rattle.nntp_witness.specs.Inner.Witness.{IsWitnessWithin}

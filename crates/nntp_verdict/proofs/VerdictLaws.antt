@@ -5,8 +5,8 @@ use Rattle.nntp_wire.specs.{declared.{limit.Limit.{Limit}, marks.Marks.{Marks}},
 use Rattle.nntp_article.specs.Session.{Explains.{Explains}, Limit.{profile_of}, Spool.{Spool}}
 use Rattle.nntp_pair.specs.{Pairing.{Paired}, declared.class.Class.{Class}}
 use Rattle.nntp_theory.specs.{Outcome.{Yes}, Given.{IsGiven}, Inner.Given.{size}, Answered.{SomePermitsEach, facts_of_all}, Permitted.{exchanged}}
-use Rattle.nntp_spool.specs.{Limited.{LimitedSpool}, Verifying.{IsVerified}, declared.verification.verified.Verified.{Verified, TheVariants.{Permits, Refuses}}}
-use Rattle.nntp_spool.specs.{Reading.{spool_at}, Text.{spool_text}}
+use Rattle.nntp_store.specs.{Limited.{LimitedSpool}, Reading.{spool_at}, Text.{spool_text}}
+use Rattle.nntp_spool.specs.{Verifying.{IsVerified}, declared.verification.verified.Verified.{Verified, TheVariants.{Permits, Refuses}}}
 use Rattle.nntp_several.specs.{Verifying.{VerifiedOfAll, PermitsAll, RefusesOne, IsVerifiedOfAll}, Sessions.{Recorded, ExplainsAll, OfEach}}
 use Rattle.nntp_several.{specs.{Outcome.{OutcomeOfAll, YesOfAll, NoOfAll, IsOutcomeOfAll}, Inner.Paired.{ArePaired}}, proofs.ExplainedSessions.{there}}
 use Rattle.nntp_several.proofs.{SessionsVerified.{permits_alone}, WaysToOutcome.{outcome_at_all_ends}, OneOutcomeOfAll.{one_outcome_of_all}}

@@ -5,8 +5,8 @@ use Rattle.nntp_pair.specs.{Pairing.{Paired, Unpaired, AreNext, IsBad, IsPairing
 use Rattle.nntp_pair.specs.declared.class.Class.{Class, TheVariants.{Surplus, Cut, Malformed, OutOfPlace, Contradiction}}
 use Rattle.nntp_theory.specs.Outcome.{Yes, No, IsOutcome}
 use Rattle.nntp_article.specs.{declared.session.profile.Profile.{Profile}, Session.Limit.{profile_of}}
-use Rattle.nntp_spool.specs.{Limited.{LimitedSpool}, Reading.{spool_at}, Text.{spool_text}, Verifying.{IsVerified}}
-use Rattle.nntp_spool.specs.declared.verification.verified.Verified.{Verified, TheVariants.{Permits}}
+use Rattle.nntp_store.specs.{Limited.{LimitedSpool}, Reading.{spool_at}, Text.{spool_text}}
+use Rattle.nntp_spool.specs.{Verifying.{IsVerified}, declared.verification.verified.Verified.{Verified, TheVariants.{Permits}}}
 use Rattle.nntp_several.specs.{Outcome.{YesOfAll, NoOfAll, IsOutcomeOfAll}, Sessions.{Recorded, OfEach}, Verifying.{VerifiedOfAll, PermitsAll, IsVerifiedOfAll}}
 use Rattle.nntp_printing.specs.BadAnswer.{IsFirstLine, shown}
 use Rattle.nntp_verdict.specs.Verdict.{Judgement, consistent, bad, JudgementOfAll, consistent_of_all, bad_of_all}

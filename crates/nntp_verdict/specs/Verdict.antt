@@ -1,7 +1,7 @@
 -- What is said of a session, and of several.
 use Rattle.std.specs.{Prelude.{ℕ, Bool, true, false, List, Option}, Option.{option_map}}
 use Rattle.nntp_pair.specs.declared.class.Class.{Class}
-use Rattle.nntp_spool.specs.Limited.{LimitedSpool}
+use Rattle.nntp_store.specs.Limited.{LimitedSpool}
 use Rattle.nntp_verdict.specs.declared.{verdict.Verdict.{Verdict, TheVariants.{Consistent, Bad}}, sessions_verdict.SessionsVerdict.{SessionsVerdict}}
 use Rattle.nntp_verdict.specs.declared.sessions_verdict.SessionsVerdict.TheVariants as several
 

@@ -1,7 +1,7 @@
 -- Calls of a builder that hasn't failed, where there is no fault.
 use Rattle.std.proofs.{Common.{arith, ◌≡◌, false, Option, None, Result, Ok, Err}, lemmas.Bool.{true≢false}}
 use Rattle.nntp_article.specs.Session.Spool.{Spool}
-use Rattle.nntp_spool.specs.{Inner.Building.{Building, Builds}, declared.value.spool_fault.SpoolFault.{SpoolFault, TheVariants.{Memory}}}
+use Rattle.nntp_store.specs.{Inner.Building.{Building, Builds}, declared.value.spool_fault.SpoolFault.{SpoolFault, TheVariants.{Memory}}}
 use Rattle.nntp_witness.specs.Inner.Making.{Makes}
 
 -- the content, where it hasn't failed

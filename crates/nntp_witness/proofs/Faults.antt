@@ -1,6 +1,6 @@
 -- Faults that are passed on.
 use Rattle.std.{proofs.Common.{arith, ◌≡◌, Result}, specs.Result.{IsErr, IsErrAnd}}
-use Rattle.nntp_spool.specs.declared.value.spool_fault.SpoolFault.{SpoolFault, TheVariants.{Memory}}
+use Rattle.nntp_store.specs.declared.value.spool_fault.SpoolFault.{SpoolFault, TheVariants.{Memory}}
 use Rattle.nntp_witness.specs.Inner.Making.{Makes}
 
 -- want of memory that is passed on stays that

@@ -7,7 +7,7 @@ ghost use Rattle.nntp_witness.specs.Inner.Making.{Makes};
 
 use nntp_article::{ToldFields, made_head};
 use nntp_facts::ShownArticle;
-use nntp_spool::SpoolFault;
+use nntp_store::SpoolFault;
 use nntp_wire::{MessageId, OwnedBlock};
 use std::alloc::{AllocError, Allocator};
 use std::rc::{Rc, RcStr};

@@ -5,13 +5,13 @@ ghost use Rattle.nntp_article.specs.declared.session.profile.Profile.{Profile};
 ghost use Rattle.nntp_article.specs.Session.Spool.{Spool as SpoolValue};
 ghost use Rattle.nntp_said.specs.Facts.{Fact};
 ghost use Rattle.nntp_facts.specs.Inner.Noted.{HasNotedBehind};
-ghost use Rattle.nntp_spool.specs.Inner.Text.{IsWritten};
+ghost use Rattle.nntp_store.specs.Inner.Text.{IsWritten};
 ghost use Rattle.nntp_witness.specs.Inner.Witness.{HaveNoted, HaveNotedSome, IsGivenSpool, IsWitnessWithin};
 ghost use Rattle.nntp_witness.specs.Inner.Making.{Makes};
 
 use crate::maker::SpoolMaker;
 use nntp_facts::Facts;
-use nntp_spool::{Spool, SpoolFault};
+use nntp_store::{Spool, SpoolFault};
 use std::alloc::{AllocError, Allocator};
 
 /// Makes the given spool of the exchanges that the facts accepted, of all sessions, which permits

@@ -6,7 +6,7 @@ ghost use Rattle.nntp_article.specs.Session.Spool.{Spool as SpoolValue};
 ghost use Rattle.nntp_said.specs.Facts.{Fact};
 ghost use Rattle.nntp_facts.specs.Inner.Readers.{ShownGroup as GroupValue, ShownArticle as ArticleValue, AreShownArticles, AreShownGroups};
 ghost use Rattle.nntp_facts.specs.Inner.ReadersView.{number_value};
-ghost use Rattle.nntp_spool.specs.Inner.Text.{IsWritten};
+ghost use Rattle.nntp_store.specs.Inner.Text.{IsWritten};
 ghost use Rattle.nntp_witness.specs.Inner.Witness.{HaveArticles, IsGivenSpool};
 ghost use Rattle.nntp_witness.specs.Inner.Making.{Makes, unseen_number, GroupsLeft, NumbersLeft, ArticlesLeft};
 
@@ -15,7 +15,7 @@ use crate::invented::invent;
 use nntp_facts::{
     Facts, ShownArticle, ShownGroup, ShownNumber, ShownNumbers, TakenArticles, TakenGroups,
 };
-use nntp_spool::{Spool, SpoolBuilder, SpoolFault};
+use nntp_store::{Spool, SpoolBuilder, SpoolFault};
 use nntp_wire::OwnedBlock;
 use std::alloc::Allocator;
 use std::rc::Rc;

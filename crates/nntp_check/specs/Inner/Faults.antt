@@ -1,9 +1,9 @@
 -- The fault of a run that a fault of its parts is.
 use Rattle.nntp_pair.specs.declared.pair_error.PairError.{PairError}
-use Rattle.nntp_spool.specs.declared.text.read_fault.{Kind.{Kind}, ReadFault.{ReadFault}}
+use Rattle.nntp_store.specs.declared.text.read_fault.{Kind.{Kind}, ReadFault.{ReadFault}}
 use Rattle.nntp_check.specs.declared.{capture_reader.BadPiece.{BadPiece}, run_fault.RunFault.{RunFault, TheVariants.{Capture, Spool, Memory, TooLong}}}
 use Rattle.nntp_pair.specs.declared.pair_error.PairError.TheVariants as errors
-use Rattle.nntp_spool.specs.declared.text.read_fault.Kind.TheVariants as kinds
+use Rattle.nntp_store.specs.declared.text.read_fault.Kind.TheVariants as kinds
 
 -- a bad piece of the capture
 abbrev pub of_capture : BadPiece → RunFault

@@ -1,6 +1,6 @@
 -- What is said with the words of `Report.antt`, and needn't be believed.
 use Rattle.std.specs.Prelude.{ℕ, ◌<◌, ⊤, List, []}
-use Rattle.nntp_spool.specs.Text.{spool_text}
+use Rattle.nntp_store.specs.Text.{spool_text}
 use Rattle.nntp_several.specs.Verifying.{VerifiedOfAll, PermitsAll, RefusesOne}
 use Rattle.nntp_verdict.specs.Verdict.{JudgementOfAll, consistent_of_all, bad_of_all}
 

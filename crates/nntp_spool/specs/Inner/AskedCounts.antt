@@ -1,17 +1,17 @@
 -- How many groups of a spool match the wildmats of LIST ACTIVE, each counted once (RFC 3977, section 7.6.3).
-use Rattle.std.specs.{Prelude.{◌≡◌, ℕ, List, Option, None, Some, IfSome}, List.{count_by}, Ordering.{nat_cmp}, Cmp.Lexicographic.{slice_cmp}, FinMap.{FinMap}}
-use Rattle.std.specs.FinMap.{get, insert, entries}
+use Rattle.std.specs.{Prelude.{◌≡◌, ℕ, List, Option, None, Some, IfSome, refl}, Ordering.{nat_cmp}, Cmp.Lexicographic.{slice_cmp}, FinMap.{FinMap, get, insert}}
+use Rattle.std.specs.Coded.{Coded, code_by, coded×, coded_ℕ, coded_list, coded_option}
 use Rattle.nntp_article.specs.Session.Spool.{Spool}
-use Rattle.nntp_wire.specs.Inner.Decided.{is_asked}
+use Rattle.nntp_store.specs.Inner.Content.{asked_count}
+use Rattle.std.specs.FinMap as map
 
 -- the counts that are remembered: of all groups, and of those that match a wildmat
 pub record AskedCounts : Type 0 where
   pub all : Option ℕ
   pub by_wildmat : FinMap (slice_cmp nat_cmp) ℕ
 
--- how many groups match the wildmat, or how many there are without one
-abbrev pub asked_count : Spool → Option (List ℕ) → ℕ
-asked_count S p = count_by (λ e. is_asked p e.0) (entries S.groups)
+abbrev pub coded_counts : Coded AskedCounts
+coded_counts = code_by _ (coded× (coded_option coded_ℕ) (map.code (coded_list coded_ℕ) coded_ℕ)) (λ c. (c.all, c.by_wildmat)) (λ p. record { all = p.0; by_wildmat = p.1 }) (λ _. refl)
 
 -- the count that is remembered for the wildmat
 abbrev pub remembered : AskedCounts → Option (List ℕ) → Option ℕ

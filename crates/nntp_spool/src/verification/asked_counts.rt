@@ -1,9 +1,10 @@
 //! How many groups of a spool match the wildmats of LIST ACTIVE, each counted once (RFC 3977, section 7.6.3).
 ghost use Rattle.std.specs.Prelude.{◌≡◌, Some, IfOk, OnOk};
 ghost use Rattle.nntp_article.specs.Session.Spool.{Spool as SpoolValue};
-ghost use Rattle.nntp_spool.specs.Inner.AskedCounts.{AreCounted, asked_count, remembered, with_count};
+ghost use Rattle.nntp_spool.specs.Inner.AskedCounts.{AreCounted, remembered, with_count};
+ghost use Rattle.nntp_store.specs.Inner.Content.{asked_count};
 
-use crate::value::content::Content;
+use nntp_store::Content;
 use nntp_wire::Wildmat;
 use std::alloc::{AllocError, Allocator};
 use std::collections::BTreeMap;
@@ -22,8 +23,7 @@ pub(crate) struct AskedCounts<A: Allocator> {
 impl<A: Allocator> Model for AskedCounts<A> {
     ghost use Rattle.std.specs.Prelude.{map};
     ghost use Rattle.std.specs.FinMap.{from_entries};
-    ghost use Rattle.nntp_spool.specs.Inner.AskedCounts.{AskedCounts as Counts};
-    ghost use Rattle.nntp_spool.specs.Inner.Codes.{coded_counts};
+    ghost use Rattle.nntp_spool.specs.Inner.AskedCounts.{AskedCounts as Counts, coded_counts};
 
     ghost Value = { Counts };
 

@@ -8,10 +8,9 @@ ghost use Rattle.nntp_article.specs.Inner.Listed.{lists};
 ghost use Rattle.nntp_said.specs.Facts.{Holds};
 ghost use Rattle.nntp_said.specs.Inner.FactView.{fact_of};
 ghost use Rattle.nntp_spool.specs.Inner.AskedCounts.{AreCounted};
-ghost use Rattle.nntp_spool.specs.Inner.Content.{IdsHaveArticles};
+ghost use Rattle.nntp_store.specs.Inner.Content.{IdsHaveArticles};
 ghost use Rattle.nntp_spool.specs.Inner.Sessions.{SaysThese, SayThese};
 
-use crate::value::content::Content;
 use crate::verification::asked_counts::AskedCounts;
 use crate::verification::last_group::LastGroup;
 use crate::verification::listed_groups::lists_groups;
@@ -19,6 +18,7 @@ use crate::verification::listed_overviews::{have_overviews, lists_overviews};
 use crate::verification::sent_lines::has_text;
 use nntp_article::Listed;
 use nntp_said::{Fact, SaidFacts};
+use nntp_store::Content;
 use nntp_wire::{Block, What};
 use std::alloc::{AllocError, Allocator};
 

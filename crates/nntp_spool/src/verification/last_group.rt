@@ -6,9 +6,9 @@ ghost use Rattle.nntp_said.specs.Asks.{Meets};
 ghost use Rattle.nntp_said.specs.Inner.FactView.{ask_of};
 ghost use Rattle.nntp_spool.specs.Inner.Sessions.{AsksThese};
 
-use crate::value::content::Content;
-use crate::value::numbers::Numbers;
+use crate::verification::lookups::{has_id, meet};
 use nntp_said::Ask;
+use nntp_store::{Content, Numbers};
 use std::alloc::Allocator;
 use std::marker::Model;
 
@@ -31,7 +31,7 @@ impl<'s, S: Allocator> Model for LastGroup<'s, S> {
     ghost use Rattle.std.specs.Prelude.{◌≡◌, Some, IfSome};
     ghost use Rattle.std.specs.FinMap as map;
     ghost use Rattle.nntp_article.specs.Session.Spool.{Spool as SpoolValue};
-    ghost use Rattle.nntp_spool.specs.Inner.Codes.{coded_spool};
+    ghost use Rattle.nntp_store.specs.Inner.Codes.{coded_spool};
 
     ghost Value = { SpoolValue };
 
@@ -80,8 +80,8 @@ impl<'s, S: Allocator> LastGroup<'s, S> {
     {
         turn_to(&mut self.group, &mut self.entry, self.spool, word);
         match self.group {
-            Some((_, numbers)) => numbers.meet(ask, listed, &mut self.entry),
-            None => self.spool.no_numbers().meet(ask, listed, &mut None),
+            Some((_, numbers)) => meet(numbers, ask, listed, &mut self.entry),
+            None => meet(self.spool.no_numbers(), ask, listed, &mut None),
         }
     }
 
@@ -97,7 +97,7 @@ impl<'s, S: Allocator> LastGroup<'s, S> {
         };
         match self.entry {
             Some((at, there)) if at == number => there == id,
-            _ => numbers.has_id(number, id),
+            _ => has_id(numbers, number, id),
         }
     }
 }

@@ -6,13 +6,14 @@ ghost use Rattle.nntp_wire.specs.Name.{IsGroupName};
 ghost use Rattle.nntp_wire.specs.Inner.View.{active_value};
 ghost use Rattle.nntp_article.specs.Session.Spool.{Name, IsGroup, IsNumber, numbers as numbers_of};
 ghost use Rattle.nntp_article.specs.Session.Machine.{names_differ, ActivesAgree};
-ghost use Rattle.nntp_spool.specs.Inner.AskedCounts.{AreCounted, asked_count};
+ghost use Rattle.nntp_spool.specs.Inner.AskedCounts.{AreCounted};
 ghost use Rattle.nntp_spool.specs.Inner.ListedGroups.{LineAgrees};
 
-use crate::value::content::Content;
 use crate::verification::asked_counts::AskedCounts;
+use crate::verification::lookups::is_between;
+use nntp_store::Content;
 use nntp_wire::laws::matching_is_decided;
-use nntp_wire::{ActiveLine, Wildmat, is_asked, matches_if_given};
+use nntp_wire::{ActiveLine, Wildmat, matches_if_given};
 use std::alloc::{AllocError, Allocator};
 
 /// Tells whether a listed group is one of the spool, matches, and has its numbers between the
@@ -33,7 +34,7 @@ fn agrees_bounds<A: Allocator>(spool: &Content<A>, name: &str, low: u64, high: u
     ensures { IsTrue result ↔ (IsGroup spool.now name.now × ((n : ℕ) → IsNumber (numbers_of spool.now name.now) n → (low ≤ n) × (n ≤ high))) }
 {
     match spool.group(name) {
-        Some(numbers) => numbers.is_between(low, high),
+        Some(numbers) => is_between(numbers, low, high),
         None => false,
     }
 }
@@ -53,18 +54,6 @@ fn agree_lines<A: Allocator>(
         }
     }
     true
-}
-
-impl<A: Allocator> Content<A> {
-    /// Returns how many groups match.
-    pub(crate) fn count_asked(&self, wildmat: &Option<Wildmat<'_>>) -> usize
-        ensures { result ≡ asked_count self.now wildmat.now }
-    {
-        self.groups
-            .iter()
-            .filter(|(name, _)| is_asked(wildmat, name.as_bytes()))
-            .count()
-    }
 }
 
 /// Tells whether exactly the matching groups are listed, and the marks bound their numbers. No

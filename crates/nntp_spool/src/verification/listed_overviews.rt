@@ -9,15 +9,14 @@ ghost use Rattle.nntp_article.specs.Session.Spool.{numbers as numbers_of};
 ghost use Rattle.nntp_article.specs.Session.Machine.{HasOverview, ListsOverviews};
 ghost use Rattle.nntp_article.specs.Inner.Listed.{lists};
 ghost use Rattle.nntp_said.specs.Facts.{OverviewsAre};
-ghost use Rattle.nntp_spool.specs.Inner.ArticleLines.{text_stored};
+ghost use Rattle.nntp_store.specs.Inner.ArticleLines.{text_stored};
 ghost use Rattle.nntp_spool.specs.Inner.ListedOverviews.{StandsIn};
 ghost use Rattle.nntp_spool.specs.Inner.Sessions.{SaysThese};
 
-use crate::value::article::StoredArticle;
-use crate::value::content::Content;
 use crate::verification::last_group::LastGroup;
 use nntp_article::{Fields, Listed};
 use nntp_said::{Ask, NumberLines};
+use nntp_store::{Content, StoredArticle};
 use nntp_wire::{Block, OverviewLine, Range};
 use std::alloc::Allocator;
 

@@ -8,168 +8,171 @@ ghost use Rattle.nntp_said.specs.Inner.FactView.{ask_of};
 ghost use Rattle.nntp_spool.specs.Inner.ListedNumbers.{IsNextFrom, IsAbove, ListsFrom};
 ghost use Rattle.nntp_spool.specs.Inner.Sessions.{AsksThese};
 
-use crate::value::numbers::Numbers;
 use nntp_article::session::laws::first_is_least;
 use nntp_said::{Ask, Position};
+use nntp_store::Numbers;
 use nntp_wire::{Marks, Range, WaterMarks};
 use std::alloc::Allocator;
 
-impl<A: Allocator> Numbers<A> {
-    /// Tells whether the numbers meet what is asked; `listed` are the numbers that the answer lists.
-    /// Where a step is asked, the number to which that leads, and the id there, are kept in `entry`.
-    pub(crate) fn meet<'s>(
-        &'s self,
-        ask: &Ask<'_>,
-        listed: &[u64],
-        entry: &mut Option<(u64, &'s str)>,
-    ) -> bool
-        requires listed { AsksThese listed.now (ask_of ask.now) }
-        requires entry { IfSome entry.old (λ e. map.get self.now e.0 ≡ Some e.1.now) }
-        ensures meet { IsTrue result ↔ Meets self.now (ask_of ask.now) }
-        ensures entry { IfSome entry.new (λ e. map.get self.now e.0 ≡ Some e.1.now) }
-    {
-        match ask {
-            Ask::Estimates { how, marks } => self.is_bound(*how, *marks),
-            Ask::Bounds { low, high } => self.is_between(*low, *high),
-            Ask::Lists { range, .. } => self.lists(*range, listed),
-            Ask::Lacks(number) => self.id(*number).is_none(),
-            Ask::StandsAt(at, number) => self.current(*at) == Some(*number),
-            Ask::StandsNowhere(at) => self.current(*at).is_none(),
-            Ask::StepsUp(at, number) => leads(self.above(*at), *number, entry),
-            Ask::StepsDown(at, number) => leads(self.below(*at), *number, entry),
-            Ask::IsTop(at) => self.current(*at).is_some() && self.above(*at).is_none(),
-            Ask::IsBottom(at) => self.current(*at).is_some() && self.below(*at).is_none(),
-        }
+/// Tells whether the numbers meet what is asked; `listed` are the numbers that the answer lists.
+/// Where a step is asked, the number to which that leads, and the id there, are kept in `entry`.
+pub(crate) fn meet<'s, S: Allocator>(
+    numbers: &'s Numbers<S>,
+    ask: &Ask<'_>,
+    listed: &[u64],
+    entry: &mut Option<(u64, &'s str)>,
+) -> bool
+    requires listed { AsksThese listed.now (ask_of ask.now) }
+    requires entry { IfSome entry.old (λ e. map.get numbers.now e.0 ≡ Some e.1.now) }
+    ensures meet { IsTrue result ↔ Meets numbers.now (ask_of ask.now) }
+    ensures entry { IfSome entry.new (λ e. map.get numbers.now e.0 ≡ Some e.1.now) }
+{
+    match ask {
+        Ask::Estimates { how, marks } => is_bound(numbers, *how, *marks),
+        Ask::Bounds { low, high } => is_between(numbers, *low, *high),
+        Ask::Lists { range, .. } => lists(numbers, *range, listed),
+        Ask::Lacks(number) => numbers.id(*number).is_none(),
+        Ask::StandsAt(at, number) => current(numbers, *at) == Some(*number),
+        Ask::StandsNowhere(at) => current(numbers, *at).is_none(),
+        Ask::StepsUp(at, number) => leads(above(numbers, *at), *number, entry),
+        Ask::StepsDown(at, number) => leads(below(numbers, *at), *number, entry),
+        Ask::IsTop(at) => current(numbers, *at).is_some() && above(numbers, *at).is_none(),
+        Ask::IsBottom(at) => current(numbers, *at).is_some() && below(numbers, *at).is_none(),
     }
+}
 
-    /// Returns the current article at a position.
-    fn current(&self, at: Position) -> Option<u64>
-        ensures { result ≡ current_in self.now at }
-    {
-        match at {
-            Position::Nowhere => None,
-            Position::First => self.first(),
-            Position::Known(number) => Some(number),
-        }
+/// Returns the current article at a position.
+fn current<S: Allocator>(numbers: &Numbers<S>, at: Position) -> Option<u64>
+    ensures { result ≡ current_in numbers.now at }
+{
+    match at {
+        Position::Nowhere => None,
+        Position::First => first(numbers),
+        Position::Known(number) => Some(number),
     }
+}
 
-    /// Returns the first number.
-    fn first(&self) -> Option<u64>
-        ensures { result ≡ least self.now }
-    {
-        first_is_least();
-        self.least()
+/// Returns the first number.
+fn first<S: Allocator>(numbers: &Numbers<S>) -> Option<u64>
+    ensures { result ≡ least numbers.now }
+{
+    first_is_least();
+    numbers.least()
+}
+
+/// Tells whether the number has this id.
+pub(crate) fn has_id<S: Allocator>(numbers: &Numbers<S>, number: u64, id: &str) -> bool
+    ensures { IsTrue result ↔ (map.get numbers.now number ≡ Some id.now) }
+{
+    match numbers.id(number) {
+        Some(found) => found == id,
+        None => false,
     }
+}
 
-    /// Tells whether the number has this id.
-    pub(crate) fn has_id(&self, number: u64, id: &str) -> bool
-        ensures { IsTrue result ↔ (map.get self.now number ≡ Some id.now) }
-    {
-        match self.id(number) {
-            Some(found) => found == id,
-            None => false,
-        }
-    }
+/// Returns the number above the current article, and the id there.
+fn above<S: Allocator>(numbers: &Numbers<S>, at: Position) -> Option<(u64, &str)>
+    ensures { MatchOption (current_in numbers.now at) (result ≡ None) (λ c. MatchOption result (NoneAbove numbers.now c)
+        (λ next. IsNextAbove numbers.now c next.0 × (map.get numbers.now next.0 ≡ Some next.1.now))) }
+{
+    numbers.next_above(current(numbers, at)?)
+}
 
-    /// Returns the number above the current article, and the id there.
-    fn above(&self, at: Position) -> Option<(u64, &str)>
-        ensures { MatchOption (current_in self.now at) (result ≡ None) (λ c. MatchOption result (NoneAbove self.now c)
-            (λ next. IsNextAbove self.now c next.0 × (map.get self.now next.0 ≡ Some next.1.now))) }
-    {
-        self.next_above(self.current(at)?)
-    }
+/// Returns the number below the current article, and the id there.
+fn below<S: Allocator>(numbers: &Numbers<S>, at: Position) -> Option<(u64, &str)>
+    ensures { MatchOption (current_in numbers.now at) (result ≡ None) (λ c. MatchOption result (NoneBelow numbers.now c)
+        (λ next. IsNextBelow numbers.now c next.0 × (map.get numbers.now next.0 ≡ Some next.1.now))) }
+{
+    numbers.next_below(current(numbers, at)?)
+}
 
-    /// Returns the number below the current article, and the id there.
-    fn below(&self, at: Position) -> Option<(u64, &str)>
-        ensures { MatchOption (current_in self.now at) (result ≡ None) (λ c. MatchOption result (NoneBelow self.now c)
-            (λ next. IsNextBelow self.now c next.0 × (map.get self.now next.0 ≡ Some next.1.now))) }
-    {
-        self.next_below(self.current(at)?)
-    }
+/// Tells whether there is such a number.
+fn has<S: Allocator>(numbers: &Numbers<S>, number: u64) -> bool
+    ensures { IsTrue result ↔ IsNumber numbers.now number }
+{
+    numbers.id(number).is_some()
+}
 
-    /// Tells whether there is such a number.
-    fn has(&self, number: u64) -> bool
-        ensures { IsTrue result ↔ IsNumber self.now number }
-    {
-        self.id(number).is_some()
-    }
+/// Tells whether there are at most as many numbers as estimated, all between the marks, and
+/// both marks are numbers where they have to be.
+fn is_bound<S: Allocator>(numbers: &Numbers<S>, how: Marks, marks: WaterMarks) -> bool
+    ensures { IsTrue result ↔ Bound how numbers.now marks }
+{
+    numbers.len() as u64 <= marks.estimate
+        && is_between(numbers, marks.low, marks.high)
+        && has_ends(numbers, how, marks)
+}
 
-    /// Tells whether there are at most as many numbers as estimated, all between the marks, and
-    /// both marks are numbers where they have to be.
-    fn is_bound(&self, how: Marks, marks: WaterMarks) -> bool
-        ensures { IsTrue result ↔ Bound how self.now marks }
-    {
-        self.len() as u64 <= marks.estimate
-            && self.is_between(marks.low, marks.high)
-            && self.has_ends(how, marks)
-    }
-
-    /// Tells whether both marks are numbers, where they are read strictly and there is a number.
-    fn has_ends(&self, how: Marks, marks: WaterMarks) -> bool
-        ensures { IsTrue result ↔ AreEnds how self.now marks }
-    {
-        match how {
-            Marks::Lenient => true,
-            Marks::Strict => match self.least() {
-                Some(_) => self.has(marks.low) && self.has(marks.high),
-                None => true,
-            },
-        }
-    }
-
-    /// Tells whether each number is between the marks.
-    pub(crate) fn is_between(&self, low: u64, high: u64) -> bool
-        ensures { IsTrue result ↔ ((n : ℕ) → IsNumber self.now n → (low ≤ n) × (n ≤ high)) }
-    {
-        match (self.least(), self.greatest()) {
-            (Some(least), Some(greatest)) => low <= least && greatest <= high,
-            _ => true,
-        }
-    }
-
-    /// Returns the least number above this one, or the least of all where none is given.
-    fn next_from(&self, before: Option<u64>) -> Option<u64>
-        ensures { IsNextFrom self.now before result }
-    {
-        match before {
-            Some(number) => match self.next_above(number) {
-                Some((above, _)) => Some(above),
-                None => None,
-            },
-            None => self.least(),
-        }
-    }
-
-    /// Tells whether the numbers within the range are the listed ones.
-    fn lists(&self, range: Range, listed: &[u64]) -> bool
-        requires { is_ascending listed.now ≡ true }
-        ensures { IsTrue result ↔ Lists self.now range listed.now }
-    {
-        let mut before = before(range.first);
-        for number in listed {
-            if !self.is_next_within(range, before, *number) {
-                return false;
-            }
-            before = Some(*number);
-        }
-        self.has_none_within(range, before)
-    }
-
-    /// Tells whether the number is the next one, and not above the range.
-    fn is_next_within(&self, range: Range, before: Option<u64>, number: u64) -> bool
-        ensures { IsTrue result ↔ (IsNextFrom self.now before (Some number) × IfSome range.last (λ last. number ≤ last)) }
-    {
-        self.next_from(before) == Some(number) && is_up_to(range.last, number)
-    }
-
-    /// Tells whether the next number, if there is one, is above the range.
-    fn has_none_within(&self, range: Range, before: Option<u64>) -> bool
-        ensures { IsTrue result ↔ ListsFrom self.now range before [] }
-    {
-        match self.next_from(before) {
-            Some(number) => is_beyond(range.last, number),
+/// Tells whether both marks are numbers, where they are read strictly and there is a number.
+fn has_ends<S: Allocator>(numbers: &Numbers<S>, how: Marks, marks: WaterMarks) -> bool
+    ensures { IsTrue result ↔ AreEnds how numbers.now marks }
+{
+    match how {
+        Marks::Lenient => true,
+        Marks::Strict => match numbers.least() {
+            Some(_) => has(numbers, marks.low) && has(numbers, marks.high),
             None => true,
+        },
+    }
+}
+
+/// Tells whether each number is between the marks.
+pub(crate) fn is_between<S: Allocator>(numbers: &Numbers<S>, low: u64, high: u64) -> bool
+    ensures { IsTrue result ↔ ((n : ℕ) → IsNumber numbers.now n → (low ≤ n) × (n ≤ high)) }
+{
+    match (numbers.least(), numbers.greatest()) {
+        (Some(least), Some(greatest)) => low <= least && greatest <= high,
+        _ => true,
+    }
+}
+
+/// Returns the least number above this one, or the least of all where none is given.
+fn next_from<S: Allocator>(numbers: &Numbers<S>, before: Option<u64>) -> Option<u64>
+    ensures { IsNextFrom numbers.now before result }
+{
+    match before {
+        Some(number) => match numbers.next_above(number) {
+            Some((above, _)) => Some(above),
+            None => None,
+        },
+        None => numbers.least(),
+    }
+}
+
+/// Tells whether the numbers within the range are the listed ones.
+fn lists<S: Allocator>(numbers: &Numbers<S>, range: Range, listed: &[u64]) -> bool
+    requires { is_ascending listed.now ≡ true }
+    ensures { IsTrue result ↔ Lists numbers.now range listed.now }
+{
+    let mut before = before(range.first);
+    for number in listed {
+        if !is_next_within(numbers, range, before, *number) {
+            return false;
         }
+        before = Some(*number);
+    }
+    has_none_within(numbers, range, before)
+}
+
+/// Tells whether the number is the next one, and not above the range.
+fn is_next_within<S: Allocator>(
+    numbers: &Numbers<S>,
+    range: Range,
+    before: Option<u64>,
+    number: u64,
+) -> bool
+    ensures { IsTrue result ↔ (IsNextFrom numbers.now before (Some number) × IfSome range.last (λ last. number ≤ last)) }
+{
+    next_from(numbers, before) == Some(number) && is_up_to(range.last, number)
+}
+
+/// Tells whether the next number, if there is one, is above the range.
+fn has_none_within<S: Allocator>(numbers: &Numbers<S>, range: Range, before: Option<u64>) -> bool
+    ensures { IsTrue result ↔ ListsFrom numbers.now range before [] }
+{
+    match next_from(numbers, before) {
+        Some(number) => is_beyond(range.last, number),
+        None => true,
     }
 }
 

@@ -8,7 +8,7 @@ use Rattle.nntp_article.specs.Session.Spool.{numbers}
 use Rattle.nntp_said.specs.Facts.{Fact}
 use Rattle.nntp_theory.specs.{Given.{id_shown, is_mentioned, invented, AreInvented}, Together.{shows_article}}
 use Rattle.nntp_facts.specs.Inner.Readers.{ShownGroup, ShownArticle, HasShownNumbers, IsShownArticle}
-use Rattle.nntp_spool.specs.{Inner.Building.{Building}, declared.value.spool_fault.SpoolFault.{SpoolFault, TheVariants.{Memory}}}
+use Rattle.nntp_store.specs.{Inner.Building.{Building}, declared.value.spool_fault.SpoolFault.{SpoolFault, TheVariants.{Memory}}}
 
 -- the outcome of making something: it is so, or memory was refused
 abbrev pub Makes : {A : Type 0} → Result A SpoolFault → (A → Type 0) → Type 0

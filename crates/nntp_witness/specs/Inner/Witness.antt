@@ -6,7 +6,7 @@ use Rattle.nntp_pair.specs.Pairing.{Paired}
 use Rattle.nntp_theory.specs.{Answered.{PermitsEach}, Given.{IsGiven}, Permitted.{exchanged}, Inner.Exchanged.{said_behind}}
 use Rattle.nntp_facts.specs.Inner.{Noted.{FactsKept, HasNotedBehind, profile_kept}, Kept.{AreKeptArticles}}
 use Rattle.nntp_said.specs.Facts.{Fact, Holds}
-use Rattle.nntp_spool.specs.Limited.{LimitedSpool}
+use Rattle.nntp_store.specs.Limited.{LimitedSpool}
 
 -- the facts haven't failed: they are those of some exchanges of sessions, judged by the limit and the marks that the facts hold
 abbrev pub HaveNotedSome : FactsKept → Type 0

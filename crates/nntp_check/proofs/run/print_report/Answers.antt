@@ -1,6 +1,6 @@
 use Rattle.std.proofs.{Common.{[]}, lemmas.Result.{err_from_is_err_and}}
 use Rattle.nntp_verdict.specs.Verdict.{sessions_verdict_shown}
-use Rattle.nntp_spool.proofs.Written.{Wrote-first, Wrote-last}
+use Rattle.nntp_store.proofs.Written.{Wrote-first, Wrote-last}
 use Rattle.nntp_check.{specs.Inner.Report.{text_behind}, proofs.RunLemmas.{Writes-kept}}
 use Rattle.nntp_check.proofs.run.print_report.Goals as goal
 

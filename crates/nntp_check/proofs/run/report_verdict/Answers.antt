@@ -1,5 +1,5 @@
 use Rattle.std.proofs.{Common.{ap, refl, inr, subst, List, ℕ, [], ◌++◌, ◌∙◌}, lemmas.Result.{err_from_is_err_and}}
-use Rattle.nntp_spool.specs.Writing.{Wrote}
+use Rattle.nntp_store.specs.Writing.{Wrote}
 use Rattle.nntp_wire.specs.Inner.Held.{held as names_in}
 use Rattle.nntp_check.specs.{Report.{report_of}, Inner.Report.{text_behind}}
 use Rattle.nntp_verdict.specs.Verdict.{sessions_verdict_shown}

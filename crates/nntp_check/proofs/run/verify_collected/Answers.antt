@@ -1,7 +1,7 @@
 use Rattle.std.proofs.Common.{◌∙◌, ap, sym, subst}
 use Rattle.nntp_article.specs.Session.Limit.{profile_of}
 use Rattle.nntp_several.specs.{Verifying.{IsVerifiedOfAll}, Inner.VerifyingView.{verified_shown}}
-use Rattle.nntp_spool.specs.Limited.{IsWithinLimit}
+use Rattle.nntp_store.specs.Limited.{IsWithinLimit}
 use Rattle.nntp_check.specs.Report.{names_of, verified_report}
 use Rattle.nntp_check.proofs.run.verify_collected.Goals as goal
 

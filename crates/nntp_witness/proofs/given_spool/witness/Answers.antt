@@ -1,7 +1,7 @@
 use Rattle.std.proofs.Common.{sym, subst, ap, rules}
 use Rattle.nntp_facts.specs.Inner.Noted.{profile_kept}
 use Rattle.nntp_theory.specs.Inner.Exchanged.{said_behind}
-use Rattle.nntp_spool.specs.Limited.{LimitedSpool}
+use Rattle.nntp_store.specs.Limited.{LimitedSpool}
 use Rattle.nntp_witness.{specs.Inner.Witness.{IsWitness}, proofs.Aims.{noted_as_kept, noted_say, aim, witness_has}}
 use Rattle.nntp_witness.proofs.given_spool.witness.Goals as goal
 

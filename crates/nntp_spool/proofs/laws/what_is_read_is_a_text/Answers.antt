@@ -1,5 +1,0 @@
-use Rattle.nntp_spool.proofs.WholeSpools.{read_is_text}
-use Rattle.nntp_spool.proofs.laws.what_is_read_is_a_text.Goals as goal
-
-pub returns : goal.returns
-returns c = read_is_text

@@ -1,5 +1,0 @@
--- What a contract sees of a `Watched`.
-use Rattle.nntp_spool.specs.declared.watched.Watched.{Watched}
-
-abbrev pub inner_of : {T : Type 0} → Watched T → T
-inner_of w = w.inner

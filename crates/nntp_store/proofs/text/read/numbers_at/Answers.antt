@@ -1,0 +1,9 @@
+use Rattle.std.proofs.{Common.{arith}, lemmas.Result.{err_from_is_err_and}}
+use Rattle.nntp_store.{specs.Reading.{number_at}, proofs.RepeatedSteps.{goes_on, ends}}
+use Rattle.nntp_store.proofs.text.read.numbers_at.Goals as goal
+
+pub returns-in_err-rest : goal.returns-in_err-rest
+returns-in_err-rest g c = grind (arith, err_from_is_err_and, ends)
+
+pub loop-preserved : goal.loop-preserved
+loop-preserved g c = goes_on (number_at c.args.limit) c.args.count c.loop.counter _ _ _ c.loop-test.true c.in_ok-rest.ensures c.loop.invariant

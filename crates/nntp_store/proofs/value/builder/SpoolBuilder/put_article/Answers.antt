@@ -1,0 +1,11 @@
+use Rattle.std.{proofs.Common.{arith, ◌∙◌, ap}, specs.Rc.{rc_str_bytes}}
+use Rattle.nntp_store.{specs.Inner.{ArticleLines.{text_stored}, Building.{article_fault}}, proofs.BuiltContent.{article_added, articles_dropped}}
+use Rattle.nntp_store.proofs.value.builder.SpoolBuilder.put_article.Goals as goal
+
+pub invariant_of-self : goal.invariant_of-self
+invariant_of-self g c =
+    let faultless = ap (λ b. article_fault b.spool (rc_str_bytes c.args.id) (text_stored c.args.article)) c.self.view_is ∙ c.requires.faultless in
+    rw c.in-Ok.ensures.ok (article_added _ _ c.self.invariant _ _ faultless)
+
+pub invariant_of-self-in_default : goal.invariant_of-self-in_default
+invariant_of-self-in_default g c = grind (arith, articles_dropped)

@@ -1,0 +1,17 @@
+use Rattle.std.proofs.{Common.{arith, rules}, lemmas.Iterator.Consumers.{YieldsList-at, YieldsList-from_rest, YieldsList-from_filter, count_from_yields_List}}
+use Rattle.std.{proofs.lemmas.List.{Folds.{fold-map}, Sums.{length-filter}}, specs.String.{string_bytes}}
+use borrow.Author.Tests.{tests}
+use Rattle.nntp_article.specs.Session.Spool.{Name, Numbers}
+use Rattle.nntp_wire.specs.Inner.Decided.{is_asked}
+use Rattle.nntp_store.proofs.ShownMaps.{group_entries}
+use Rattle.nntp_store.proofs.value.content.Content.count_asked.Goals as goal
+
+pub returns : goal.returns
+returns g c =
+    let es = c.self.inside.groups.entries in
+    let asked = λ (e : Name × Numbers). is_asked c.args.wildmat.now e.0 in
+    let counted = count_from_yields_List c.filter.result c.count.result c.count.ensures.ran
+    (YieldsList-from_filter _ (λ e. asked (string_bytes e.0, e.1))
+    (YieldsList-at c.filter.ensures.source (YieldsList-from_rest es c.iter.ensures.rest)) c.filter.ensures.closure
+    (λ x b q k. search (rules, tests))) in
+    grind (arith, length-filter, fold-map, group_entries)
