@@ -1,7 +1,7 @@
-pub mod SessionAnswers
-pub mod ToldAnswers
-pub mod ReadSessions
-pub mod SaidLines
-pub mod ContradictionReasons
-pub mod LowMarks
-pub mod ClosingAnswers
+mod SessionAnswers
+mod ToldAnswers
+mod ReadSessions
+mod SaidLines
+mod ContradictionReasons
+mod LowMarks
+mod ClosingAnswers

@@ -1,5 +1,5 @@
-pub mod LookUps
-pub mod LastUpTo
-pub mod Joins
-pub mod Meets
-pub mod Outside
+mod LookUps
+mod LastUpTo
+mod Joins
+mod Meets
+mod Outside

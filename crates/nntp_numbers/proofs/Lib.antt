@@ -1,11 +1,11 @@
 pub mod AsksSettled
-pub mod ConflictsOfNumbers
-pub mod GapsOfAPart
+mod ConflictsOfNumbers
+mod GapsOfAPart
 pub mod HullOfMarks
 pub mod Implied
 pub mod MoreAsks
-pub mod NumberSets
+mod NumberSets
 pub mod SaidInARange
 pub mod SaidOfAsks
-pub mod Tallies
+mod Tallies
 pub mod UnseenNumbers

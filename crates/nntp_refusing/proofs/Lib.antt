@@ -1,1 +1,1 @@
-pub mod Inner
+mod Inner

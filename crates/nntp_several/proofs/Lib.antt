@@ -3,7 +3,7 @@ pub mod OneOutcomeOfAll
 pub mod SessionsRead
 pub mod WaysToOutcome
 pub mod ConflictsOfSessions
-pub mod AnyOrder
+mod AnyOrder
 pub mod SessionsVerified
 pub mod PassingSessions
 pub mod BadForGood

@@ -1,6 +1,6 @@
 pub mod PermittedPairs
-pub mod ListedNumbers
-pub mod ListedGroups
-pub mod AskedCounts
-pub mod AnswersInFacts
-pub mod VerifiedPairs
+mod ListedNumbers
+mod ListedGroups
+mod AskedCounts
+mod AnswersInFacts
+mod VerifiedPairs

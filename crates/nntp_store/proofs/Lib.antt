@@ -1,18 +1,18 @@
 pub mod Written
 pub mod ShownMaps
-pub mod ShownNumbers
-pub mod SplitLines
-pub mod RepeatedSteps
+mod ShownNumbers
+mod SplitLines
+mod RepeatedSteps
 pub mod MapEntries
-pub mod LineFields
-pub mod NumbersRead
-pub mod TextRead
-pub mod NumbersInOrder
-pub mod ItemsRead
-pub mod ItemsOfText
+mod LineFields
+mod NumbersRead
+mod TextRead
+mod NumbersInOrder
+mod ItemsRead
+mod ItemsOfText
 pub mod WholeSpools
-pub mod BuiltContent
-pub mod NumberIds
-pub mod NumberFaults
-pub mod GatheredEntries
-pub mod SearchedEntries
+mod BuiltContent
+mod NumberIds
+mod NumberFaults
+mod GatheredEntries
+mod SearchedEntries

@@ -1,6 +1,6 @@
 pub mod Conflicts
 pub mod CoresGoOn
-pub mod Examples
+mod Examples
 pub mod Given
 pub mod GivenNumbers
 pub mod Ids

@@ -1,6 +1,6 @@
-pub mod ShownPlaces
+mod ShownPlaces
 pub mod VerdictLaws
 pub mod JudgeLemmas
-pub mod FedLemmas
+mod FedLemmas
 pub mod CheckerLemmas
-pub mod BadLemmas
+mod BadLemmas

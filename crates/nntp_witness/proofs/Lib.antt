@@ -1,12 +1,12 @@
-pub mod InventedIds
-pub mod MoreMade
-pub mod BuilderCalls
-pub mod FaultsNone
-pub mod ArticleSteps
-pub mod WholeWitness
-pub mod GroupNumbers
-pub mod GroupsInOrder
+mod InventedIds
+mod MoreMade
+mod BuilderCalls
+mod FaultsNone
+mod ArticleSteps
+mod WholeWitness
+mod GroupNumbers
+mod GroupsInOrder
 pub mod Aims
-pub mod Faults
-pub mod NumberSteps
-pub mod GroupSteps
+mod Faults
+mod NumberSteps
+mod GroupSteps
