@@ -1,7 +1,6 @@
 //! Where a session stands in the selected group (RFC 3977, section 6.1).
 ghost use Rattle.std.specs.Prelude.{◌≡◌};
-ghost use Rattle.nntp_wire.specs.Inner.View.{asked};
-ghost use Rattle.nntp_wire.specs.Inner.AnswerView.{response};
+ghost use Rattle.nntp_wire.specs.Inner.{View.{asked}, AnswerView.{response}};
 ghost use Rattle.nntp_said.specs.Asks.{position_after};
 
 use nntp_wire::{Answer, Command, Prompt, Which};

@@ -1,8 +1,6 @@
 //! The facts that an answer says, one after the other.
-ghost use Rattle.std.specs.Prelude.{◌≡◌, ◌↔◌, IsTrue, [], ◌∷◌, drop, option_map, slice_get};
-ghost use Rattle.std.specs.Iterator.{YieldsFirstBy, item_count};
-ghost use Rattle.nntp_said.specs.Inner.FactView.{fact_of, facts_at};
-ghost use Rattle.nntp_said.specs.Inner.Places.{Place};
+ghost use Rattle.std.specs.{Prelude.{◌≡◌, ◌↔◌, IsTrue, [], ◌∷◌, drop, option_map, slice_get}, Iterator.{YieldsFirstBy, item_count}};
+ghost use Rattle.nntp_said.specs.Inner.{FactView.{fact_of, facts_at}, Places.{Place}};
 
 use crate::fact::Fact;
 use std::marker::Model;
@@ -18,8 +16,7 @@ pub struct SaidFacts<'s> {
 
 impl<'s> Model for SaidFacts<'s> {
     ghost use Rattle.std.specs.Prelude.{List, drop, ◌≤◌};
-    ghost use Rattle.nntp_said.specs.Facts.{Fact as FactValue};
-    ghost use Rattle.nntp_said.specs.Inner.FactView.{facts_at};
+    ghost use Rattle.nntp_said.specs.{Facts.{Fact as FactValue}, Inner.FactView.{facts_at}};
 
     ghost Value = { List FactValue };
 

@@ -1,15 +1,10 @@
 //! What each kind of answer says of the spool (RFC 3977, sections 6 and 7.6.3).
-ghost use Rattle.std.specs.Prelude.{◌≡◌, ℕ, [], ◌∷◌, option_map};
-ghost use Rattle.std.specs.Option.{option_map_or};
-ghost use Rattle.nntp_wire.specs.declared.marks.Marks.{Marks};
-ghost use Rattle.nntp_wire.specs.Inner.View.{asked, overview_value, overviewed, request, target};
-ghost use Rattle.nntp_wire.specs.Inner.AnswerView.{response};
-ghost use Rattle.nntp_wire.specs.Command.{over, retrieve};
-ghost use Rattle.nntp_wire.specs.Listing.{listed_numbers, overviews_of};
+ghost use Rattle.std.specs.{Prelude.{◌≡◌, ℕ, [], ◌∷◌, option_map}, Option.{option_map_or}};
+ghost use Rattle.nntp_wire.specs.{declared.marks.Marks.{Marks}, Inner.{View.{asked, overview_value, overviewed, request, target}, AnswerView.{response}}};
+ghost use Rattle.nntp_wire.specs.{Command.{over, retrieve}, Listing.{listed_numbers, overviews_of}};
 ghost use Rattle.nntp_article.specs.Session.Machine.{Visible, only};
-ghost use Rattle.nntp_said.specs.Asks.{Estimates, ListsIn};
-ghost use Rattle.nntp_said.specs.Facts.{Asks, IdAt, TextIs, ThereIs, here, facts_of, facts_of_code, facts_of_overview, facts_of_overviews, facts_of_place};
-ghost use Rattle.nntp_said.specs.Inner.FactView.{ask_of, fact_of, numbers_listed};
+ghost use Rattle.nntp_said.specs.{Asks.{Estimates, ListsIn}, Facts.{Asks, IdAt, TextIs, ThereIs, here, facts_of, facts_of_code, facts_of_overview}};
+ghost use Rattle.nntp_said.specs.{Facts.{facts_of_overviews, facts_of_place}, Inner.FactView.{ask_of, fact_of, numbers_listed}};
 
 use crate::fact::{Ask, Fact, NumberLines};
 use crate::position::Position;
