@@ -1,9 +1,6 @@
 //! Whether nothing is both shown and denied, where a part is said beside what is kept.
-ghost use Rattle.std.specs.Prelude.{◌≡◌, ℕ, ◌↔◌, true, false, Some, IsTrue};
-ghost use Rattle.std.specs.List.{list_all};
-ghost use Rattle.nntp_numbers.specs.Inner.Part.{part_denies, IsRegular};
-ghost use Rattle.nntp_numbers.specs.Inner.PartView.{said};
-ghost use Rattle.nntp_numbers.specs.Inner.Summary.{has, denied_after, AgreesWith, AreOpen, is_open, gaps};
+ghost use Rattle.std.specs.{Prelude.{◌≡◌, ℕ, ◌↔◌, true, false, Some, IsTrue}, List.{list_all}};
+ghost use Rattle.nntp_numbers.specs.Inner.{Part.{part_denies, IsRegular}, PartView.{said}, Summary.{has, denied_after, AgreesWith, AreOpen, is_open, gaps}};
 
 use crate::ends::Ends;
 use crate::gaps::{Gaps, none_in_gaps};

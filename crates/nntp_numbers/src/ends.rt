@@ -1,8 +1,7 @@
 //! The least and the greatest of some article numbers.
 ghost use Rattle.std.specs.Prelude.{◌≡◌};
 ghost use Rattle.nntp_said.specs.Asks.{Estimates};
-ghost use Rattle.nntp_numbers.specs.Inner.NumberSets.{brought_between};
-ghost use Rattle.nntp_numbers.specs.Inner.Part.{ends_in, join_ends};
+ghost use Rattle.nntp_numbers.specs.Inner.{NumberSets.{brought_between}, Part.{ends_in, join_ends}};
 
 use nntp_wire::{Marks, WaterMarks};
 

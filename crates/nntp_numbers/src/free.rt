@@ -1,10 +1,7 @@
 //! The first number that is free, which no answer denies.
-ghost use Rattle.std.specs.Prelude.{◌≡◌, ℕ, nat_lt, ◌^◌, ◌<◌, ◌≤◌, ◌⊎◌, ◌↔◌, ◌||◌, true, false, max, [], IsTrue};
-ghost use Rattle.std.specs.List.{list_all};
+ghost use Rattle.std.specs.{Prelude.{◌≡◌, ℕ, nat_lt, ◌^◌, ◌<◌, ◌≤◌, ◌⊎◌, ◌↔◌, ◌||◌, true, false, max, [], IsTrue}, List.{list_all}};
 ghost use Rattle.nntp_intervals.specs.Inner.Intervals.{holds};
-ghost use Rattle.nntp_numbers.specs.Inner.Part.{IsRegular};
-ghost use Rattle.nntp_numbers.specs.Inner.PartView.{said};
-ghost use Rattle.nntp_numbers.specs.Inner.Summary.{denied_after, is_open, FirstFreeBelow};
+ghost use Rattle.nntp_numbers.specs.Inner.{Part.{IsRegular}, PartView.{said}, Summary.{denied_after, is_open, FirstFreeBelow}};
 
 use crate::numbers_part::NumbersPart;
 use nntp_intervals::IntervalSet;

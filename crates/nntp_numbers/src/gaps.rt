@@ -1,6 +1,5 @@
 //! The intervals that ascending numbers leave of a range.
-ghost use Rattle.std.specs.Prelude.{◌≡◌, ℕ, true, false, ◌||◌, IsTrue, OnOk, ◌↔◌, Some};
-ghost use Rattle.std.specs.Iterator.{YieldsFirst, item_count};
+ghost use Rattle.std.specs.{Prelude.{◌≡◌, ℕ, true, false, ◌||◌, IsTrue, OnOk, ◌↔◌, Some}, Iterator.{YieldsFirst, item_count}};
 ghost use Rattle.nntp_intervals.specs.Inner.Intervals.{holds};
 ghost use Rattle.nntp_numbers.specs.Inner.Summary.{has, gaps};
 

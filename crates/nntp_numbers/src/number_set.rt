@@ -1,7 +1,6 @@
 //! Sets of article numbers.
 ghost use Rattle.std.specs.Prelude.{◌≡◌, ℕ, ◌+◌, ◌^◌, ◌<◌, ◌↔◌, ◌&&◌, ◌||◌, ◌==◌, nat_lt, true, false, length, [], IsTrue, IfOk, OnOk, OnErr};
-ghost use Rattle.std.specs.Ordering.{nat_cmp};
-ghost use Rattle.std.specs.List.Sorted.{IsStrictlySortedBy};
+ghost use Rattle.std.specs.{Ordering.{nat_cmp}, List.Sorted.{IsStrictlySortedBy}};
 ghost use Rattle.nntp_intervals.specs.Inner.Intervals.{is_between};
 ghost use Rattle.nntp_numbers.specs.Inner.Summary.{has, shown_after, PassSoMany};
 

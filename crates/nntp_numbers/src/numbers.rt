@@ -3,14 +3,10 @@ ghost use Rattle.std.specs.Prelude.{◌≡◌, ℕ, true, nat_lt, ◌^◌, ◌-�
 ghost use Rattle.std.specs.List.{list_all};
 ghost use Rattle.nntp_intervals.specs.Inner.Intervals.{holds};
 ghost use Rattle.nntp_said.specs.Asks.{Ask};
-ghost use Rattle.nntp_theory.specs.Inner.Together.{AsksStand};
-ghost use Rattle.nntp_theory.specs.Inner.Estimates.{is_within};
-ghost use Rattle.nntp_numbers.specs.Inner.Part.{Says, IsRegular};
-ghost use Rattle.nntp_numbers.specs.Inner.PartView.{said};
-ghost use Rattle.nntp_theory.specs.Given.{join};
-ghost use Rattle.nntp_numbers.specs.Inner.Unseen.{known_ends_in, unless_shown, one_more_in, unseen_in, unseen_high_in};
-ghost use Rattle.nntp_numbers.specs.Inner.Summary.{IsSummary, AreBounded, AddsNothing, ends_after, denied_after, is_open, FirstFreeBelow, has_room, is_settled};
-ghost use Rattle.nntp_numbers.specs.Inner.Between.{numbers_between};
+ghost use Rattle.nntp_theory.specs.{Inner.{Together.{AsksStand}, Estimates.{is_within}}, Given.{join}};
+ghost use Rattle.nntp_numbers.specs.Inner.{Part.{Says, IsRegular}, PartView.{said}, Unseen.{known_ends_in, unless_shown, one_more_in, unseen_in}};
+ghost use Rattle.nntp_numbers.specs.Inner.{Unseen.{unseen_high_in}, Summary.{IsSummary, AreBounded, AddsNothing, ends_after, denied_after, is_open}};
+ghost use Rattle.nntp_numbers.specs.Inner.{Summary.{FirstFreeBelow, has_room, is_settled}, Between.{numbers_between}};
 
 mod conflict;
 
@@ -43,8 +39,7 @@ pub struct Numbers<A: Allocator = Global> {
 }
 
 impl<A: Allocator> Model for Numbers<A> {
-    ghost use Rattle.nntp_numbers.specs.Inner.Summary.{Summary};
-    ghost use Rattle.nntp_numbers.specs.Inner.SummaryView.{coded_summary};
+    ghost use Rattle.nntp_numbers.specs.Inner.{Summary.{Summary}, SummaryView.{coded_summary}};
 
     ghost Value = { Summary };
 

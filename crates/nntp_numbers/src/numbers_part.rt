@@ -1,15 +1,11 @@
 //! What an answer says of the numbers of one group (RFC 3977, section 6.1).
 ghost use Rattle.std.specs.Prelude.{◌≡◌, ◌^◌, ◌<◌, [], ◌∷◌, ◌↔◌, IsTrue};
-ghost use Rattle.nntp_wire.specs.Limit.{greatest};
-ghost use Rattle.nntp_wire.specs.declared.marks.Marks.TheVariants.{Lenient};
+ghost use Rattle.nntp_wire.specs.{Limit.{greatest}, declared.marks.Marks.TheVariants.{Lenient}};
 ghost use Rattle.nntp_article.specs.declared.session.profile.Profile.{Profile};
 ghost use Rattle.nntp_theory.specs.Conflict.{widest};
-ghost use Rattle.nntp_said.specs.Asks.{Estimates, Bounds};
-ghost use Rattle.nntp_said.specs.Inner.FactView.{ask_of};
-ghost use Rattle.nntp_numbers.specs.Inner.Part.{Says, only_has};
-ghost use Rattle.nntp_numbers.specs.Inner.PartOf.{IsSmall, listing, none_above, none_below, nothing_said, part_with, standing_at, standing_nowhere};
-ghost use Rattle.nntp_numbers.specs.Inner.PartOf.{stepping_down, stepping_up};
-ghost use Rattle.nntp_numbers.specs.Inner.Summary.{AreBounded};
+ghost use Rattle.nntp_said.specs.{Asks.{Estimates, Bounds}, Inner.FactView.{ask_of}};
+ghost use Rattle.nntp_numbers.specs.Inner.{Part.{Says, only_has}, PartOf.{IsSmall, listing, none_above, none_below, nothing_said, part_with, standing_at}};
+ghost use Rattle.nntp_numbers.specs.Inner.{PartOf.{standing_nowhere, stepping_down, stepping_up}, Summary.{AreBounded}};
 
 use crate::ends::Ends;
 use nntp_said::{Ask, Position};

@@ -1,8 +1,7 @@
 //! The count of numbers, and of those that a demand wants.
 ghost use Rattle.std.specs.Prelude.{◌≡◌, ℕ, Bool, IsTrue, ◌||◌, ◌==◌, ◌+◌, ◌-◌, ◌^◌, ◌<◌, ◌≤◌};
 ghost use Rattle.nntp_article.specs.Session.Machine.{is_ascending};
-ghost use Rattle.nntp_numbers.specs.Inner.Part.{is_end_of};
-ghost use Rattle.nntp_numbers.specs.Inner.Summary.{shown_after, IsTally};
+ghost use Rattle.nntp_numbers.specs.Inner.{Part.{is_end_of}, Summary.{shown_after, IsTally}};
 
 use crate::ends::Ends;
 use crate::number_set::NumberSet;

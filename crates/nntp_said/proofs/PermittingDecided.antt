@@ -1,79 +1,46 @@
 -- Whether a spool permits a session can be decided.
-use Rattle.std.proofs.Common.{◌≡◌, ℕ, suc, ◌↔◌, ◌≤◌, Bool, true, false, ◌&&◌, ◌||◌, IsTrue, Option, None, Some, is_some, IsSome, MatchOption, List, [], ◌∷◌}
-use Rattle.std.proofs.{Common.{map, inl, inr, refl, sym, ap, ◌∙◌, arith}, lemmas.Bool.{and_parts, and_from, leb-true, le-leb, or_cases, or_left, or_right}}
-use Rattle.std.proofs.lemmas.{Bool.{cases_lt, cases_eq, true≢false}, Map.Views.{Contains-from_any, list_any-from_Contains, tells_apart}}
-use Rattle.std.proofs.lemmas.{Map.Lookups.{exact_unsigned, exact_bytes, CmpEqualImpliesEq}, List.Elements.{recursion_from_All, All-from_recursion}}
-use Rattle.std.specs.{Prelude.{nat_le, IfSome, Contains, option_map}, List.{list_any, list_all}, Ordering.{eq_by_cmp}, Cmp.{IsTotalOrder, nat_cmp_total}}
+use Rattle.std.proofs.Common.{◌≡◌, ℕ, ◌↔◌, ◌≤◌, Bool, true, false, ◌&&◌, ◌||◌, IsTrue, Option, None, Some, is_some, IsSome, List, [], ◌∷◌, map, inl, inr, arith}
+use Rattle.std.proofs.{Common.{sym, ◌∙◌}, lemmas.Bool.{and_parts, and_from, or_cases, or_left, or_right, cases_lt, cases_eq, true≢false, cases_Bool}}
+use Rattle.std.proofs.lemmas.{Bool.Decides.{nat_tests}, Map.{Views.{Contains-from_any, list_any-from_Contains, tells_apart}, Lookups.{exact_unsigned}}}
+use Rattle.std.{proofs.lemmas.{Map.Lookups.{exact_bytes, CmpEqualImpliesEq}, List.Elements.{recursion_from_All, All-from_recursion}}, specs.Prelude.{nat_le}}
+use Rattle.std.specs.{Prelude.{IfSome, Contains, option_map, MatchOption}, List.{list_any, list_all}, Ordering.{eq_by_cmp}, Cmp.{IsTotalOrder, nat_cmp_total}}
 use Rattle.std.specs.{Cmp.{eq_by_cmp_equiv, Lexicographic.{nat_list_cmp_total}}, FinMap.{FinMap, get, len, IsAntisymmetric, nat_cmp-IsAntisymmetric}}
 use Rattle.std.specs.{FinMap.{slice_cmp-IsAntisymmetric}, declared.cmp.Ordering.{Ordering}}
-use Rattle.nntp_article.specs.Session.Spool.{Spool, Numbers, IsNumber, numbers, IsNextAbove, IsNextBelow, NoneAbove, NoneBelow, Lists, IsInRange, text_of, Text}
-use Rattle.nntp_article.specs.Session.Machine.{HasOverview, overview_numbers, Visible, State, AreEnds, Bound, ActivesAgree, Run, fits, visible_after}
-use Rattle.nntp_article.specs.{Article.{Parts.{Line}, Fields.{fields_of_head}}, declared.session.profile.Profile.{Profile}}
+use Rattle.nntp_article.specs.Session.Spool.{Spool, Numbers, IsNumber, numbers, IsNextAbove, IsNextBelow, NoneAbove, NoneBelow, Lists, IsInRange, text_of}
+use Rattle.nntp_article.specs.Session.Machine.{HasOverview, overview_numbers, Visible, State, Bound, ActivesAgree, Run, fits, visible_after}
+use Rattle.nntp_article.specs.{declared.session.profile.Profile.{Profile}, Article.Fields.{fields_of_head}}
 use Rattle.nntp_wire.specs.{Listing.{Fields, ActiveValue, OverviewValue}, Answer.{Asked, Response}, declared.water_marks.WaterMarks.{WaterMarks}}
-use Rattle.nntp_wire.specs.{declared.{marks.Marks.{Marks, TheVariants.{Lenient, Strict}}, range.Range.{Range}}, Wildmat.{MatchesName}, Decided.{matches_name}}
+use Rattle.nntp_wire.specs.{declared.{marks.Marks.{Marks}, range.Range.{Range}}, Wildmat.{MatchesName}, Decided.{matches_name}}
 use Rattle.nntp_wire.proofs.{DecidedLemmas.{matches_name-iff}, OptionLemmas.{none_of}}
-use Rattle.nntp_said.specs.Asks.{Ask, Estimates, Bounds, ListsIn, Has, Lacks, StandsAt, StandsNowhere, StepsUp, StepsDown, IsTop, IsBottom, Meets, current_in}
+use Rattle.nntp_said.specs.Asks.{Ask, Meets, Bounds, Estimates, ListsIn, Has, Lacks, StandsAt, StandsNowhere, StepsUp, StepsDown, IsTop, IsBottom, current_in}
 use Rattle.nntp_said.specs.{declared.position.Position.{Position, TheVariants.{Nowhere, Known}}, Inner.{Asks.{state_at}, Facts.{FitsAll}}, Facts.{Fact}}
 use Rattle.nntp_said.specs.Facts.{ThereIs, ThereIsNo, Asks, IdAt, TextIs, NoArticle, FieldsAre, OverviewsAre, GroupsAre, Holds, facts_from}
-use Rattle.nntp_said.proofs.{CurrentArticle.{read_off, run_from}, FactsHold.{permits_by_facts}, FiniteMapsDecided.{Dec, dec_true, dec_le, dec_both, dec_three}}
-use Rattle.nntp_said.proofs.FiniteMapsDecided.{dec_by, dec_none, dec_some_text, each_key, dec_some, dec_option, dec_lists, dec_to, passes, fails, dec_all}
+use Rattle.nntp_said.proofs.{CurrentArticle.{read_off, run_from}, FactsHold.{permits_by_facts}, FiniteMapsDecided.{Dec, dec_true, dec_le, dec_both, dec_by}}
+use Rattle.nntp_said.proofs.FiniteMapsDecided.{dec_none, each_key, dec_some, dec_option, dec_lists, dec_to, passes, fails, dec_all, dec_texts}
 
 each_number : (N : Numbers) (p : ℕ → Bool) → Dec ((n : ℕ) → IsNumber N n → IsTrue (p n))
 each_number N p = each_key nat_cmp_total nat_cmp-IsAntisymmetric p N
 
-not_some : {A : Type 0} (o : Option A) → o ≡ None → IsSome o → ⊥
-not_some o e h = true≢false (sym h ∙ ap is_some e)
-
 dec_none_above : (N : Numbers) (c : ℕ) → Dec (NoneAbove N c)
-dec_none_above N c =
-    dec_by (λ h m l. none_of (get N m) (λ i. let a = leb-true m c (h m i) in omega arith))
-    (λ h m i. elim (cases_lt c m) [ inl l ↦ absurd (not_some (get N m) (h m l) i) | inr g ↦ le-leb m c g ])
-    (each_number N (λ m. nat_le m c))
+dec_none_above N c = grind (arith, nat_tests, none_of, each_number N (λ m. nat_le m c))
 
 dec_none_below : (N : Numbers) (c : ℕ) → Dec (NoneBelow N c)
-dec_none_below N c =
-    dec_by (λ h m l. none_of (get N m) (λ i. let a = leb-true c m (h m i) in omega arith))
-    (λ h m i. elim (cases_lt m c) [ inl l ↦ absurd (not_some (get N m) (h m l) i) | inr g ↦ le-leb c m g ])
-    (each_number N (λ m. nat_le c m))
-
-dec_ends : (marks : Marks) (N : Numbers) (m : WaterMarks) → Dec (AreEnds marks N m)
-dec_ends Lenient N m = inl tt
-dec_ends Strict N m =
-    dec_by (λ h n i. and_parts (is_some (get N m.low)) (is_some (get N m.high)) (h n i))
-    (λ h n i. and_from (is_some (get N m.low)) (is_some (get N m.high)) (h n i).0 (h n i).1)
-    (each_number N (λ n. is_some (get N m.low) && is_some (get N m.high)))
+dec_none_below N c = grind (arith, nat_tests, none_of, each_number N (λ m. nat_le c m))
 
 dec_between : (N : Numbers) (low high : ℕ) → Dec ((n : ℕ) → IsNumber N n → (low ≤ n) × (n ≤ high))
-dec_between N low high =
-    dec_by (λ h n i. let p = and_parts (nat_le low n) (nat_le n high) (h n i) in (leb-true low n p.0, leb-true n high p.1))
-    (λ h n i. and_from (nat_le low n) (nat_le n high) (le-leb low n (h n i).0) (le-leb n high (h n i).1))
-    (each_number N (λ n. nat_le low n && nat_le n high))
+dec_between N low high = grind (arith, nat_tests, and_parts, and_from, each_number N (λ n. nat_le low n && nat_le n high))
 
 dec_bound : (marks : Marks) (N : Numbers) (m : WaterMarks) → Dec (Bound marks N m)
-dec_bound marks N m = dec_three (dec_le (len N) m.estimate) (dec_between N m.low m.high) (dec_ends marks N m)
+dec_bound marks N m = grind (arith, dec_between N m.low m.high, dec_le (len N) m.estimate, and_parts, and_from, each_number N (λ n. is_some (get N m.low) && is_some (get N m.high)))
 
 dec_next_above : (N : Numbers) (c n : ℕ) → Dec (IsNextAbove N c n)
-dec_next_above N c n =
-    dec_three (dec_le (suc c) n) (dec_true (is_some (get N n)))
-    (dec_by (λ h m l i. elim (or_cases (nat_le m c) (nat_le n m) (h m i)) [ inl a ↦ (let b = leb-true m c a in absurd (omega arith)) | inr a ↦ leb-true n m a ])
-    (λ h m i. elim (cases_lt c m) [ inl l ↦ or_right (nat_le m c) (nat_le n m) (le-leb n m (h m l i)) | inr g ↦ or_left (nat_le m c) (nat_le n m) (le-leb m c g) ])
-    (each_number N (λ m. nat_le m c || nat_le n m)))
-
-dec_match : (o : Option ℕ) (Q : ℕ → Type 0) → ((c : ℕ) → Dec (Q c)) → Dec (MatchOption o ⊥ Q)
-dec_match o Q d = grind arith
+dec_next_above N c n = grind (arith, nat_tests, or_cases, or_left, or_right, dec_true (is_some (get N n)), cases_lt, each_number N (λ m. nat_le m c || nat_le n m))
 
 dec_next_below : (N : Numbers) (c n : ℕ) → Dec (IsNextBelow N c n)
-dec_next_below N c n =
-    dec_three (dec_le (suc n) c) (dec_true (is_some (get N n)))
-    (dec_by (λ h m l i. elim (or_cases (nat_le c m) (nat_le m n) (h m i)) [ inl a ↦ (let b = leb-true c m a in absurd (omega arith)) | inr a ↦ leb-true m n a ])
-    (λ h m i. elim (cases_lt m c) [ inl l ↦ or_right (nat_le c m) (nat_le m n) (le-leb m n (h m l i)) | inr g ↦ or_left (nat_le c m) (nat_le m n) (le-leb c m g) ])
-    (each_number N (λ m. nat_le c m || nat_le m n)))
-
-dec_if_some : {A : Type 0} (o : Option A) {Q : A → Type 0} → ((x : A) → Dec (Q x)) → Dec (IfSome o Q)
-dec_if_some o d = grind arith
+dec_next_below N c n = grind (arith, nat_tests, or_cases, or_left, or_right, dec_true (is_some (get N n)), cases_lt, each_number N (λ m. nat_le c m || nat_le m n))
 
 dec_in_range : (r : Range) (n : ℕ) → Dec (IsInRange r n)
-dec_in_range r n = dec_both (dec_le r.first n) (dec_if_some r.last (dec_le n))
+dec_in_range r n = grind (arith, cases_lt)
 
 abbrev test_of : {P : Type 0} → Dec P → Bool
 test_of (inl p) = true
@@ -87,19 +54,14 @@ to_test d h = grind arith
 
 module _ {K : Type 0} {R : K → K → Ordering} (o : IsTotalOrder R) (exact : CmpEqualImpliesEq R) where
   among : (ns : List K) (n : K) → Dec (Contains ns n)
-  among ns n = by (list_any (eq_by_cmp R n) ns) refl
-    where
-      by : (b : Bool) → list_any (eq_by_cmp R n) ns ≡ b → Dec (Contains ns n)
-      by true e = inl (Contains-from_any (tells_apart exact) n ns e)
-      by false e = inr (λ h. true≢false (sym (list_any-from_Contains (eq_by_cmp_equiv o) n ns h) ∙ e))
+  among ns n = grind (arith, cases_Bool (list_any (eq_by_cmp R n) ns), Contains-from_any (tells_apart exact) n ns, list_any-from_Contains (eq_by_cmp_equiv o) n ns, true≢false)
 
   -- each of the listed passes the test, or one doesn't
   each_listed : IsAntisymmetric R → (ns : List K) (p : K → Bool) → Dec ((n : K) → Contains ns n → IsTrue (p n))
-  each_listed same ns p = by (list_all p ns) refl
-    where
-      by : (b : Bool) → list_all p ns ≡ b → Dec ((n : K) → Contains ns n → IsTrue (p n))
-      by true e = inl (λ n h. passes o same p ns n e (list_any-from_Contains (eq_by_cmp_equiv o) n ns h))
-      by false e = inr (λ h. let f = fails o same p ns e in true≢false (sym (h f.0 (Contains-from_any (tells_apart exact) f.0 ns f.2)) ∙ f.1))
+  each_listed same ns p = elim (cases_Bool (list_all p ns)) [
+    | inl all ↦ inl (λ n h. passes o same p ns n all (list_any-from_Contains (eq_by_cmp_equiv o) n ns h))
+    | inr some ↦ inr (λ h. let f = fails o same p ns some in true≢false (sym (h f.0 (Contains-from_any (tells_apart exact) f.0 ns f.2)) ∙ f.1))
+  ]
 
 -- the listed keys are those that have the property: the keys of the map that pass the test
 dec_same_keys : {K X : Type 0} {R : K → K → Ordering} (o : IsTotalOrder R) (same : IsAntisymmetric R)
@@ -113,6 +75,12 @@ dec_same_keys o same exact m P d ks =
 
 dec_listing : (N : Numbers) (r : Range) (ns : List ℕ) → Dec (Lists N r ns)
 dec_listing N r ns = dec_same_keys nat_cmp_total nat_cmp-IsAntisymmetric exact_unsigned N (IsInRange r) (dec_in_range r) ns
+
+dec_if_some : {A : Type 0} (o : Option A) {Q : A → Type 0} → ((x : A) → Dec (Q x)) → Dec (IfSome o Q)
+dec_if_some o d = grind arith
+
+dec_match : {A : Type 0} (o : Option A) (Q : A → Type 0) → ((x : A) → Dec (Q x)) → Dec (MatchOption o ⊥ Q)
+dec_match o Q d = grind arith
 
 dec_matched : (p : Option (List ℕ)) (name : List ℕ) → Dec (IfSome p (λ w. MatchesName w name))
 dec_matched p name = dec_if_some p (λ w. let iff = matches_name-iff w name in dec_by iff.0 iff.1 (dec_true (matches_name w name)))
@@ -141,52 +109,38 @@ dec_meets N (IsBottom at) = dec_match (current_in N at) _ (dec_none_below N)
 dec_fields : (x y : Fields) → Dec (x ≡ y)
 dec_fields x y =
     dec_by
-    (λ (h : (x.subject ≡ y.subject) × ((x.from ≡ y.from) × (x.date ≡ y.date) × (x.references ≡ y.references))).
-    λ i. record { subject = h.0 i; from = h.1.0 i; date = h.1.1 i; references = h.1.2 i })
-    (λ e. (ap (λ x. x.subject) e, (ap (λ x. x.from) e, ap (λ x. x.date) e, ap (λ x. x.references) e)))
-    (dec_both (dec_lists x.subject y.subject) (dec_three (dec_lists x.from y.from) (dec_lists x.date y.date) (dec_lists x.references y.references)))
+    (λ (h : ((x.subject ≡ y.subject) × (x.from ≡ y.from)) × ((x.date ≡ y.date) × (x.references ≡ y.references))).
+    λ i. record { subject = h.0.0 i; from = h.0.1 i; date = h.1.0 i; references = h.1.1 i })
+    (λ e. grind arith) (dec_both (dec_both (dec_lists x.subject y.subject) (dec_lists x.from y.from)) (dec_both (dec_lists x.date y.date) (dec_lists x.references y.references)))
 
 -- whether an overview is that of its article
 dec_overview : (S : Spool) (o : OverviewValue) → Dec (HasOverview S o)
-dec_overview S o = by (get S.articles o.id)
-  where
-    tells : (head : List Line) (told : Option Fields) → Dec (IfSome told (λ fields. fields_of_head head ≡ fields))
-    tells head None = inl tt
-    tells head (Some fields) = dec_fields (fields_of_head head) fields
-
-    by : (t : Option Text) → Dec (MatchOption t ⊥ (λ t. IfSome o.told (λ fields. fields_of_head t.head ≡ fields)))
-    by None = inr (λ h. h)
-    by (Some t) = tells t.head o.told
+dec_overview S o = dec_match (get S.articles o.id) _ (λ t. dec_if_some o.told (dec_fields (fields_of_head t.head)))
 
 -- whether a fact holds of a spool
 dec_holds : (S : Spool) (fact : Fact) → Dec (Holds S fact)
 dec_holds S (ThereIs name) = dec_true (is_some (get S.groups name))
 dec_holds S (ThereIsNo name) = dec_none (get S.groups name)
 dec_holds S (Asks name ask) = dec_meets (numbers S name) ask
-dec_holds S (IdAt name n id) = dec_some_text (get (numbers S name) n) id
+dec_holds S (IdAt name n id) = dec_some dec_texts (get (numbers S name) n) id
 dec_holds S (TextIs what id lines) = dec_some (dec_option dec_lists) (option_map (text_of what) (get S.articles id)) lines
 dec_holds S (NoArticle id) = dec_none (get S.articles id)
 dec_holds S (FieldsAre os) = dec_all _ (dec_overview S) os
 dec_holds S (OverviewsAre name r os) =
-    dec_both (dec_listing (numbers S name) r (overview_numbers os)) (dec_all _ (λ o. dec_both (dec_some_text (get (numbers S name) o.number) o.id) (dec_overview S o)) os)
+    dec_both (dec_listing (numbers S name) r (overview_numbers os)) (dec_all _ (λ o. dec_both (dec_some dec_texts (get (numbers S name) o.number) o.id) (dec_overview S o)) os)
 dec_holds S (GroupsAre p lines) = dec_actives S p lines
-
-dec_open : (closed : Bool) → Dec (closed ≡ false)
-dec_open true = inr (λ h. cc)
-dec_open false = inl refl
 
 -- whether the visible condition holds at each place
 dec_fits_all : (profile : Profile) (v : Visible) (ps : List Asked) (answers : List Response) → Dec (FitsAll profile v ps answers)
+dec_fits_all profile v (p ∷ ps) (a ∷ more) = grind (arith, cases_Bool v.closed, cases_Bool (fits profile v p a), dec_fits_all profile (visible_after v p a) ps more)
 dec_fits_all profile v ps [] = inl tt
-dec_fits_all profile v [] (a ∷ more) = inr (λ h. h)
-dec_fits_all profile v (p ∷ ps) (a ∷ more) = dec_three (dec_open v.closed) (dec_true (fits profile v p a)) (dec_fits_all profile (visible_after v p a) ps more)
+dec_fits_all profile v ps answers = inr (λ h. h)
 
 -- whether a spool permits answers from a position on: by what they say
 dec_run_at : (profile : Profile) (S : Spool) (v : Visible) (at : Position) (ps : List Asked) (answers : List Response) → Dec (Run profile S (state_at S v at) ps answers)
 dec_run_at profile S v at ps answers =
-    dec_by (λ h. run_from profile S v at ps answers ((permits_by_facts profile S v at ps answers).1 h))
-    (λ r. (permits_by_facts profile S v at ps answers).0 (read_off profile S v at ps answers r))
-    (dec_both (dec_fits_all profile v ps answers) (dec_all (Holds S) (dec_holds S) (facts_from profile.marks v at ps answers)))
+    let both = dec_both (dec_fits_all profile v ps answers) (dec_all (Holds S) (dec_holds S) (facts_from profile.marks v at ps answers)) in
+    grind (arith, both, permits_by_facts profile S v at ps answers, read_off profile S v at ps answers, run_from profile S v at ps answers)
 
 -- whether a spool permits answers from a state on, since each state is one at a position
 pub dec_run : (profile : Profile) (S : Spool) (s : State) (ps : List Asked) (answers : List Response) → Dec (Run profile S s ps answers)

@@ -4,6 +4,7 @@ use Rattle.std.proofs.{Common.{inl, inr, refl, subst, ◌∙◌}, lemmas.{Bool.{
 use Rattle.std.specs.{Prelude.{IfSome, Contains}, List.{AllByRecursion, list_any, list_all, flat_map}, Option.{option_or}}
 use Rattle.nntp_said.proofs.FiniteMapsDecided.{Dec}
 use Rattle.nntp_theory.specs.Given.{first_given}
+pub use Rattle.nntp_said.proofs.FactsHold.{all_both, all_front, all_back}
 
 -- x is an element of xs
 abbrev pub In : {A : Type 0} → A → List A → Type 0
@@ -19,21 +20,6 @@ all_at P x (y ∷ ys) h i = grind (arith, all_at P x ys h.1)
 pub all_from : {A : Type 0} (P : A → Type 0) (xs : List A) → ((x : A) → In x xs → P x) → AllByRecursion P xs
 all_from P [] h = tt
 all_from P (x ∷ xs) h = (h x (inl refl), all_from P xs (λ y i. h y (inr i)))
-
--- what holds of each element of two lists
-pub all_both : {A : Type 0} (P : A → Type 0) (xs ys : List A) → AllByRecursion P xs → AllByRecursion P ys → AllByRecursion P (xs ++ ys)
-all_both P [] ys h g = g
-all_both P (x ∷ xs) ys h g = (h.0, all_both P xs ys h.1 g)
-
--- what holds of each element holds in the front
-pub all_front : {A : Type 0} (P : A → Type 0) (xs ys : List A) → AllByRecursion P (xs ++ ys) → AllByRecursion P xs
-all_front P [] ys h = tt
-all_front P (x ∷ xs) ys h = (h.0, all_front P xs ys h.1)
-
--- what holds of each element holds in the back
-pub all_back : {A : Type 0} (P : A → Type 0) (xs ys : List A) → AllByRecursion P (xs ++ ys) → AllByRecursion P ys
-all_back P [] ys h = h
-all_back P (x ∷ xs) ys h = all_back P xs ys h.1
 
 -- an element of the front
 pub in_front : {A : Type 0} (x : A) (xs ys : List A) → In x xs → In x (xs ++ ys)

@@ -1,7 +1,6 @@
 //! The demands on the first number of a group, where it isn't shown.
 ghost use Rattle.std.specs.Prelude.{◌≡◌};
-ghost use Rattle.nntp_theory.specs.Given.{join, wants};
-ghost use Rattle.nntp_theory.specs.Inner.OneMore.{is_demanding};
+ghost use Rattle.nntp_theory.specs.{Given.{join, wants}, Inner.OneMore.{is_demanding}};
 
 /// A demand on the first number of a group: what answers say of it where they don't show it.
 #[derive(Clone, Copy, PartialEq, Eq)]

@@ -1,40 +1,21 @@
 //! Laws that follow from the definitions alone.
-ghost use Rattle.std.specs.Prelude.{◌≡◌, ℕ, Contains, ◌↔◌, ◌≤◌, ◌<◌, ◌+◌, ◌^◌, ◌⊎◌, false, List, [], ◌∷◌, ◌++◌, length, IsTrue, Some};
-ghost use Rattle.std.specs.List.{AllByRecursion, flat_map};
-ghost use Rattle.std.specs.FinMap.{insert, len};
-ghost use Rattle.nntp_article.specs.Session.Spool.{Spool, Numbers, IsNumber, IsGroup, IsSpool, Name};
-ghost use Rattle.nntp_article.specs.declared.session.profile.Profile.{Profile};
-ghost use Rattle.nntp_article.specs.Session.Machine.{Run, start, fits, Visible, visible_after};
-ghost use Rattle.nntp_said.specs.Asks.{Meets, Ask, position_after};
-ghost use Rattle.nntp_said.specs.declared.position.Position.TheVariants.{Nowhere};
-ghost use Rattle.nntp_said.specs.declared.position.Position.{Position};
-ghost use Rattle.nntp_said.specs.Inner.Facts.{FitsAll};
+ghost use Rattle.std.specs.{Prelude.{◌≡◌, ℕ, Contains, ◌↔◌, ◌≤◌, ◌<◌, ◌+◌, ◌^◌, ◌⊎◌, false, List, [], ◌∷◌, ◌++◌, length, IsTrue, Some}, List.{AllByRecursion}};
+ghost use Rattle.std.specs.{List.{flat_map}, FinMap.{insert, len}};
+ghost use Rattle.nntp_article.specs.Session.{Spool.{Spool, Numbers, IsNumber, IsGroup, IsSpool, Name}, Machine.{Run, start, fits, Visible, visible_after}};
+ghost use Rattle.nntp_article.specs.{Session.Explains.{Explains, ExplainsUpTo, Bad}, declared.session.profile.Profile.{Profile}};
+ghost use Rattle.nntp_said.specs.{Asks.{Meets, Ask, position_after}, declared.position.Position.{Position, TheVariants.{Nowhere}}, Inner.Facts.{FitsAll}};
 ghost use Rattle.nntp_said.specs.Facts.{Holds, Fact, facts_of, facts_from};
 ghost use Rattle.nntp_theory.specs.Given.{asks_of, is_known, demand, IsOneMore, IsGivenNumber, HasGivenNumbers, IsGiven, facts_of_session, HasAtLeast, join};
-ghost use Rattle.nntp_theory.specs.Inner.Given.{size, weight};
-ghost use Rattle.nntp_theory.specs.Together.{MeetsDemand};
-ghost use Rattle.nntp_theory.specs.Inner.Together.{IsWellFormed, Together, AgreeWithin, Join};
-ghost use Rattle.nntp_theory.specs.Inner.Permits.{SomePermits, IsFirstUnpermitted};
-ghost use Rattle.nntp_article.specs.Session.Explains.{Explains, ExplainsUpTo, Bad};
-ghost use Rattle.nntp_wire.specs.Inner.Octets.{are_octets};
-ghost use Rattle.nntp_wire.specs.Session.{prompts_of, Spelled};
-ghost use Rattle.nntp_theory.specs.Outcome.{Outcome, Yes, No, IsOutcome};
-ghost use Rattle.nntp_theory.specs.Inner.Outcome.{is_yes};
-ghost use Rattle.nntp_pair.specs.declared.class.Class.{Class};
-ghost use Rattle.nntp_pair.specs.declared.class.Class.TheVariants.{OutOfPlace};
-ghost use Rattle.nntp_theory.specs.Classes.{HasClass, IsSettled, class_by, visible_from, position_from, asked_next};
-ghost use Rattle.nntp_pair.specs.Classes.{class_of};
-ghost use Rattle.nntp_pair.specs.Pairing.{Paired, Unpaired, IsNext, AreNext, IsBad, Ending, end, bad, IsPairing, responses_of, asked_of, asked_at, streams};
+ghost use Rattle.nntp_theory.specs.Inner.{Given.{size, weight}, Together.{IsWellFormed, Together, AgreeWithin, Join}, Permits.{SomePermits}};
+ghost use Rattle.nntp_theory.specs.{Inner.{Permits.{IsFirstUnpermitted}, Outcome.{is_yes}, Conflict.{FitsThere, IsPartOfCore}}, Together.{MeetsDemand}};
+ghost use Rattle.nntp_theory.specs.{Outcome.{Outcome, Yes, No, IsOutcome}, Classes.{HasClass, IsSettled, class_by, visible_from, position_from, asked_next}};
+ghost use Rattle.nntp_theory.specs.Conflict.{Placed, placed_from, a_group, told, SomeHas, told_with, below, Point, ConflictAt, IsFirstPoint, IsCore};
+ghost use Rattle.nntp_theory.specs.Conflict.{IsEndOfCore, AreAmong};
+ghost use Rattle.nntp_wire.specs.{Inner.Octets.{are_octets}, Session.{prompts_of, Spelled, ClientStream, further}, Answer.{Asked, Response, Spells}};
+ghost use Rattle.nntp_wire.specs.declared.marks.Marks.{Marks, TheVariants.{Strict}};
+ghost use Rattle.nntp_pair.specs.{declared.class.{Class.{Class, TheVariants.{OutOfPlace}}, PairClass.{PairClass}}, Classes.{class_of}, Pairing.{Paired}};
+ghost use Rattle.nntp_pair.specs.Pairing.{Unpaired, IsNext, AreNext, IsBad, Ending, end, bad, IsPairing, responses_of, asked_of, asked_at, streams};
 ghost use Rattle.nntp_pair.specs.Inner.Pairing.{IsLasting, HasPairs, lines_in};
-ghost use Rattle.nntp_pair.specs.declared.class.PairClass.{PairClass};
-ghost use Rattle.nntp_wire.specs.Answer.{Asked, Response, Spells};
-ghost use Rattle.nntp_wire.specs.declared.marks.Marks.{Marks};
-ghost use Rattle.nntp_wire.specs.declared.marks.Marks.TheVariants.{Strict};
-ghost use Rattle.nntp_theory.specs.Conflict.{Placed, placed_from, a_group, told, SomeHas, told_with, below};
-ghost use Rattle.nntp_theory.specs.Conflict.{Point, ConflictAt, IsFirstPoint, IsCore, IsEndOfCore, AreAmong};
-ghost use Rattle.nntp_theory.specs.Inner.Conflict.{FitsThere, IsPartOfCore};
-ghost use Rattle.nntp_wire.specs.Session.{ClientStream};
-ghost use Rattle.nntp_wire.specs.Session.{further};
 
 pub mod reading;
 pub mod sessions;
@@ -68,12 +49,14 @@ pub fn strict_marks_are_all_that_is_added()
 {}
 
 /// For some facts there is at most one given spool.
+#[tactic(auto, using(crate::proofs::Given::OneGivenSpool::given_once))]
 pub fn given_spool_is_one()
     ensures { (facts : List Fact) (G H : Spool) → IsGiven facts G → IsGiven facts H → G ≡ H }
 {}
 
 /// The size of what a session says is bounded by its answers and their lines. So it is below 2^210
 /// for fewer than 2^64 answers, each of fewer than 2^64 lines.
+#[tactic(auto, using(crate::proofs::Ids::SizeOfASession::session_size, crate::proofs::Ids::SizeOfASession::pairs_weight))]
 pub fn size_is_bounded()
     ensures answers { (how : Marks) (prompts : List Asked) (answers : List Response) → size (facts_of_session how prompts answers) ≤ weight answers }
     ensures pairs { (how : Marks) (pairs : List Paired) → AllByRecursion (λ pair. lines_in pair.response < 2 ^ 64) pairs → length pairs < 2 ^ 64
@@ -147,6 +130,7 @@ pub fn given_spool_permits()
 
 /// A spool that permits a session lacks nothing that the session shows, and has no fewer numbers in
 /// a group than the given one.
+#[tactic(auto, using(crate::proofs::Given::GivenPermits::given_is_least))]
 pub fn given_spool_is_least()
     ensures { (profile : Profile) (S G : Spool) (prompts : List Asked) (answers : List Response)
         → IsSpool profile.limit S → Run profile S start prompts answers → size (facts_of_session profile.marks prompts answers) < 2 ^ 210
@@ -192,6 +176,7 @@ pub fn next_answer_is_permitted_where_it_joins()
 {}
 
 /// Either some spool permits a session, or none does.
+#[tactic(auto, using(crate::proofs::Given::SessionsByFacts::some_or_none))]
 pub fn some_spool_permits_or_none()
     ensures { (profile : Profile) (prompts : List Asked) (answers : List Response) → size (facts_of_session profile.marks prompts answers) < 2 ^ 210
         → SomePermits profile prompts answers ⊎ (SomePermits profile prompts answers → ⊥) }
@@ -237,6 +222,7 @@ pub fn settled_answer_stays_bad()
 
 /// Where the pairing of two streams ends at octets, these have the class of that end, which is
 /// settled exactly if the end is lasting.
+#[tactic(auto, using(crate::proofs::Streams::ClassAtTheEnd::end_has_class, crate::proofs::Streams::ClassAtTheEnd::settled_lasts))]
 pub fn pairing_ends_in_class()
     ensures class { (profile : Profile) (client : ClientStream) (server : List ℕ) (pairs : List Paired) (left : Unpaired) (class : PairClass)
         → AreNext (streams client server) pairs left → IsBad class left
@@ -281,6 +267,7 @@ pub fn unpermitted_response_is_bad()
 
 /// The answers of an explanation are the responses of the first pairs of the streams, in order, and
 /// it leaves the octets that these pairs leave.
+#[tactic(auto, using(crate::proofs::Streams::ExplainedPairs::by_pairs))]
 pub fn explanation_is_by_pairs()
     ensures { (profile : Profile) (S : Spool) (client : ClientStream) (server : List ℕ) (n : ℕ) (rest : List ℕ)
         → (explained : ExplainsUpTo profile S client server n rest) → HasPairs (streams client server) explained.answers rest }

@@ -1,13 +1,10 @@
 //! The parts of what is said of the numbers of a group, each by itself.
 ghost use Rattle.std.specs.Prelude.{◌≡◌, ℕ, ◌^◌, ◌<◌, ◌-◌, ◌↔◌, ◌&&◌, List, Option, IsTrue, MatchOption};
 ghost use Rattle.nntp_said.specs.Asks.{Ask};
-ghost use Rattle.nntp_theory.specs.Given.{is_known, is_denied, demand, wants, IsOneMore, IsGivenNumber};
-ghost use Rattle.nntp_numbers.specs.Inner.Part.{is_end_of};
-ghost use Rattle.nntp_theory.specs.Together.{MeetsDemand};
-ghost use Rattle.nntp_numbers.specs.Inner.Unseen.{known_ends_in};
-ghost use Rattle.nntp_numbers.specs.Inner.Summary.{IsSummary, AreBounded, has, PassSoMany, IsTally, is_met, DeniedAmong};
-ghost use Rattle.nntp_theory.specs.Inner.Conflict.{AreApart};
+ghost use Rattle.nntp_theory.specs.{Given.{is_known, is_denied, demand, wants, IsOneMore, IsGivenNumber}, Together.{MeetsDemand}, Inner.Conflict.{AreApart}};
 ghost use Rattle.nntp_theory.specs.Conflict.{AreTooMany};
+ghost use Rattle.nntp_numbers.specs.Inner.{Part.{is_end_of}, Unseen.{known_ends_in}, Summary.{IsSummary, AreBounded, has, PassSoMany, IsTally, is_met}};
+ghost use Rattle.nntp_numbers.specs.Inner.Summary.{DeniedAmong};
 
 use crate::number_set::NumberSet;
 use crate::numbers::{Numbers, is_within};

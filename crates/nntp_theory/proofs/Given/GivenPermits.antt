@@ -2,7 +2,7 @@
 use Rattle.std.{proofs.Common.{◌<◌, ◌^◌, List}, specs.List.{AllByRecursion}}
 use Rattle.nntp_article.specs.{Session.{Spool.{Spool, IsSpool}, Machine.{Run, start}}, declared.session.profile.Profile.{Profile}}
 use Rattle.nntp_said.{specs.{declared.position.Position.TheVariants.{Nowhere}, Facts.{Holds}, Inner.Facts.{FitsAll}}, proofs.CurrentArticle.{read_off}}
-use Rattle.nntp_said.proofs.{CurrentArticle.{run_from}, FactsHold.{facts_of_run, run_of_facts}}
+use Rattle.nntp_said.proofs.{CurrentArticle.{run_from}, FactsHold.{permits_by_facts}}
 use Rattle.nntp_theory.specs.{Given.{IsGiven, facts_of_session, HasAtLeast}, Inner.{Given.{size}, Together.{Together}}}
 use Rattle.nntp_theory.proofs.{Session.{NumbersOfShownGroups.{session_placed}, FittingFacts.{session_fitting}}, Together.FactsOfASpoolStand.{stand}}
 use Rattle.nntp_theory.proofs.Given.GivenHasFacts.{given_has, least_of_facts}
@@ -11,13 +11,13 @@ use Rattle.nntp_wire.specs.Answer.{Asked, Response}
 -- what a session that a spool permits says, and that it holds of the spool
 pub said : (profile : Profile) (S : Spool) (ps : List Asked) (answers : List Response) → Run profile S start ps answers
     → FitsAll profile start.visible ps answers × AllByRecursion (Holds S) (facts_of_session profile.marks ps answers)
-said profile S ps answers run = facts_of_run profile S start.visible Nowhere ps answers (read_off profile S start.visible Nowhere ps answers run)
+said profile S ps answers run = (permits_by_facts profile S start.visible Nowhere ps answers).0 (read_off profile S start.visible Nowhere ps answers run)
 
 -- and back
 pub permits : (profile : Profile) (S : Spool) (ps : List Asked) (answers : List Response) → FitsAll profile start.visible ps answers
     → AllByRecursion (Holds S) (facts_of_session profile.marks ps answers) → Run profile S start ps answers
 permits profile S ps answers fits holds =
-    run_from profile S start.visible Nowhere ps answers (run_of_facts profile S start.visible Nowhere ps answers fits holds)
+    run_from profile S start.visible Nowhere ps answers ((permits_by_facts profile S start.visible Nowhere ps answers).1 (fits, holds))
 
 -- what some spool permits fits and stands together
 pub stands : (profile : Profile) (S : Spool) (ps : List Asked) (answers : List Response) → IsSpool profile.limit S

@@ -1,17 +1,10 @@
 //! Laws of the reading of two streams, which goes on behind bad answers.
 ghost use Rattle.std.specs.Prelude.{◌≡◌, ℕ, ◌↔◌, ◌≤◌, ◌<◌, ◌^◌, List, [], ◌∷◌, ◌++◌, length, map, Some};
-ghost use Rattle.nntp_article.specs.Session.Spool.{Spool};
-ghost use Rattle.nntp_article.specs.declared.session.profile.Profile.{Profile};
-ghost use Rattle.nntp_article.specs.Session.Explains.{Explains};
-ghost use Rattle.nntp_pair.specs.declared.class.PairClass.{PairClass};
-ghost use Rattle.nntp_pair.specs.Pairing.{Paired, Unpaired, Ending, end, bad, asked_of, responses_of, streams};
-ghost use Rattle.nntp_theory.specs.Given.{facts_of_session};
-ghost use Rattle.nntp_theory.specs.Inner.Given.{size};
-ghost use Rattle.nntp_pair.specs.declared.class.Class.{Class};
-ghost use Rattle.nntp_pair.specs.Classes.{class_of};
-ghost use Rattle.nntp_theory.specs.Permitted.{ArePermitted};
-ghost use Rattle.nntp_theory.specs.Outcome.{No, IsOutcome};
-ghost use Rattle.nntp_theory.specs.Reading.{Judged, Accepted, accepted_of, AreJudged, class_behind, IsReading};
+ghost use Rattle.nntp_article.specs.{Session.{Spool.{Spool}, Explains.{Explains}}, declared.session.profile.Profile.{Profile}};
+ghost use Rattle.nntp_pair.specs.{declared.class.{PairClass.{PairClass}, Class.{Class}}, Pairing.{Paired, Unpaired, Ending, end, bad, asked_of, responses_of}};
+ghost use Rattle.nntp_pair.specs.{Pairing.{streams}, Classes.{class_of}};
+ghost use Rattle.nntp_theory.specs.{Given.{facts_of_session}, Inner.Given.{size}, Permitted.{ArePermitted}, Outcome.{No, IsOutcome}, Reading.{Judged}};
+ghost use Rattle.nntp_theory.specs.Reading.{Accepted, accepted_of, AreJudged, class_behind, IsReading};
 ghost use Rattle.nntp_wire.specs.Session.{ClientStream};
 
 /// Two streams have exactly one reading.

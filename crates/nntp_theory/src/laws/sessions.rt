@@ -1,25 +1,16 @@
 //! Laws of several sessions of one spool, by what their answers say.
-ghost use Rattle.std.specs.Prelude.{◌≡◌, ◌↔◌, ◌⊎◌, ◌<◌, ◌^◌, ◌+◌, false, List, [], ◌∷◌, ◌++◌, length, map, Some, IsTrue};
-ghost use Rattle.std.specs.List.{AllByRecursion};
-ghost use Rattle.nntp_article.specs.Session.Spool.{Spool, IsSpool};
-ghost use Rattle.nntp_article.specs.declared.session.profile.Profile.{Profile};
-ghost use Rattle.nntp_said.specs.Facts.{Holds, facts_of};
-ghost use Rattle.nntp_theory.specs.Given.{IsGiven, HasAtLeast, facts_of_session};
-ghost use Rattle.nntp_theory.specs.Inner.Given.{size};
-ghost use Rattle.nntp_theory.specs.Inner.Together.{Together, Join};
-ghost use Rattle.nntp_theory.specs.Inner.Exchanged.{AreFew};
-ghost use Rattle.nntp_theory.specs.Permitted.{exchanged};
-ghost use Rattle.nntp_theory.specs.Classes.{visible_from, position_from, asked_next};
-ghost use Rattle.nntp_said.specs.declared.position.Position.TheVariants.{Nowhere};
+ghost use Rattle.std.specs.{Prelude.{◌≡◌, ◌↔◌, ◌⊎◌, ◌<◌, ◌^◌, ◌+◌, false, List, [], ◌∷◌, ◌++◌, length, map, Some, IsTrue}, List.{AllByRecursion}};
+ghost use Rattle.nntp_article.specs.{Session.{Spool.{Spool, IsSpool}, Machine.{start, fits}}, declared.session.profile.Profile.{Profile}};
+ghost use Rattle.nntp_said.specs.{Facts.{Holds, facts_of}, declared.position.Position.TheVariants.{Nowhere}};
+ghost use Rattle.nntp_theory.specs.{Given.{IsGiven, HasAtLeast, facts_of_session}, Inner.{Given.{size}, Together.{Together, Join}, Exchanged.{AreFew}}};
+ghost use Rattle.nntp_theory.specs.{Inner.Answered.{FitEach}, Permitted.{exchanged}, Classes.{visible_from, position_from, asked_next}, Answered.{Answered}};
+ghost use Rattle.nntp_theory.specs.Answered.{PermitsEach, SomePermitsEach, facts_of_all};
 ghost use Rattle.nntp_pair.specs.Pairing.{Paired};
-ghost use Rattle.nntp_wire.specs.Answer.{Asked, Response};
-ghost use Rattle.nntp_wire.specs.declared.marks.Marks.{Marks};
-ghost use Rattle.nntp_article.specs.Session.Machine.{start, fits};
-ghost use Rattle.nntp_theory.specs.Answered.{Answered, PermitsEach, SomePermitsEach, facts_of_all};
-ghost use Rattle.nntp_theory.specs.Inner.Answered.{FitEach};
+ghost use Rattle.nntp_wire.specs.{Answer.{Asked, Response}, declared.marks.Marks.{Marks}};
 
 /// A spool permits each of several sessions exactly if each fits and all that their answers say
 /// holds of it.
+#[tactic(auto, using(crate::proofs::Given::SessionsByFacts::said_each, crate::proofs::Given::SessionsByFacts::permits_each))]
 pub fn sessions_are_permitted_by_facts()
     ensures { (profile : Profile) (S : Spool) (sessions : List Answered)
         → PermitsEach profile S sessions ↔ (FitEach profile sessions × AllByRecursion (Holds S) (facts_of_all profile.marks sessions)) }

@@ -1,5 +1,0 @@
-use Rattle.nntp_theory.proofs.Streams.ExplainedPairs.{by_pairs}
-use Rattle.nntp_theory.proofs.laws.explanation_is_by_pairs.Goals as goal
-
-pub returns : goal.returns
-returns c = by_pairs
