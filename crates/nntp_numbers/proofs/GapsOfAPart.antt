@@ -92,5 +92,4 @@ module _ (denied : List (ℕ × ℕ)) (p : Said) (regular : IsRegular p) (all : 
 
   pub first_of_part : (r : ℕ) → 1 ≤ r → p.low ≤ r → (r < p.first) ⊎ (r ≡ n) → holds denied r ≡ false → r ≤ n
       → ((m : ℕ) → 1 ≤ m → p.low ≤ m → m < r → m < p.first → holds denied m ≡ true) → IsFirstFree (denied_after denied p) 1 r
-  first_of_part r one above kind free up before =
-      grind (arith, may_begin, first_there p.numbers n head, nat_tests, none_before p.numbers n regular.ascends head)
+  first_of_part r one above kind free up before = grind (arith, may_begin, first_there p.numbers n head, nat_tests, none_before p.numbers n regular.ascends head)

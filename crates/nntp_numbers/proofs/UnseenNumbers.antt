@@ -51,8 +51,7 @@ module _ (s v : Summary) (view : v ≡ s) (w : HowMany) (found : PassSoMany (λ 
   -- or else what is first of those that aren't denied
   pub first_wanted : w ≡ Absent → (o : Option ℕ) → MatchOption o (IsFullFrom v.denied 1) (IsLeastFree v.denied 1)
       → (first : Option ℕ) → o ≡ first → IfSome first (λ n. n < 2 ^ 64) → if_wanted v.demand first ≡ one_more_in s
-  first_wanted none o least first is small =
-      grind (arith, first_free_once, first_free (holds v.denied), found, none, false_from_ne_true, found_in, true≢false, and_from, one_has)
+  first_wanted none o least first is small = grind (arith, first_free_once, first_free (holds v.denied), false_from_ne_true, found_in, true≢false, and_from, one_has)
 
 -- ---- what is read off
 
@@ -60,8 +59,7 @@ module _ (s : Summary) (asks : List Ask) (sum : IsSummary s asks) (bounded : Are
   -- where no number is known that is wanted unless one is shown, the number is the one more, and there is none where there is none
   pub one_more_is : (list_any (wants s.demand) s.shown ≡ false → (n : ℕ) → IsTrue (is_known asks n) → IsFalse (wants (demand asks) n))
       → MatchOption (one_more_in s) ((n : ℕ) → IsOneMore asks n → ⊥) (IsOneMore asks)
-  one_more_is needed =
-      grind (arith, free_of_all sum.denied bounded _ (first_free (holds s.denied)), found_in (wants s.demand), shown_known, sum.shown, one_has, true≢false, first_free_once, false_from_ne_true)
+  one_more_is needed = grind (arith, free_of_all sum.denied bounded, first_free (holds s.denied), found_in (wants s.demand), shown_known, one_has, true≢false, first_free_once, false_from_ne_true)
 
   -- none is known that is wanted, where what is known is shown, and none that is shown is wanted
   shown_unwanted : ((n : ℕ) → is_known asks n ≡ is_shown asks n) → list_any (wants s.demand) s.shown ≡ false → (n : ℕ) → IsTrue (is_known asks n) → IsFalse (wants (demand asks) n)

@@ -121,15 +121,6 @@ fewer_told own at xs ys fact sub i = grind (arith, in_cases fact own (flat_map a
 
 -- ---- finding a core
 
-module _ (profile : Profile) (bad : Placed) (answers : List Placed) where
-  -- fewer places
-  pub fewer_places : (xs ys : List ℕ) → ((k : ℕ) → In k xs → In k ys) → SomeHas profile (told_with profile bad answers ys) → SomeHas profile (told_with profile bad answers xs)
-  fewer_places xs ys sub = search (arith, fewer, fewer_told)
-
--- what stands at places with the bad answer
-abbrev StandsWith : Profile → Placed → List Placed → List ℕ → Type 0
-StandsWith profile bad answers places = SomeHas profile (told_with profile bad answers places)
-
 -- a place below the bound is one of those
 in_below : (k bound : ℕ) → k < bound → In k (below bound)
 in_below k zero l = absurd (omega arith)
@@ -159,28 +150,57 @@ split : (Stand : List ℕ → Type 0) (bound : ℕ) (front back : List ℕ) (k :
 split Stand bound [] back k f = (tt, f.0, f.1)
 split Stand bound (j ∷ front) back k f = grind (arith, split Stand (j + 1) front back k f.2)
 
-pub core_start : (profile : Profile) (bad : Placed) (answers : List Placed)
-    → (SomeHas profile (told_with profile bad answers (below (length answers))) → ⊥)
-    → IsPartOfCore profile bad answers (length answers) []
-core_start profile bad answers none = search (arith, fewer_places, in_front)
+-- an element splits the list
+pub split_at : (k : ℕ) (xs : List ℕ) → In k xs → (front : List ℕ) × (back : List ℕ) × (xs ≡ front ++ k ∷ back)
+split_at k [] i = absurd i
+split_at k (x ∷ xs) (inl e) = ([], xs, ap (λ x. x ∷ xs) e)
+split_at k (x ∷ xs) (inr i) = let r = split_at k xs i in (x ∷ r.0, r.1, ap (λ ys. x ∷ ys) r.2)
 
-pub core_step : (profile : Profile) (bad : Placed) (answers : List Placed) (bound k : ℕ) (places : List ℕ)
-    → IsPartOfCore profile bad answers bound places → k < bound → bound ≤ length answers
-    → SomeHas profile (told_with profile bad answers (below k ++ places))
-    → (SomeHas profile (told_with profile bad answers (below (k + 1) ++ places)) → ⊥) → IsPartOfCore profile bad answers k (k ∷ places)
-core_step profile bad answers bound k places p l within stands none =
-    grind (arith, fewer_places profile bad answers (below (k + 1) ++ places) (below k ++ k ∷ places), low_from, low_cases, lower)
+module _ (profile : Profile) (bad : Placed) (answers : List Placed) where
+  -- what stands at places with the bad answer
+  abbrev StandsWith : List ℕ → Type 0
+  StandsWith places = SomeHas profile (told_with profile bad answers places)
 
-pub core_done : (profile : Profile) (bad : Placed) (answers : List Placed) (bound : ℕ) (places : List ℕ)
-    → IsPartOfCore profile bad answers bound places → (SomeHas profile (told_with profile bad answers places) → ⊥) → IsCore profile bad answers places
-core_done profile bad answers bound places p none = record {
-  there = p.there;
-  conflict = none;
-  needed = λ front back k e.
-      let s = split (StandsWith profile bad answers) bound front back k (subst (AreFound (StandsWith profile bad answers) bound) e p.found) in
-      fewer_places profile bad answers (front ++ back) (below k ++ back)
-      (λ j i. grind (arith, low_from j k back, in_cases j front back i, all_at (λ j. j < k) j front s.0)) s.2;
-}
+  -- fewer places
+  pub fewer_places : (xs ys : List ℕ) → ((k : ℕ) → In k xs → In k ys) → StandsWith ys → StandsWith xs
+  fewer_places xs ys sub = search (arith, fewer, fewer_told)
+
+  pub core_start : (StandsWith (below (length answers)) → ⊥) → IsPartOfCore profile bad answers (length answers) []
+  core_start none = search (arith, fewer_places, in_front)
+
+  pub core_step : (bound k : ℕ) (places : List ℕ) → IsPartOfCore profile bad answers bound places → k < bound → bound ≤ length answers → StandsWith (below k ++ places)
+      → (StandsWith (below (k + 1) ++ places) → ⊥) → IsPartOfCore profile bad answers k (k ∷ places)
+  core_step bound k places p l within stands none = grind (arith, fewer_places (below (k + 1) ++ places) (below k ++ k ∷ places), low_from, low_cases, lower)
+
+  pub core_done : (bound : ℕ) (places : List ℕ) → IsPartOfCore profile bad answers bound places → (StandsWith places → ⊥) → IsCore profile bad answers places
+  core_done bound places p none = record {
+    there = p.there;
+    conflict = none;
+    needed = λ front back k e.
+        let s = split StandsWith bound front back k (subst (AreFound StandsWith bound) e p.found) in
+        fewer_places (front ++ back) (below k ++ back) (λ j i. grind (arith, low_from j k back, in_cases j front back i, all_at (λ j. j < k) j front s.0)) s.2;
+  }
+
+  -- each conflict among the places that are left and found has all that are found
+  pub found_in_each : (bound : ℕ) (places some : List ℕ) (k : ℕ) → IsPartOfCore profile bad answers bound places → ((j : ℕ) → In j some → In j (below bound ++ places))
+      → (StandsWith some → ⊥) → In k places → In k some
+  found_in_each bound places some k p among none i =
+      let at = split_at k places i in
+      let cut = split StandsWith bound at.0 at.1 k (subst (AreFound StandsWith bound) at.2 p.found) in
+      elim (each (In k some) (λ j. j ≡ k → ⊥) some (λ j t. elim (cases_eq j k) [ inl e ↦ inl (subst (λ j. In j some) e t) | inr ne ↦ inr ne ])) [
+        | inl there ↦ there
+        | inr out ↦ absurd (none (fewer_places some (below k ++ at.1) (λ j t. grind (arith, low_cases, all_at, low_from, in_cases j at.0 (k ∷ at.1))) cut.2))
+      ]
+
+  -- each conflict among those below the bound and those at the places has one below the bound
+  pub one_below : (bound : ℕ) (places some : List ℕ) → IsEndOfCore profile bad answers bound places → AreAmong some (below bound ++ places) → (StandsWith some → ⊥)
+      → (k : ℕ) × (k < bound) × Contains some k
+  one_below bound places some e among none =
+      elim (each ((k : ℕ) × (k < bound) × Contains some k) (λ k. bound ≤ k) some (λ k i. elim (cases_lt k bound) [ inl l ↦ inl (k, l, contains_in k some i) | inr le ↦ inr le ])) [
+        | inl there ↦ there
+        | inr high ↦ absurd (none (fewer_places some places
+            (λ k i. grind (arith, all_at, low_cases k bound places (in_contains k (below bound ++ places) (among k (contains_in k some i))))) e.stand))
+      ]
 
 -- ---- sessions
 
@@ -236,12 +256,7 @@ all_places profile S answers h = all_parts (Holds S) (told profile) answers (λ 
 pub contradicts : (profile : Profile) (ps : List Asked) (answers : List Response) (asked : Asked) (response : Response) → asked_next ps answers ≡ Some asked
     → FitsAll profile start.visible ps (answers ++ response ∷ [])
     → (SomePermits profile ps (answers ++ response ∷ []) → ⊥)
-    → SomeHas profile (told_with profile (record {
-      selected = (visible_from start.visible ps answers).selected;
-      position = position_from Nowhere ps answers;
-      asked = asked;
-      response = response;
-    })
+    → SomeHas profile (told_with profile (record { selected = (visible_from start.visible ps answers).selected; position = position_from Nowhere ps answers; asked = asked; response = response })
     (placed_from start.visible Nowhere ps answers) (below (length (placed_from start.visible Nowhere ps answers)))) → ⊥
 contradicts profile ps answers asked response comes fits none (S, spool, holds) = let v = visible_from start.visible ps answers in
     let bad : Placed = record { selected = v.selected; position = position_from Nowhere ps answers; asked = asked; response = response } in
@@ -250,26 +265,6 @@ contradicts profile ps answers asked response comes fits none (S, spool, holds) 
     let own = told_own profile S (said_there profile.marks bad) (all_front (Holds S) (told profile bad) others holds) in
     let before = session_told profile S start.visible Nowhere ps answers (all_places profile S placed (all_back (Holds S) (told profile bad) others holds)) in
     none (S, spool, permits profile S ps (answers ++ response ∷ []) fits (grind (arith, facts_grow profile.marks start.visible Nowhere ps answers asked response comes, all_both)))
-
--- ---- what is found is in each conflict
-
--- an element splits the list
-pub split_at : (k : ℕ) (xs : List ℕ) → In k xs → (front : List ℕ) × (back : List ℕ) × (xs ≡ front ++ k ∷ back)
-split_at k [] i = absurd i
-split_at k (x ∷ xs) (inl e) = ([], xs, ap (λ x. x ∷ xs) e)
-split_at k (x ∷ xs) (inr i) = let r = split_at k xs i in (x ∷ r.0, r.1, ap (λ ys. x ∷ ys) r.2)
-
--- each conflict among the places that are left and found has all that are found
-pub found_in_each : (profile : Profile) (bad : Placed) (answers : List Placed) (bound : ℕ) (places some : List ℕ) (k : ℕ)
-    → IsPartOfCore profile bad answers bound places → ((j : ℕ) → In j some → In j (below bound ++ places))
-    → (SomeHas profile (told_with profile bad answers some) → ⊥) → In k places → In k some
-found_in_each profile bad answers bound places some k p among none i = let at = split_at k places i in
-    let cut = split (StandsWith profile bad answers) bound at.0 at.1 k (subst (AreFound (StandsWith profile bad answers) bound) at.2 p.found) in
-    elim (each (In k some) (λ j. j ≡ k → ⊥) some (λ j t. elim (cases_eq j k) [ inl e ↦ inl (subst (λ j. In j some) e t) | inr ne ↦ inr ne ])) [
-      | inl there ↦ there
-      | inr out ↦ absurd (none (fewer_places profile bad answers some (below k ++ at.1)
-          (λ j t. grind (arith, low_cases, all_at, low_from, in_cases j at.0 (k ∷ at.1))) cut.2))
-    ]
 
 -- ---- where facts conflict
 
@@ -290,13 +285,3 @@ at_point facts (Article id) h t = true≢false (sym h.1 ∙ t.articles id h.0)
 at_point facts (HeadOf id) h t = h (t.heads id)
 at_point facts (BodyOf id) h t = h (t.bodies id)
 at_point facts (FieldOf id field) h t = h (part_given (λ fields. words_in fields field) (fields_in id) facts (t.fields id))
-
--- each conflict among those below the bound and those at the places has one below the bound
-pub one_below : (profile : Profile) (bad : Placed) (answers : List Placed) (bound : ℕ) (places some : List ℕ) → IsEndOfCore profile bad answers bound places
-    → AreAmong some (below bound ++ places) → (SomeHas profile (told_with profile bad answers some) → ⊥) → (k : ℕ) × (k < bound) × Contains some k
-one_below profile bad answers bound places some e among none = elim (each ((k : ℕ) × (k < bound) × Contains some k) (λ k. bound ≤ k) some (λ k i.
-    elim (cases_lt k bound) [ inl l ↦ inl (k, l, contains_in k some i) | inr le ↦ inr le ])) [
-      | inl there ↦ there
-      | inr high ↦ absurd (none (fewer_places profile bad answers some places
-          (λ k i. grind (arith, all_at, low_cases k bound places (in_contains k (below bound ++ places) (among k (contains_in k some i))))) e.stand))
-    ]

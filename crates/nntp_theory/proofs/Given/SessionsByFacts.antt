@@ -64,9 +64,7 @@ given_permits_all profile G sessions f together small given =
 -- what some spool permits fits and stands together
 pub stand_each : (profile : Profile) (S : Spool) (sessions : List Answered) → IsSpool profile.limit S → PermitsEach profile S sessions
     → FitEach profile sessions × Together (facts_of_all profile.marks sessions)
-stand_each profile S sessions spool h =
-    let says = said_each profile S sessions h in
-    (says.0, stand profile.limit S (facts_of_all profile.marks sessions) spool says.1)
+stand_each profile S sessions spool h = grind (arith, said_each profile S sessions h, stand profile.limit S (facts_of_all profile.marks sessions) spool)
 
 -- the given spool is the least that permits them
 pub least_of_all : (profile : Profile) (S G : Spool) (sessions : List Answered) → IsSpool profile.limit S → PermitsEach profile S sessions

@@ -41,8 +41,7 @@ weight_append (x ∷ xs) ys = let rest = weight_append xs ys in omega (arith, re
 -- a pair weighs no more than the octets that it takes
 pub weight_next : (past : List Paired) (a b : Unpaired) (pair : Paired) → IsNext a pair b → weight (responses_of (past ++ pair ∷ [])) + length b.server ≤ weight (responses_of past) + length a.server
 weight_next past a b pair next =
-    let few = lines-few (asked_at pair.place) pair.response (frame_octets pair.initial next.answered.block) next.answered.spells in
-    search (rules, length-append, map-append, weight_append)
+    grind (arith, lines-few (asked_at pair.place) pair.response (frame_octets pair.initial next.answered.block) next.answered.spells, length-append, map-append, weight_append)
 
 module _ (Stand : List Paired → Type 0) where
   -- ---- one answer

@@ -22,8 +22,7 @@ pub record PairedUp (v : Visible) (before left : Unpaired) (pairs : List Paired)
 pub paired_up : (v : Visible) (before left : Unpaired) (pairs : List Paired) → before.is_closed ≡ v.closed → AreNext before pairs left → PairedUp v before left pairs
 paired_up v before left [] same e = grind arith
 paired_up v before left (pair ∷ pairs) same (between, first, more) =
-    let closes = after-closes v (asked_at pair.place) pair.response (sym same ∙ first.is_open) in
-    grind (arith, paired_up (visible_after v (asked_at pair.place) pair.response) between left pairs (first.closing ∙ sym closes) more)
+    grind (arith, after-closes v (asked_at pair.place) pair.response (sym same ∙ first.is_open), paired_up (visible_after v (asked_at pair.place) pair.response) between left pairs)
 
 -- ---- the end
 

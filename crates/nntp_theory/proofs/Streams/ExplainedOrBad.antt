@@ -74,9 +74,7 @@ light ps answers sp s = absurd s
 -- who explains m answers explains fewer
 pub first_explained : (profile : Profile) (S : Spool) (client : ClientStream) (server : List ℕ) (n m : ℕ) (rest : List ℕ) → n ≤ m
     → ExplainsUpTo profile S client server m rest → (left : List ℕ) × ExplainsUpTo profile S client server n left
-first_explained profile S client server n m rest le x =
-    let f = first_spelled (prompts_of client) x.answers x.octets n x.spelled (omega arith) in
-    grind (arith, take-length x.answers, length-take, run_fewer, append_assoc)
+first_explained profile S client server n m rest le x = grind (arith, first_spelled (prompts_of client) x.answers x.octets n x.spelled, take-length x.answers, length-take, run_fewer, append_assoc)
 
 -- ---- of the spools with P
 

@@ -210,9 +210,7 @@ module _ (limit : ℕ) (S : Spool) (facts : List Fact) (spool : IsSpool limit S)
   -- overviews tell of an id what its article tells
   fields_given : (os : List OverviewValue) → AllByRecursion (HasOverview S) os → (o : OverviewValue) → In o os → TellsOwn os o
   unfolding HasPart
-  fields_given os h o i =
-      let first = first_there (fields_of_overview o.id) os o in
-      grind (arith, first, same_itself, overview_text o, all_at (HasOverview S) o os h i, part_once fields o.id, fields_by_overviews)
+  fields_given os h o i = grind (arith, first_there (fields_of_overview o.id) os o, same_itself, overview_text o, all_at (HasOverview S) o os h i, part_once fields o.id, fields_by_overviews)
 
   -- overviews agree with one another, as S has one id at a number, and one number for an id
   agrees_with_itself : (fact : Fact) → Holds S fact → AgreesWithItself fact
