@@ -96,6 +96,7 @@ impl<A: Allocator> NumberSet<A> {
     }
 
     /// Returns how many numbers there are.
+    #[tactic(auto, using(crate::proofs::NumberSets::opened_ascend))]
     pub(crate) fn len(&self) -> usize
         ensures len { result ≡ length self.now }
         ensures small { result < 2 ^ 63 + 2 }

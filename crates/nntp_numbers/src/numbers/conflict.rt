@@ -17,6 +17,7 @@ use std::alloc::Allocator;
 impl<A: Allocator> Numbers<A> {
     /// Returns a known number that is denied, if there is one: the least that is shown, or else a
     /// strict mark.
+    #[tactic(auto, using(crate::proofs::ConflictsOfNumbers::end_or_apart))]
     pub fn denied_known(&self) -> Option<u64>
         ensures { (asks : List Ask) → IsSummary self.now asks → AreBounded asks
             → MatchOption result (AreApart asks) (λ n. IsTrue (is_known asks n) × IsTrue (is_denied asks n)) }
