@@ -1,29 +1,15 @@
 //! What answers say of articles.
-ghost use Rattle.std.specs.Prelude.{◌≡◌, ◌≢◌, ◌↔◌, false, Some, IsTrue, List, MatchOption, Option, IfOk, IfSome, OnOk, is_some};
-ghost use Rattle.std.specs.List.{list_any};
-ghost use Rattle.std.specs.Option.{option_map_or};
-ghost use Rattle.std.specs.FinMap as map;
-ghost use Rattle.std.specs.BTreeMap.{get_by};
-ghost use Rattle.std.specs.Ordering.{nat_cmp};
-ghost use Rattle.std.specs.Cmp.Lexicographic.{slice_cmp};
-ghost use Rattle.std.specs.Rc.{rc_str_bytes};
-ghost use Rattle.nntp_wire.specs.declared.command.What.{What};
-ghost use Rattle.nntp_wire.specs.Listing.{overviews_of};
-ghost use Rattle.nntp_article.specs.Article.Parts.{Id, Line};
-ghost use Rattle.nntp_article.specs.Article.Fields.{words_in};
-ghost use Rattle.nntp_article.specs.Inner.Fields.{AreWords};
+ghost use Rattle.std.specs.{Prelude.{◌≡◌, ◌≢◌, ◌↔◌, false, Some, IsTrue, List, MatchOption, Option, IfOk, IfSome, OnOk, is_some}, List.{list_any}};
+ghost use Rattle.std.specs.{Option.{option_map_or}, BTreeMap.{get_by}, Ordering.{nat_cmp}, Cmp.Lexicographic.{slice_cmp}, Rc.{rc_str_bytes}};
+ghost use Rattle.nntp_wire.specs.{declared.command.What.{What}, Listing.{overviews_of}};
+ghost use Rattle.nntp_article.specs.{Article.{Parts.{Id, Line}, Fields.{words_in}}, Inner.Fields.{AreWords}};
 ghost use Rattle.nntp_said.specs.Facts.{Fact};
-ghost use Rattle.nntp_theory.specs.Given.{is_mentioned, first_given, head_in, fields_in, body_in};
-ghost use Rattle.nntp_theory.specs.Together.{shows_article};
-ghost use Rattle.nntp_theory.specs.Inner.Together.{AreSame};
-ghost use Rattle.nntp_facts.specs.Inner.Articles.{head_sent, body_sent, is_there, denied, telling, with_new};
-ghost use Rattle.nntp_facts.specs.Inner.Kept.{AreKeptArticles, said_kept};
-ghost use Rattle.nntp_facts.specs.Inner.KeptSaying.{IsThereAlready, MayBeSaid, IsArticleAdded, IsSaidAdded, said_alone};
-ghost use Rattle.nntp_facts.specs.Inner.Saying.{Lacks, Exists, Sends, Describes, IsToExist};
-ghost use Rattle.nntp_facts.specs.Inner.SayingView.{article_said};
-ghost use Rattle.nntp_facts.specs.Inner.Readers.{shown_articles};
-ghost use Rattle.nntp_facts.specs.Inner.ArticleView.{is_added, text_of};
+ghost use Rattle.nntp_theory.specs.{Given.{is_mentioned, first_given, head_in, fields_in, body_in}, Together.{shows_article}, Inner.Together.{AreSame}};
+ghost use Rattle.nntp_facts.specs.Inner.{Articles.{head_sent, body_sent, is_there, denied, telling, with_new}, Kept.{AreKeptArticles, said_kept}};
+ghost use Rattle.nntp_facts.specs.Inner.{KeptSaying.{IsThereAlready, MayBeSaid, IsArticleAdded, IsSaidAdded, said_alone}, Saying.{Lacks, Exists, Sends}};
+ghost use Rattle.nntp_facts.specs.Inner.{Saying.{Describes, IsToExist}, SayingView.{article_said}, Readers.{shown_articles}, ArticleView.{is_added, text_of}};
 ghost use Rattle.nntp_facts.specs.declared.joins.Joins.TheVariants.{Again};
+ghost use Rattle.std.specs.FinMap as map;
 
 mod added;
 mod known;
@@ -57,13 +43,9 @@ pub(crate) struct Articles<A: Allocator = Global> {
 }
 
 impl<A: Allocator> Model for Articles<A> {
-    ghost use Rattle.std.specs.Prelude.{List, ℕ, map};
-    ghost use Rattle.std.specs.Coded.{coded_ℕ, coded_list};
-    ghost use Rattle.std.specs.Ordering.{nat_cmp};
-    ghost use Rattle.std.specs.Cmp.Lexicographic.{slice_cmp};
-    ghost use Rattle.std.specs.FinMap.{FinMap, from_entries, code};
-    ghost use Rattle.nntp_facts.specs.Inner.Articles.{with_denied};
-    ghost use Rattle.nntp_facts.specs.Inner.Kept.{KeptArticle};
+    ghost use Rattle.std.specs.{Prelude.{List, ℕ, map}, Coded.{coded_ℕ, coded_list}, Ordering.{nat_cmp}, Cmp.Lexicographic.{slice_cmp}, FinMap.{FinMap}};
+    ghost use Rattle.std.specs.FinMap.{from_entries, code};
+    ghost use Rattle.nntp_facts.specs.Inner.{Articles.{with_denied}, Kept.{KeptArticle}};
 
     ghost Value = { FinMap (slice_cmp nat_cmp) KeptArticle };
 
@@ -103,9 +85,7 @@ impl<A: Allocator> Articles<A> {
     {
         self.known.contains_key(id)
     }
-}
 
-impl<A: Allocator> Articles<A> {
     /// Tells whether no other head of the article was sent than this, if it is one.
     pub(crate) fn may_have_head(&self, id: &str, sent: &Sent<'_>) -> bool
         ensures { (facts : List Fact) → AreKeptArticles facts self.now → IsTrue result ↔ AreSame sent.now.head (first_given (head_in id.now) facts) }
@@ -136,9 +116,7 @@ impl<A: Allocator> Articles<A> {
             None => None,
         }
     }
-}
 
-impl<A: Allocator> Articles<A> {
     /// Returns the ids that have articles, in byte order, with what is known of each.
     pub(crate) fn shown(&self) -> ShownArticles<'_, A>
         ensures { result ≡ shown_articles self.now }

@@ -1,12 +1,8 @@
 //! The accepted answers with which a bad one conflicts.
-ghost use Rattle.std.specs.Prelude.{◌≡◌, ◌<◌, ◌≤◌, ◌^◌, ◌∷◌, [], List, ℕ, Some, length, map, IfOk, MatchOption};
-ghost use Rattle.std.specs.List.{AllByRecursion};
+ghost use Rattle.std.specs.{Prelude.{◌≡◌, ◌<◌, ◌≤◌, ◌^◌, ◌∷◌, [], List, ℕ, Some, length, map, IfOk, MatchOption}, List.{AllByRecursion}};
 ghost use Rattle.nntp_article.specs.Session.Limit.{profile_of};
-ghost use Rattle.nntp_theory.specs.Conflict.{Placed as PlacedValue, SomeHas, told_with, below, places_of, IsFound};
-ghost use Rattle.nntp_theory.specs.Inner.Conflict.{FitsThere, IsPartOfCore};
-ghost use Rattle.nntp_facts.specs.Inner.Kept.{IsKept};
-ghost use Rattle.nntp_facts.specs.Inner.Told.{AreToldWith, PlacesTold};
-ghost use Rattle.nntp_facts.specs.Standing.{stands_of};
+ghost use Rattle.nntp_theory.specs.{Conflict.{Placed as PlacedValue, SomeHas, told_with, below, places_of, IsFound}, Inner.Conflict.{FitsThere, IsPartOfCore}};
+ghost use Rattle.nntp_facts.specs.{Inner.{Kept.{IsKept}, Told.{AreToldWith, PlacesTold}}, Standing.{stands_of}};
 
 use crate::kept::Kept;
 use crate::placed::Placed;

@@ -1,18 +1,11 @@
 //! The details that are kept of one group: its numbers, and the ids that are shown at numbers.
-ghost use Rattle.std.specs.Prelude.{◌≡◌, ◌↔◌, List, [], ◌++◌, IsTrue, IfSome, IfOk, OnOk, Some, option_map};
-ghost use Rattle.std.specs.Option.{option_copied};
-ghost use Rattle.std.specs.Rc.{rc_str_bytes};
+ghost use Rattle.std.specs.{Prelude.{◌≡◌, ◌↔◌, List, [], ◌++◌, IsTrue, IfSome, IfOk, OnOk, Some, option_map}, Option.{option_copied}, Rc.{rc_str_bytes}};
 ghost use Rattle.std.specs.FinMap.{get, insert, empty};
 ghost use Rattle.nntp_said.specs.Asks.{Ask};
 ghost use Rattle.nntp_theory.specs.Inner.Together.{AsksStand};
-ghost use Rattle.nntp_numbers.specs.Inner.Part.{Says};
-ghost use Rattle.nntp_numbers.specs.Inner.PartView.{said};
-ghost use Rattle.nntp_facts.specs.Inner.SayingView.{id_at, of_group};
-ghost use Rattle.nntp_numbers.specs.Inner.Summary.{IsSummary, AreBounded};
-ghost use Rattle.nntp_facts.specs.Inner.Kept.{Agree, IsFree, MayHave, ids_with, places_with};
-ghost use Rattle.nntp_facts.specs.Inner.Between.{group_between};
+ghost use Rattle.nntp_numbers.specs.Inner.{Part.{Says}, PartView.{said}, Summary.{IsSummary, AreBounded}, Unseen.{unseen_in, unseen_high_in}};
+ghost use Rattle.nntp_facts.specs.Inner.{SayingView.{id_at, of_group}, Kept.{Agree, IsFree, MayHave, ids_with, places_with}, Between.{group_between}};
 ghost use Rattle.nntp_facts.specs.Inner.KeptSaying.{HasSaid, IsTextOf};
-ghost use Rattle.nntp_numbers.specs.Inner.Unseen.{unseen_in, unseen_high_in};
 
 use crate::numbered_ids::NumberedIds;
 use crate::saying::{GroupPart, IdAt};
@@ -29,8 +22,7 @@ pub(crate) struct Details<A: Allocator = Global> {
 }
 
 impl<A: Allocator> Model for Details<A> {
-    ghost use Rattle.nntp_facts.specs.Inner.Kept.{KeptGroup};
-    ghost use Rattle.nntp_facts.specs.Inner.GroupView.{coded_group};
+    ghost use Rattle.nntp_facts.specs.Inner.{Kept.{KeptGroup}, GroupView.{coded_group}};
 
     ghost Value = { KeptGroup };
 
@@ -106,9 +98,7 @@ impl<A: Allocator + Copy> Details<A> {
         }
         self.ids.add(number, id)
     }
-}
 
-impl<A: Allocator + Copy> Details<A> {
     /// Returns what is said of the numbers of the group.
     pub(crate) fn numbers(&self) -> Result<Numbers<A>, AllocError>
         ensures { IfOk result (λ numbers. numbers ≡ self.now.numbers) }

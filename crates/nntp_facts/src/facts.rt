@@ -1,21 +1,13 @@
 //! What the accepted exchanges of sessions say of the spool.
 ghost use Rattle.std.specs.Prelude.{◌≡◌, ◌<◌, ◌^◌, true, false, List, [], IfOk, Err, slice_get};
-ghost use Rattle.nntp_pair.specs.Pairing.{Paired, asked_at};
-ghost use Rattle.nntp_article.specs.declared.session.profile.Profile.{Profile};
-ghost use Rattle.nntp_article.specs.Session.Limit.{profile_of};
-ghost use Rattle.nntp_article.specs.Session.Misfit.{misfit};
-ghost use Rattle.nntp_article.specs.Inner.Listed.{lists, lists_of};
+ghost use Rattle.nntp_pair.specs.{Pairing.{Paired, asked_at}, Inner.Pairing.{lines_in}};
+ghost use Rattle.nntp_article.specs.{declared.session.profile.Profile.{Profile}, Session.{Limit.{profile_of}, Misfit.{misfit}}, Inner.Listed.{lists, lists_of}};
 ghost use Rattle.nntp_article.specs.Inner.MisfitView.{why_if};
 ghost use Rattle.nntp_said.specs.Facts.{Fact};
-ghost use Rattle.nntp_theory.specs.Given.{is_mentioned};
-ghost use Rattle.nntp_pair.specs.Inner.Pairing.{lines_in};
-ghost use Rattle.nntp_facts.specs.Inner.Kept.{AreKeptArticles};
-ghost use Rattle.nntp_facts.specs.Inner.Points.{held_by};
-ghost use Rattle.nntp_facts.specs.Inner.StatementView.{held_of_refusal};
-ghost use Rattle.nntp_facts.specs.Standing.{stands_of};
-ghost use Rattle.nntp_facts.specs.Inner.Noted.{HasNoted, HasNotedBehind, IsDue, IsNotedBehind, NotesBehind, begun, profile_kept};
-ghost use Rattle.nntp_theory.specs.Inner.Exchanged.{said_behind};
-ghost use Rattle.nntp_facts.specs.Inner.Readers.{ShownGroup as GroupValue, ShownArticle as ArticleValue, AreShownGroups, AreShownArticles};
+ghost use Rattle.nntp_theory.specs.{Given.{is_mentioned}, Inner.Exchanged.{said_behind}};
+ghost use Rattle.nntp_facts.specs.Inner.{Kept.{AreKeptArticles}, Points.{held_by}, StatementView.{held_of_refusal}, Noted.{HasNoted, HasNotedBehind, IsDue}};
+ghost use Rattle.nntp_facts.specs.Inner.{Noted.{IsNotedBehind, NotesBehind, begun, profile_kept}, Readers.{ShownGroup as GroupValue}};
+ghost use Rattle.nntp_facts.specs.{Inner.Readers.{ShownArticle as ArticleValue, AreShownGroups, AreShownArticles}, Standing.{stands_of}};
 
 use crate::articles::{ShownArticle, ShownArticles, TakenArticles};
 use crate::facts_error::FactsError;
@@ -64,8 +56,7 @@ impl<A: Allocator> Drop for Facts<A> {
 }
 
 impl<A: Allocator> Model for Facts<A> {
-    ghost use Rattle.nntp_facts.specs.Inner.Noted.{FactsKept};
-    ghost use Rattle.nntp_facts.specs.Inner.KeptView.{coded_facts};
+    ghost use Rattle.nntp_facts.specs.Inner.{Noted.{FactsKept}, KeptView.{coded_facts}};
 
     ghost Value = { FactsKept };
 
@@ -202,9 +193,7 @@ impl<A: Allocator + Copy> Facts<A> {
         self.count += 1;
         Ok(Noted::Consistent)
     }
-}
 
-impl<A: Allocator + Copy> Facts<A> {
     /// Gives away the groups that the accepted answers of all sessions show, in byte order of their
     /// names, with what is kept of them. Of the facts then only what they say of ids and articles is of
     /// use: no group is left to note a further exchange by.

@@ -1,18 +1,11 @@
 //! What is kept of one group, in as little memory as it needs.
-ghost use Rattle.std.specs.Prelude.{◌≡◌, ◌↔◌, List, [], ◌++◌, IsTrue, IfOk, OnOk, MatchOption, option_map};
-ghost use Rattle.std.specs.Option.{option_copied};
-ghost use Rattle.std.specs.Rc.{rc_str_bytes};
+ghost use Rattle.std.specs.{Prelude.{◌≡◌, ◌↔◌, List, [], ◌++◌, IsTrue, IfOk, OnOk, MatchOption, option_map}, Option.{option_copied}, Rc.{rc_str_bytes}};
 ghost use Rattle.std.specs.FinMap.{get};
 ghost use Rattle.nntp_said.specs.Asks.{Ask};
 ghost use Rattle.nntp_theory.specs.Inner.Together.{AsksStand};
-ghost use Rattle.nntp_numbers.specs.Inner.Part.{Says};
-ghost use Rattle.nntp_numbers.specs.Inner.PartView.{said};
-ghost use Rattle.nntp_facts.specs.Inner.SayingView.{id_at, of_group};
-ghost use Rattle.nntp_numbers.specs.Inner.Summary.{IsSummary, AreBounded};
-ghost use Rattle.nntp_facts.specs.Inner.Kept.{Agree, MayHave, ids_with, places_with};
-ghost use Rattle.nntp_facts.specs.Inner.Between.{IsBetween};
-ghost use Rattle.nntp_facts.specs.Inner.KeptSaying.{HasSaid, IsTextOf};
-ghost use Rattle.nntp_numbers.specs.Inner.Unseen.{unseen_in, unseen_high_in};
+ghost use Rattle.nntp_numbers.specs.Inner.{Part.{Says}, PartView.{said}, Summary.{IsSummary, AreBounded}, Unseen.{unseen_in, unseen_high_in}};
+ghost use Rattle.nntp_facts.specs.Inner.{SayingView.{id_at, of_group}, Kept.{Agree, MayHave, ids_with, places_with}, Between.{IsBetween}, KeptSaying.{HasSaid}};
+ghost use Rattle.nntp_facts.specs.Inner.KeptSaying.{IsTextOf};
 
 use crate::details::Details;
 use crate::saying::GroupPart;
@@ -38,9 +31,7 @@ pub(crate) enum Held<A: Allocator> {
 }
 
 impl<A: Allocator> Model for Group<A> {
-    ghost use Rattle.nntp_facts.specs.Inner.Kept.{KeptGroup};
-    ghost use Rattle.nntp_facts.specs.Inner.GroupView.{coded_group};
-    ghost use Rattle.nntp_facts.specs.Inner.GroupHeld.{group_held};
+    ghost use Rattle.nntp_facts.specs.Inner.{Kept.{KeptGroup}, GroupView.{coded_group}, GroupHeld.{group_held}};
 
     ghost Value = { KeptGroup };
 

@@ -1,20 +1,13 @@
 //! What answers say of groups.
 ghost use Rattle.std.specs.Prelude.{◌≡◌, ◌↔◌, ◌==◌, false, true, List, ◌++◌, IsTrue, MatchOption, IfOk, OnOk, option_copied, option_map};
-ghost use Rattle.std.specs.FinMap as map;
-ghost use Rattle.std.specs.Option.{option_map_or};
-ghost use Rattle.std.specs.Rc.{rc_str_bytes};
-ghost use Rattle.nntp_article.specs.Session.Machine.{is_same};
-ghost use Rattle.nntp_article.specs.Session.Spool.{Name};
+ghost use Rattle.std.specs.{Option.{option_map_or}, Rc.{rc_str_bytes}};
+ghost use Rattle.nntp_article.specs.Session.{Machine.{is_same}, Spool.{Name}};
 ghost use Rattle.nntp_said.specs.Asks.{Ask};
 ghost use Rattle.nntp_theory.specs.Inner.Together.{AsksStand};
-ghost use Rattle.nntp_numbers.specs.Inner.Part.{Says};
-ghost use Rattle.nntp_numbers.specs.Inner.PartView.{said};
-ghost use Rattle.nntp_facts.specs.Inner.SayingView.{id_at, of_group};
-ghost use Rattle.nntp_numbers.specs.Inner.Summary.{IsSummary, AreBounded};
-ghost use Rattle.nntp_facts.specs.Inner.Kept.{joins_at_all, Told, AreKept, Agree, IsShownAt, MayShow, AreKeptWith};
-ghost use Rattle.nntp_facts.specs.Inner.KeptSaying.{IsTextOf, HasSaid};
-ghost use Rattle.nntp_facts.specs.declared.joins.Joins.TheVariants.{Again};
-ghost use Rattle.nntp_facts.specs.Inner.Readers.{shown_groups};
+ghost use Rattle.nntp_numbers.specs.Inner.{Part.{Says}, PartView.{said}, Summary.{IsSummary, AreBounded}};
+ghost use Rattle.nntp_facts.specs.Inner.{SayingView.{id_at, of_group}, Kept.{joins_at_all, Told, AreKept, Agree, IsShownAt, MayShow, AreKeptWith}};
+ghost use Rattle.nntp_facts.specs.{Inner.{KeptSaying.{IsTextOf, HasSaid}, Readers.{shown_groups}}, declared.joins.Joins.TheVariants.{Again}};
+ghost use Rattle.std.specs.FinMap as map;
 
 mod listed;
 
@@ -39,12 +32,8 @@ pub(crate) struct Groups<A: Allocator = Global> {
 }
 
 impl<A: Allocator> Model for Groups<A> {
-    ghost use Rattle.std.specs.Prelude.{map};
-    ghost use Rattle.std.specs.FinMap.{FinMap, from_entries};
-    ghost use Rattle.std.specs.Ordering.{nat_cmp};
-    ghost use Rattle.std.specs.Cmp.Lexicographic.{slice_cmp};
-    ghost use Rattle.nntp_facts.specs.Inner.Kept.{KeptGroup};
-    ghost use Rattle.nntp_facts.specs.Inner.GroupView.{coded_groups};
+    ghost use Rattle.std.specs.{Prelude.{map}, FinMap.{FinMap, from_entries}, Ordering.{nat_cmp}, Cmp.Lexicographic.{slice_cmp}};
+    ghost use Rattle.nntp_facts.specs.Inner.{Kept.{KeptGroup}, GroupView.{coded_groups}};
 
     ghost Value = { FinMap (slice_cmp nat_cmp) KeptGroup };
 
@@ -113,9 +102,7 @@ impl<A: Allocator + Copy> Groups<A> {
             None => Joins::new_if(Details::new(self.alloc).joins(part)),
         }
     }
-}
 
-impl<A: Allocator + Copy> Groups<A> {
     /// Gives the groups away, in byte order of their names. None is left.
     pub(crate) fn take(&mut self) -> TakenGroups<A>
         ensures { result ≡ shown_groups self.old }
@@ -171,9 +158,7 @@ impl<A: Allocator> Groups<A> {
             None => true,
         }
     }
-}
 
-impl<A: Allocator> Groups<A> {
     /// Tells whether the group is shown.
     pub(crate) fn is_shown(&self, name: &[u8]) -> bool
         ensures { (tells : Name → Told) → AreKept tells self.now → result ≡ (tells name.now).is_shown }

@@ -1,7 +1,6 @@
 //! The ways in which what is said of a group stands to what is kept of it.
 ghost use Rattle.std.specs.Prelude.{◌≡◌, ◌≢◌};
-ghost use Rattle.nntp_facts.specs.Inner.Kept.{joins_at_all};
-ghost use Rattle.nntp_facts.specs.declared.joins.Joins.TheVariants.{Again};
+ghost use Rattle.nntp_facts.specs.{Inner.Kept.{joins_at_all}, declared.joins.Joins.TheVariants.{Again}};
 
 /// The way in which what is said of a group stands to what is kept of it.
 #[derive(Clone, Copy)]

@@ -1,24 +1,13 @@
 //! What is kept of all answers of a session.
-ghost use Rattle.std.specs.Prelude.{◌≡◌, ◌≢◌, ◌↔◌, ◌++◌, [], false, None, Some, List, IsTrue, IsFalse, IfSome, IfOk, OnOk, option_map};
-ghost use Rattle.std.specs.List.{AllByRecursion, list_any};
-ghost use Rattle.std.specs.Option.{option_map_or};
-ghost use Rattle.std.specs.Rc.{rc_str_bytes};
-ghost use Rattle.nntp_article.specs.Inner.Listed.{lists};
-ghost use Rattle.nntp_article.specs.Article.Parts.{Id};
-ghost use Rattle.nntp_article.specs.Session.Spool.{Name};
-ghost use Rattle.nntp_article.specs.Session.Machine.{is_same};
-ghost use Rattle.nntp_said.specs.Asks.{Ask};
-ghost use Rattle.nntp_said.specs.Facts.{Fact};
-ghost use Rattle.nntp_theory.specs.Given.{is_shown_group, is_mentioned};
-ghost use Rattle.nntp_theory.specs.Inner.Together.{IsWellFormed, Together};
-ghost use Rattle.nntp_theory.specs.Together.{denies_group};
-ghost use Rattle.nntp_facts.specs.Inner.Saying.{AreListed, Saying as SayingValue, facts_in, IsToExist, MaySay, Tells};
-ghost use Rattle.nntp_facts.specs.Inner.SayingView.{of_group, article_said, saying_of};
-ghost use Rattle.nntp_facts.specs.Inner.ArticleView.{is_added, text_of};
-ghost use Rattle.nntp_facts.specs.Inner.Kept.{joins_at_all, IsKept, AreKeptGroups, AreKeptNames, AreKeptArticles, AreAdded};
-ghost use Rattle.nntp_facts.specs.declared.joins.Joins.TheVariants.{Again};
-ghost use Rattle.nntp_facts.specs.Inner.Readers.{shown_groups, shown_articles};
-ghost use Rattle.nntp_facts.specs.Inner.KeptSaying.{GroupJoins, JoinGroups, IsTextOf, IsThereAlready, MayBeSaid, IsArticleAdded};
+ghost use Rattle.std.specs.{Prelude.{◌≡◌, ◌≢◌, ◌↔◌, ◌++◌, [], false, None, Some, List, IsTrue, IsFalse, IfSome, IfOk, OnOk, option_map}, List.{AllByRecursion}};
+ghost use Rattle.std.specs.{List.{list_any}, Option.{option_map_or}, Rc.{rc_str_bytes}};
+ghost use Rattle.nntp_article.specs.{Inner.Listed.{lists}, Article.Parts.{Id}, Session.{Spool.{Name}, Machine.{is_same}}};
+ghost use Rattle.nntp_said.specs.{Asks.{Ask}, Facts.{Fact}};
+ghost use Rattle.nntp_theory.specs.{Given.{is_shown_group, is_mentioned}, Inner.Together.{IsWellFormed, Together}, Together.{denies_group}};
+ghost use Rattle.nntp_facts.specs.Inner.{Saying.{AreListed, Saying as SayingValue, facts_in, IsToExist, MaySay, Tells}, SayingView.{of_group, article_said}};
+ghost use Rattle.nntp_facts.specs.Inner.{SayingView.{saying_of}, ArticleView.{is_added, text_of}, Kept.{joins_at_all, IsKept, AreKeptGroups, AreKeptNames}};
+ghost use Rattle.nntp_facts.specs.Inner.{Kept.{AreKeptArticles, AreAdded}, Readers.{shown_groups, shown_articles}, KeptSaying.{GroupJoins, JoinGroups}};
+ghost use Rattle.nntp_facts.specs.{Inner.KeptSaying.{IsTextOf, IsThereAlready, MayBeSaid, IsArticleAdded}, declared.joins.Joins.TheVariants.{Again}};
 
 mod listed_groups;
 mod listed_overviews;
@@ -60,8 +49,7 @@ impl<A: Allocator> Drop for Kept<A> {
 }
 
 impl<A: Allocator> Model for Kept<A> {
-    ghost use Rattle.nntp_facts.specs.Inner.Kept.{Kept as KeptValue};
-    ghost use Rattle.nntp_facts.specs.Inner.KeptView.{coded_whole};
+    ghost use Rattle.nntp_facts.specs.Inner.{Kept.{Kept as KeptValue}, KeptView.{coded_whole}};
 
     ghost Value = { KeptValue };
 
@@ -252,9 +240,7 @@ impl<A: Allocator + Copy> Kept<A> {
             None => Joins::Again,
         }
     }
-}
 
-impl<A: Allocator + Copy> Kept<A> {
     /// Gives away the groups that are shown, in byte order of their names. None is left.
     pub(crate) fn take_groups(&mut self) -> TakenGroups<A>
         ensures groups { result ≡ shown_groups self.old.groups }
@@ -278,9 +264,7 @@ impl<A: Allocator> Kept<A> {
     {
         self.groups.is_shown(name.as_slice()) || !self.names.denies(name)
     }
-}
 
-impl<A: Allocator> Kept<A> {
     /// Returns the groups that are shown, in byte order of their names.
     pub(crate) fn groups(&self) -> ShownGroups<'_, A>
         ensures { result ≡ shown_groups self.now.groups }

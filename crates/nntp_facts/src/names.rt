@@ -1,17 +1,10 @@
 //! The names that are no groups, and the wildmats that were answered.
-ghost use Rattle.std.specs.Prelude.{◌≡◌, ◌&&◌, ◌||◌, ◌++◌, ◌∷◌, [], false, List, length, IfSome, OnOk};
-ghost use Rattle.std.specs.List.{list_any};
-ghost use Rattle.std.specs.BTreeMap.{keys};
-ghost use Rattle.nntp_wire.specs.Decided.{matches_name};
-ghost use Rattle.nntp_wire.specs.Wildmat.{is_wildmat};
-ghost use Rattle.nntp_wire.specs.Listing.{ActiveValue};
-ghost use Rattle.nntp_article.specs.Session.Spool.{Name};
-ghost use Rattle.nntp_article.specs.Session.Machine.{is_same};
+ghost use Rattle.std.specs.{Prelude.{◌≡◌, ◌&&◌, ◌||◌, ◌++◌, ◌∷◌, [], false, List, length, IfSome, OnOk}, List.{list_any}, BTreeMap.{keys}};
+ghost use Rattle.nntp_wire.specs.{Decided.{matches_name}, Wildmat.{is_wildmat}, Listing.{ActiveValue}};
+ghost use Rattle.nntp_article.specs.Session.{Spool.{Name}, Machine.{is_same}};
 ghost use Rattle.nntp_said.specs.Facts.{Fact, GroupsAre};
-ghost use Rattle.nntp_theory.specs.Given.{is_shown_group};
-ghost use Rattle.nntp_theory.specs.Together.{denies_group};
-ghost use Rattle.nntp_facts.specs.Inner.Kept.{AreKeptNames};
-ghost use Rattle.nntp_facts.specs.Inner.ListedGroups.{MayList, WereListed};
+ghost use Rattle.nntp_theory.specs.{Given.{is_shown_group}, Together.{denies_group}};
+ghost use Rattle.nntp_facts.specs.Inner.{Kept.{AreKeptNames}, ListedGroups.{MayList, WereListed}};
 
 use nntp_wire::laws::matching_is_decided;
 use nntp_wire::{GroupName, Wildmat};

@@ -1,12 +1,7 @@
 //! The message-ids that are shown at numbers of one group.
-ghost use Rattle.std.specs.Prelude.{◌≡◌, IsTrue, OnOk, option_map};
-ghost use Rattle.std.specs.Option.{option_copied};
-ghost use Rattle.std.specs.Ordering.{nat_cmp};
-ghost use Rattle.std.specs.BTreeMap.{get as entry};
-ghost use Rattle.std.specs.Rc.{rc_str_bytes};
+ghost use Rattle.std.specs.{Prelude.{◌≡◌, IsTrue, OnOk, option_map}, Option.{option_copied}, Ordering.{nat_cmp}, BTreeMap.{get as entry}, Rc.{rc_str_bytes}};
 ghost use Rattle.std.specs.FinMap.{get, insert, empty};
-ghost use Rattle.nntp_facts.specs.Inner.IdsHeld.{numbered, ids_in, places_in};
-ghost use Rattle.nntp_facts.specs.Inner.Kept.{ids_with, places_with, id_of, place_of};
+ghost use Rattle.nntp_facts.specs.Inner.{IdsHeld.{numbered, ids_in, places_in}, Kept.{ids_with, places_with, id_of, place_of}};
 
 use std::alloc::{AllocError, Allocator, Global};
 use std::collections::BTreeMap;
@@ -35,14 +30,9 @@ pub(crate) struct NumberedId<A: Allocator> {
 }
 
 impl<A: Allocator> Model for NumberedIds<A> {
-    ghost use Rattle.std.specs.Prelude.{ℕ, option_map};
-    ghost use Rattle.std.specs.Ordering.{nat_cmp};
-    ghost use Rattle.std.specs.Cmp.Lexicographic.{slice_cmp};
-    ghost use Rattle.std.specs.FinMap.{FinMap};
+    ghost use Rattle.std.specs.{Prelude.{ℕ, option_map}, Ordering.{nat_cmp}, Cmp.Lexicographic.{slice_cmp}, FinMap.{FinMap}};
     ghost use Rattle.nntp_article.specs.Article.Parts.{Id};
-    ghost use Rattle.nntp_facts.specs.Inner.GroupView.{coded_ids};
-    ghost use Rattle.nntp_facts.specs.Inner.IdsHeld.{numbered, ids_in, places_in};
-    ghost use Rattle.nntp_facts.specs.Inner.Kept.{ids_with, places_with};
+    ghost use Rattle.nntp_facts.specs.Inner.{GroupView.{coded_ids}, IdsHeld.{numbered, ids_in, places_in}, Kept.{ids_with, places_with}};
 
     ghost Value = { FinMap nat_cmp Id × FinMap (slice_cmp nat_cmp) ℕ };
 

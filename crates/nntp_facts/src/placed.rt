@@ -1,14 +1,9 @@
 //! Exchanges where they stand.
-ghost use Rattle.std.specs.Prelude.{◌≡◌, ◌<◌, ◌^◌, [], option_map, unwrap_or, IfSome, IsTrue};
-ghost use Rattle.std.specs.List.{AllByRecursion};
-ghost use Rattle.nntp_wire.specs.declared.marks.Marks.{Marks};
-ghost use Rattle.nntp_wire.specs.Inner.AnswerView.{response};
-ghost use Rattle.nntp_wire.specs.Inner.View.{asked};
-ghost use Rattle.nntp_wire.specs.Name.{IsGroupName};
+ghost use Rattle.std.specs.{Prelude.{◌≡◌, ◌<◌, ◌^◌, [], option_map, unwrap_or, IfSome, IsTrue}, List.{AllByRecursion}};
+ghost use Rattle.nntp_wire.specs.{declared.marks.Marks.{Marks}, Inner.{AnswerView.{response}, View.{asked}}, Name.{IsGroupName}};
 ghost use Rattle.nntp_article.specs.Session.Machine.{Visible};
-ghost use Rattle.nntp_theory.specs.Conflict.{said};
+ghost use Rattle.nntp_theory.specs.{Conflict.{said}, Inner.Together.{IsWellFormed}};
 ghost use Rattle.nntp_said.specs.Facts.{facts_of};
-ghost use Rattle.nntp_theory.specs.Inner.Together.{IsWellFormed};
 ghost use Rattle.nntp_pair.specs.Inner.Pairing.{lines_in};
 ghost use Rattle.nntp_facts.specs.Standing.{stands_of};
 

@@ -1,16 +1,11 @@
 //! A point, of the first kind that there is, about which a bad answer and accepted ones conflict.
-ghost use Rattle.std.specs.Prelude.{◌≡◌, ◌<◌, ◌^◌, ◌∷◌, List, get_or, map, IfOk, MatchOption};
-ghost use Rattle.std.specs.List.{AllByRecursion};
-ghost use Rattle.nntp_article.specs.Session.Limit.{profile_of};
-ghost use Rattle.nntp_article.specs.declared.session.profile.Profile.{Profile};
+ghost use Rattle.std.specs.{Prelude.{◌≡◌, ◌<◌, ◌^◌, ◌∷◌, List, get_or, map, IfOk, MatchOption}, List.{AllByRecursion}};
+ghost use Rattle.nntp_article.specs.{Session.Limit.{profile_of}, declared.session.profile.Profile.{Profile}};
 ghost use Rattle.nntp_said.specs.Facts.{Fact};
-ghost use Rattle.nntp_theory.specs.Conflict.{told_with, places_of, IsFound, IsFirstPoint};
-ghost use Rattle.nntp_theory.specs.Inner.Conflict.{FitsThere, HasLast};
-ghost use Rattle.nntp_facts.specs.Inner.Points.{AreHeld, with_numbers};
-ghost use Rattle.nntp_facts.specs.Inner.PointView.{point_of};
-ghost use Rattle.nntp_pair.specs.Inner.Pairing.{lines_in};
-ghost use Rattle.nntp_facts.specs.Inner.StatementView.{held_of, held_of_refusal, listing_of};
+ghost use Rattle.nntp_theory.specs.{Conflict.{told_with, places_of, IsFound, IsFirstPoint}, Inner.Conflict.{FitsThere, HasLast}};
+ghost use Rattle.nntp_facts.specs.Inner.{Points.{AreHeld, with_numbers}, PointView.{point_of}, StatementView.{held_of, held_of_refusal, listing_of}};
 ghost use Rattle.nntp_facts.specs.Standing.{stands_of};
+ghost use Rattle.nntp_pair.specs.Inner.Pairing.{lines_in};
 
 mod statement;
 

@@ -1,22 +1,13 @@
 //! What an answer says of the spool (RFC 3977, sections 6 and 7.6.3).
 ghost use Rattle.std.specs.Prelude.{◌≡◌, ◌<◌, ◌^◌, ℕ, get_or, List, [], ◌∷◌, None, Some, option_map, IsTrue};
-ghost use Rattle.nntp_wire.specs.Name.{IsGroupName};
-ghost use Rattle.nntp_wire.specs.Inner.View.{asked};
-ghost use Rattle.nntp_wire.specs.Inner.AnswerView.{response};
-ghost use Rattle.nntp_wire.specs.Listing.{overviews_of};
-ghost use Rattle.nntp_article.specs.declared.session.profile.Profile.{Profile};
-ghost use Rattle.nntp_article.specs.Session.Machine.{Visible, fits};
-ghost use Rattle.nntp_article.specs.Inner.Misfit.{numbers_of};
-ghost use Rattle.nntp_article.specs.Inner.Listed.{Lists, lists_of};
-ghost use Rattle.nntp_said.specs.Facts.{Fact as FactValue, Asks, FieldsAre, IdAt as IdIs, OverviewsAre, here, facts_of, group_of};
-ghost use Rattle.nntp_said.specs.Inner.FactView.{ask_of, fact_of};
-ghost use Rattle.nntp_facts.specs.Inner.Saying.{AreListed, IsSelectedShown, TellsHere, TellsThere, begun, group_of_overviews, nothing};
-ghost use Rattle.nntp_facts.specs.Inner.Saying.{numbers_shown, saying_by, saying_with, with_ask};
-ghost use Rattle.nntp_said.specs.Asks.{Bounds, Has};
-ghost use Rattle.nntp_numbers.specs.Inner.Part.{Says};
-ghost use Rattle.nntp_numbers.specs.Inner.PartView.{said};
-ghost use Rattle.nntp_facts.specs.Inner.SayingView.{id_at, of_group, saying_of};
-ghost use Rattle.nntp_numbers.specs.Inner.Summary.{AreBounded};
+ghost use Rattle.nntp_wire.specs.{Name.{IsGroupName}, Inner.{View.{asked}, AnswerView.{response}}, Listing.{overviews_of}};
+ghost use Rattle.nntp_article.specs.{declared.session.profile.Profile.{Profile}, Session.Machine.{Visible, fits}, Inner.{Misfit.{numbers_of}, Listed.{Lists}}};
+ghost use Rattle.nntp_article.specs.Inner.Listed.{lists_of};
+ghost use Rattle.nntp_said.specs.{Facts.{Fact as FactValue, Asks, FieldsAre, IdAt as IdIs, OverviewsAre, here, facts_of, group_of}, Inner.FactView.{ask_of}};
+ghost use Rattle.nntp_said.specs.{Inner.FactView.{fact_of}, Asks.{Bounds, Has}};
+ghost use Rattle.nntp_facts.specs.Inner.Saying.{AreListed, IsSelectedShown, TellsHere, TellsThere, begun, group_of_overviews, nothing, numbers_shown};
+ghost use Rattle.nntp_facts.specs.Inner.{Saying.{saying_by, saying_with, with_ask}, SayingView.{id_at, of_group, saying_of}};
+ghost use Rattle.nntp_numbers.specs.Inner.{Part.{Says}, PartView.{said}, Summary.{AreBounded}};
 
 use nntp_numbers::NumbersPart;
 use nntp_said::{Ask, Fact, NumberLines, Position, SaidFacts, facts_of};

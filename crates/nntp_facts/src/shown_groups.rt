@@ -1,8 +1,6 @@
 //! The groups that answers show, one after the other.
-ghost use Rattle.std.specs.Prelude.{◌≡◌, option_map, slice_get};
-ghost use Rattle.std.specs.Iterator.{YieldsFirst, item_count};
-ghost use Rattle.nntp_facts.specs.Inner.Readers.{shown_in, shown_group};
-ghost use Rattle.nntp_facts.specs.Inner.ReadersView.{named, number_value};
+ghost use Rattle.std.specs.{Prelude.{◌≡◌, option_map, slice_get}, Iterator.{YieldsFirst, item_count}};
+ghost use Rattle.nntp_facts.specs.Inner.{Readers.{shown_in, shown_group}, ReadersView.{named, number_value}};
 
 use crate::group::Group;
 use crate::shown_numbers::{ShownNumber, ShownNumbers};
@@ -18,12 +16,9 @@ pub struct ShownGroup<'a, A: Allocator = Global> {
 }
 
 impl<'a, A: Allocator> Model for ShownGroup<'a, A> {
-    ghost use Rattle.nntp_facts.specs.Inner.Readers.{ShownGroup as GroupValue, shown_group};
-    ghost use Rattle.nntp_facts.specs.Inner.ReadersView.{coded_shown_group};
+    ghost use Rattle.nntp_facts.specs.Inner.{Readers.{ShownGroup as GroupValue, shown_group}};
 
     ghost Value = { GroupValue };
-
-    ghost coded = { coded_shown_group };
 
     ghost view = { λ s. shown_group s.name.now s.group.now };
 }
@@ -85,14 +80,10 @@ pub struct ShownGroups<'a, A: Allocator = Global> {
 }
 
 impl<'a, A: Allocator> Model for ShownGroups<'a, A> {
-    ghost use Rattle.std.specs.Prelude.{List};
-    ghost use Rattle.std.specs.Coded.{coded_list};
-    ghost use Rattle.nntp_facts.specs.Inner.Readers.{ShownGroup as GroupValue, shown_in};
-    ghost use Rattle.nntp_facts.specs.Inner.ReadersView.{named, coded_shown_group};
+    ghost use Rattle.std.specs.{Prelude.{List}};
+    ghost use Rattle.nntp_facts.specs.Inner.{Readers.{ShownGroup as GroupValue, shown_in}, ReadersView.{named}};
 
     ghost Value = { List GroupValue };
-
-    ghost coded = { coded_list coded_shown_group };
 
     ghost view = { λ s. shown_in (named s.rest) };
 }

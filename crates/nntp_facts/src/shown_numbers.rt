@@ -1,8 +1,6 @@
 //! The numbers that answers show in a group, one after the other.
-ghost use Rattle.std.specs.Prelude.{◌≡◌};
-ghost use Rattle.std.specs.Iterator.{YieldsFirstBy, item_count};
-ghost use Rattle.nntp_facts.specs.Inner.Readers.{with_ids};
-ghost use Rattle.nntp_facts.specs.Inner.ReadersView.{number_value};
+ghost use Rattle.std.specs.{Prelude.{◌≡◌}, Iterator.{YieldsFirstBy, item_count}};
+ghost use Rattle.nntp_facts.specs.Inner.{Readers.{with_ids}, ReadersView.{number_value}};
 
 use crate::group::Group;
 use nntp_numbers::AscendingNumbers;

@@ -1,8 +1,6 @@
 //! The groups that answers show, given away one after the other.
-ghost use Rattle.std.specs.Prelude.{◌≡◌};
-ghost use Rattle.std.specs.Iterator.{YieldsFirst, item_count};
-ghost use Rattle.nntp_facts.specs.Inner.Readers.{shown_in};
-ghost use Rattle.nntp_facts.specs.Inner.ReadersView.{named};
+ghost use Rattle.std.specs.{Prelude.{◌≡◌}, Iterator.{YieldsFirst, item_count}};
+ghost use Rattle.nntp_facts.specs.Inner.{Readers.{shown_in}, ReadersView.{named}};
 
 use crate::group::Group;
 use crate::shown_groups::ShownGroup;
@@ -18,12 +16,9 @@ pub struct TakenGroup<A: Allocator = Global> {
 }
 
 impl<A: Allocator> Model for TakenGroup<A> {
-    ghost use Rattle.nntp_facts.specs.Inner.Readers.{ShownGroup as GroupValue, shown_group};
-    ghost use Rattle.nntp_facts.specs.Inner.ReadersView.{coded_shown_group};
+    ghost use Rattle.nntp_facts.specs.Inner.{Readers.{ShownGroup as GroupValue, shown_group}};
 
     ghost Value = { GroupValue };
-
-    ghost coded = { coded_shown_group };
 
     ghost view = { λ t. shown_group t.name.items t.group };
 }
@@ -45,14 +40,10 @@ pub struct TakenGroups<A: Allocator = Global> {
 }
 
 impl<A: Allocator> Model for TakenGroups<A> {
-    ghost use Rattle.std.specs.Prelude.{List};
-    ghost use Rattle.std.specs.Coded.{coded_list};
-    ghost use Rattle.nntp_facts.specs.Inner.Readers.{ShownGroup as GroupValue, shown_in};
-    ghost use Rattle.nntp_facts.specs.Inner.ReadersView.{named, coded_shown_group};
+    ghost use Rattle.std.specs.{Prelude.{List}};
+    ghost use Rattle.nntp_facts.specs.Inner.{Readers.{ShownGroup as GroupValue, shown_in}, ReadersView.{named}};
 
     ghost Value = { List GroupValue };
-
-    ghost coded = { coded_list coded_shown_group };
 
     ghost view = { λ s. shown_in (named s.rest) };
 }

@@ -2,10 +2,10 @@
 use Rattle.nntp_facts.proofs.Base.{arith, zero, suc, ◌+◌, ◌^◌, ◌<◌, ◌≤◌, ◌≡◌, ℕ, Bool, true, false, IsTrue, Option, None, Some, inl, inr, refl, sym, ap, subst}
 use Rattle.nntp_facts.proofs.Base.{◌∙◌, List, [], ◌∷◌, ◌++◌, length, length-append, append-nil, append_assoc, take, get_or, and_from, cases_lt, AllByRecursion}
 use Rattle.nntp_facts.proofs.Base.{is_ascending, Profile, Together, FitsThere, Placed, told_with, SomeHas, below, IsFound, In, all_at, all_from, in_front}
-use Rattle.nntp_facts.proofs.Base.{in_back, in_cases, contains_in, in_contains, stand, with_told, told_together, Kept, AreTold, AreToldWith, PlacesTold}
-use Rattle.nntp_theory.{specs.{Conflict.{told}, Inner.Conflict.{AreFound, IsPartOfCore}}, proofs.{Members.{every}, Given.FirstBadAnswer.{none_permitted}}}
-use Rattle.nntp_theory.proofs.Conflicts.{fewer_places, core_step, core_done, found_in_each}
-use Rattle.std.{proofs.lemmas.List.{take_more}, specs.{Prelude.{MatchOption}, Bool.{then_some}}}
+use Rattle.nntp_facts.proofs.Base.{in_back, in_cases, contains_in, in_contains, Kept, IsPartOfCore, none_permitted, take_more, MatchOption, then_some}
+use Rattle.nntp_facts.specs.Inner.Told.{AreTold, AreToldWith, PlacesTold}
+use Rattle.nntp_theory.proofs.{Together.FactsOfASpoolStand.{stand}, Conflicts.{with_told, told_together, fewer_places, core_step, core_done, found_in_each}}
+use Rattle.nntp_theory.{proofs.Members.{every}, specs.{Conflict.{told}, Inner.Conflict.{AreFound}}}
 
 -- ---- places
 

@@ -3,10 +3,8 @@ use Rattle.nntp_facts.proofs.Base.{◌≡◌, ℕ, Bool, true, ◌&&◌, not, Is
 use Rattle.nntp_facts.proofs.Base.{true≢false, and_parts, and_from, ◌↔◌, IsFalse, AllByRecursion, list_any, list_all, filter, option_map_or, get, same_text}
 use Rattle.nntp_facts.proofs.Base.{nat_list_eq_equiv, matches_name, is_asked, ActiveValue, Name, is_same, group_names, names_differ, Fact, GroupsAre}
 use Rattle.nntp_facts.proofs.Base.{shows_group, is_shown_group, denies_group, Together, In, in_contains, contains_in, in_front, all_at, any_in, found_in}
-use Rattle.nntp_facts.proofs.{Base.{shown_named, told, AreKeptGroups, MayList, WereListed, is_listed, shown_lines, NoneIsMissing}, Keeping.KeptGroups.{Groups}}
-use Rattle.nntp_facts.{proofs.Keeping.KeptGroups.{shown_kept}, specs.Inner.Kept.{asked_count}}
-use Rattle.std.proofs.lemmas.Map.Views.{any-filter_same}
-use Rattle.nntp_wire.{specs.Decided.{is_group_name}, proofs.DecidedLemmas.{group_name-iff}}
+use Rattle.nntp_facts.proofs.Base.{shown_named, told, AreKeptGroups, MayList, WereListed, is_listed, shown_lines, NoneIsMissing, any-filter_same, is_group_name}
+use Rattle.nntp_facts.{proofs.{Base.{group_name-iff}, Keeping.KeptGroups.{Groups, shown_kept}}, specs.Inner.Kept.{asked_count}}
 use Rattle.nntp_article.proofs.SessionLemmas.MatchingGroups.{as_many, each_listed}
 
 -- groups that were listed are so behind more facts

@@ -2,9 +2,8 @@
 use Rattle.nntp_facts.proofs.Base.{◌≡◌, ℕ, false, ◌==◌, cond, List, [], Option, None, Some, refl, sym, ap, ◌∙◌, arith, ◌++◌, subst, append-nil, eqb-true}
 use Rattle.nntp_facts.proofs.Base.{eq-eqb, ◌↔◌, nat_cmp, eq_by_cmp, slice_cmp, same_text, nat_list_eq_equiv, nat_list_cmp_total, Id, Name, is_same, Ask, Fact}
 use Rattle.nntp_facts.proofs.Base.{asks_of, first_given, id_in, shows_group, number_in, JoinIds, AsksStand, Together, JoinNumbers, same_itself, FinMap, insert}
-use Rattle.nntp_facts.proofs.Base.{get-insert, any_silent, given_silent, asks_append, told, MayShow, id_of, place_of, KeptGroup, Told, IsKeptGroup, IsUntold}
-use Rattle.nntp_facts.proofs.Base.{AreKept, Bool, true}
-use Rattle.std.specs.Cmp.Lexicographic.{texts_ties}
+use Rattle.nntp_facts.proofs.Base.{get-insert, any_silent, given_silent, asks_append, told, MayShow, id_of, place_of, KeptGroup, Told, IsUntold, AreKept, Bool}
+use Rattle.nntp_facts.{proofs.Base.{true, texts_ties}, specs.Inner.Kept.{IsKeptGroup}}
 
 -- ---- asks
 

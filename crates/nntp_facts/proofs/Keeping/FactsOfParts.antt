@@ -2,9 +2,8 @@
 use Rattle.nntp_facts.proofs.Base.{◌≡◌, Bool, false, ◌||◌, cond, List, [], ◌∷◌, ◌++◌, map, Option, None, Some, refl, ap, ◌∙◌, append-nil, arith}
 use Rattle.nntp_facts.proofs.Base.{list_any-append, list_any, option_map_or, option_or, Name, is_same, Ask, Fact, ThereIs, Asks, asks_of, shows_group}
 use Rattle.nntp_facts.proofs.Base.{is_shown_group, first_given, id_in, denies_group, number_in, given_append, or_none, asks_append, OfGroup, Saying, asked_id}
-use Rattle.nntp_facts.proofs.{Base.{sent_facts, lack_facts, id_facts, group_facts, there_facts, facts_in}, Keeping.FactsOfOneGroup.{GivesId}}
-use Rattle.nntp_facts.specs.Inner.Saying.{missing_facts, groups_facts}
-use Rattle.nntp_said.specs.Facts.{ThereIsNo}
+use Rattle.nntp_facts.proofs.{Base.{sent_facts, lack_facts, id_facts, group_facts, facts_in, ThereIsNo}, Keeping.FactsOfOneGroup.{GivesId}}
+use Rattle.nntp_facts.specs.Inner.Saying.{there_facts, missing_facts, groups_facts}
 
 -- the id at a number of a group
 abbrev pub ids_in : Option OfGroup → List Fact

@@ -1,8 +1,6 @@
 -- Where no facts are said, nothing is added.
 use Rattle.nntp_facts.proofs.Base.{◌≡◌, false, true, List, [], Option, None, refl, sym, subst, append-nil, true≢false, option_map, slice_get, Fact, Together}
-use Rattle.nntp_facts.proofs.Base.{together_more, Kept, IsKept, AreAdded}
-use Rattle.std.specs.Prelude.{is_some}
-use Rattle.nntp_theory.proofs.Together.FactsJoin.{none_agrees}
+use Rattle.nntp_facts.{proofs.Base.{together_more, Kept, IsKept, is_some, none_agrees}, specs.Inner.Kept.{AreAdded}}
 
 -- where there is no first fact there is none
 pub no_first : {X : Type 0} (of : X → Fact) (first : Option X) (facts : List Fact) → option_map of first ≡ slice_get facts 0 → is_some first ≡ false → facts ≡ []

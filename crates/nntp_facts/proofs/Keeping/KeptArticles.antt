@@ -3,12 +3,10 @@ use Rattle.nntp_facts.proofs.Base.{◌≡◌, Bool, true, false, cond, ◌||◌,
 use Rattle.nntp_facts.proofs.Base.{true≢false, ⊤, unwrap_or, list_any, filter, option_or, option_map_or, slice_cmp, same_text, nat_list_cmp_total, nat_cmp}
 use Rattle.nntp_facts.proofs.Base.{FinMap, get, entries, insert, get-insert, slice_cmp-IsAntisymmetric, nat_cmp-IsAntisymmetric, Id, Line, is_same, Fact}
 use Rattle.nntp_facts.proofs.Base.{shows_article, denies_article, said_of, join_said, AreSame, JoinArticle, in_get, In, same_itself, What, insert-same}
-use Rattle.nntp_facts.proofs.Base.{KeptArticle, said_kept, AreKeptArticles, IsAddedIf, is_there, with_new, articles_in, head_sent, body_sent, unsent}
-use Rattle.nntp_facts.proofs.Base.{said_alone, IsSaidKept, kept_by, IsSaidAdded, IsArticleAdded, Sends, or_none, telling, Fields, sym, subst, said_nothing}
-use Rattle.nntp_facts.proofs.{Base.{MayBeSent, MayBeTold, with_sent}, Keeping.{SaidOfArticles.{nothing_more, nothing_joins}, FactsOfOneGroup.{flip_text}}}
-use Rattle.nntp_facts.specs.Inner.{Articles.{with_told}, KeptSaying.{SaidJoins}}
-use Rattle.std.{proofs.Common.{◌↔◌}, specs.{Prelude.{MatchOption}, Cmp.{eq_by_cmp_equiv}, FinMap.{IsAntisymmetric}}}
-use Rattle.nntp_theory.{specs.Given.{is_mentioned}, proofs.Maps.{get_in}}
+use Rattle.nntp_facts.proofs.Base.{KeptArticle, said_kept, AreKeptArticles, IsAddedIf, with_new, articles_in, head_sent, body_sent, unsent, said_alone}
+use Rattle.nntp_facts.proofs.Base.{IsSaidKept, kept_by, IsSaidAdded, IsArticleAdded, Sends, or_none, telling, Fields, sym, subst, said_nothing, MayBeSent}
+use Rattle.nntp_facts.proofs.Base.{MayBeTold, with_sent, SaidJoins, ◌↔◌, MatchOption, eq_by_cmp_equiv, IsAntisymmetric, is_mentioned, get_in}
+use Rattle.nntp_facts.{proofs.Keeping.{SaidOfArticles.{nothing_more, nothing_joins}, FactsOfOneGroup.{flip_text}}, specs.Inner.Articles.{is_there, with_told}}
 
 abbrev pub Articles : Type 0
 Articles = FinMap (slice_cmp nat_cmp) KeptArticle

@@ -2,10 +2,9 @@
 use Rattle.nntp_facts.proofs.Base.{◌≡◌, ℕ, Bool, true, List, ◌++◌, Option, None, Some, is_some, MatchOption, refl, sym, ap, subst, ◌∙◌, arith, true≢false}
 use Rattle.nntp_facts.proofs.Base.{eqb-true, or_left, list_any-append, option_or, FinMap, get, insert, get-insert, get-empty, slice_cmp-IsAntisymmetric}
 use Rattle.nntp_facts.proofs.Base.{nat_cmp-IsAntisymmetric, nat_cmp, nat_cmp_total, slice_cmp, same_text, nat_list_cmp_total, ◌↔◌, list_any, insert-same, Id}
-use Rattle.nntp_facts.proofs.Base.{Name, Ask, IsSummary, AreBounded, or_none, KeptGroup, Told, IsKeptGroup, IsUntold, AreKept, with_part, Changes, Agree}
-use Rattle.nntp_facts.proofs.Base.{MayHave, MayShow, ids_with, places_with, id_of, place_of, option_map_or, false, empty, IfSome}
-use Rattle.nntp_facts.proofs.Keeping.FactsOfOneGroup.{flip_number, flip_text, kept_at}
-use Rattle.nntp_theory.specs.Given.{denies}
+use Rattle.nntp_facts.proofs.Base.{Name, Ask, IsSummary, AreBounded, or_none, KeptGroup, Told, IsUntold, AreKept, with_part, Changes, Agree, MayHave, MayShow}
+use Rattle.nntp_facts.proofs.{Base.{ids_with, places_with, id_of, place_of, option_map_or, false, empty, IfSome, denies}, Keeping.FactsOfOneGroup.{flip_number}}
+use Rattle.nntp_facts.{proofs.Keeping.FactsOfOneGroup.{flip_text, kept_at}, specs.Inner.Kept.{IsKeptGroup}}
 
 abbrev pub Groups : Type 0
 Groups = FinMap (slice_cmp nat_cmp) KeptGroup

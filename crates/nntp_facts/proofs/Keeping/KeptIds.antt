@@ -1,13 +1,13 @@
 -- What is kept of ids: of those that have articles, once one is found or made, and of those that are denied.
-use Rattle.nntp_facts.proofs.Base.{◌≡◌, ℕ, Bool, false, cond, ◌&&◌, not, List, [], ◌∷◌, map, Vec, Option, None, Some, is_some, refl, sym, ap, subst, ◌∙◌, arith}
+use Rattle.nntp_facts.proofs.Base.{◌≡◌, ℕ, Bool, false, cond, ◌&&◌, not, List, [], ◌∷◌, map, Option, None, Some, is_some, refl, sym, ap, subst, ◌∙◌, arith}
 use Rattle.nntp_facts.proofs.Base.{true≢false, false_from_ne_true, list_any, filter, option_or, option_map_or, Ordering, nat_cmp, is_eq, slice_cmp}
 use Rattle.nntp_facts.proofs.Base.{nat_list_cmp_total, same_text, get, insert, entries, get-insert, slice_cmp-IsAntisymmetric, nat_cmp-IsAntisymmetric}
-use Rattle.nntp_facts.proofs.Base.{insert_key, lookup, rc_str_bytes, get-shown, replaced, insert-shown, insert-same, Id, is_same, SaidOfArticle, said_nothing}
-use Rattle.nntp_facts.proofs.Base.{or_none, unwrap_or, Equal, insert_entry, KeptArticle, said_kept, denied, is_there, with_new, with_denied, articles_in}
-use Rattle.nntp_facts.proofs.{Base.{unsent, known_article, entries_value, from_entries}, Keeping.KeptArticles.{Articles, new_elsewhere, new_there}}
-use Rattle.nntp_facts.{proofs.Keeping.KeptNames.{any_put, any-map, is_key}, specs.declared.articles.known.KnownArticle.{KnownArticle}}
-use Rattle.std.proofs.{Common.{option_map}, lemmas.{Map.Text.{is_eq-slice_cmp}, Slice.Eq.{bytes_eq-Decides}, Str.{IsUtf8-string_bytes}}}
-use Rattle.std.specs.{declared.rc.RcStr.{RcStr}, FinMap.{find, put, get-entries, entries-insert, same_map}, Map.{set_value}, Str.{IsUtf8}}
+use Rattle.nntp_facts.proofs.Base.{rc_str_bytes, get-shown, replaced, insert-shown, insert-same, Id, is_same, SaidOfArticle, said_nothing, or_none, unwrap_or}
+use Rattle.nntp_facts.proofs.Base.{Equal, insert_entry, KeptArticle, said_kept, with_new, articles_in, unsent, known_article, from_entries, option_map}
+use Rattle.nntp_facts.{proofs.Keeping.{KeptArticles.{Articles, new_elsewhere, new_there}, KeptNames.{any_put, any-map, is_key}}, specs.Inner.Articles.{denied}}
+use Rattle.nntp_facts.specs.{Inner.{Articles.{is_there, with_denied}, ArticleView.{entries_value}}, declared.articles.known.KnownArticle.{KnownArticle}}
+use Rattle.std.{proofs.{Common.{Vec}, lemmas.{Map.Text.{is_eq-slice_cmp}, Slice.Eq.{bytes_eq-Decides}, Str.{IsUtf8-string_bytes}}}, specs.BTreeSet.{insert_key}}
+use Rattle.std.specs.{Map.{lookup, set_value}, declared.rc.RcStr.{RcStr}, FinMap.{find, put, get-entries, entries-insert, same_map}, Str.{IsUtf8}}
 
 -- ---- denied ids beside articles
 

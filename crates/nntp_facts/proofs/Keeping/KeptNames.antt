@@ -1,13 +1,12 @@
 -- Names that are kept: more of them, and whether a name is denied; and the names that are listed.
 use Rattle.nntp_facts.proofs.Base.{◌≡◌, ℕ, Bool, true, false, ◌||◌, ◌&&◌, IsTrue, List, [], ◌∷◌, ◌++◌, map, Option, None, Some, refl, sym, ap, subst, ◌∙◌}
 use Rattle.nntp_facts.proofs.Base.{arith, not, MatchOption, is_some, true≢false, or_left, true_from_ne_false, and_from, list_any-append, IfSome, Ordering}
-use Rattle.nntp_facts.proofs.Base.{Equal, nat_cmp, is_eq, slice_cmp, same_text, nat_list_cmp_total, AllByRecursion, list_any, option_map_or, insert_key}
-use Rattle.nntp_facts.proofs.Base.{insert_entry, lookup, matches_name, ActiveValue, Name, is_same, Fact, GroupsAre, is_shown_group, denies_group, all_at}
-use Rattle.nntp_facts.proofs.Base.{all_from, contains_in, in_back, any_silent, get, IsGroupName, get-shown, Together, shown_named, AreKeptNames, KeptGroup}
-use Rattle.nntp_facts.proofs.{Base.{told, AreKeptGroups, MayList, WereListed, is_listed, NoneIsMissing}, Keeping.CountedGroups.{listed_still}}
-use Rattle.nntp_facts.{proofs.Keeping.{FactsOfOneGroup.{flip_text}, KeptGroups.{Groups, shown_kept}}, specs.Inner.Kept.{KeptNames, WasAnswered}}
-use Rattle.std.specs.{Prelude.{length}, Map.{keys_of}, Borrow.{Bor}}
-use Rattle.nntp_wire.{specs.Wildmat.{is_wildmat}, proofs.ShownMaps.{shown, is_some-option_map}}
+use Rattle.nntp_facts.proofs.Base.{Equal, nat_cmp, is_eq, slice_cmp, same_text, nat_list_cmp_total, AllByRecursion, list_any, option_map_or, insert_entry}
+use Rattle.nntp_facts.proofs.Base.{matches_name, ActiveValue, Name, is_same, Fact, GroupsAre, is_shown_group, denies_group, all_at, all_from, contains_in}
+use Rattle.nntp_facts.proofs.Base.{in_back, any_silent, get, IsGroupName, get-shown, Together, shown_named, AreKeptNames, KeptGroup, told, AreKeptGroups}
+use Rattle.nntp_facts.proofs.Base.{MayList, WereListed, is_listed, NoneIsMissing, KeptNames, WasAnswered, length, is_wildmat, shown, is_some-option_map}
+use Rattle.nntp_facts.proofs.Keeping.{CountedGroups.{listed_still}, FactsOfOneGroup.{flip_text}, KeptGroups.{Groups, shown_kept}}
+use Rattle.std.specs.{BTreeSet.{insert_key}, Map.{lookup, keys_of}, Borrow.{Bor}}
 use Rattle.nntp_article.proofs.SessionLemmas.SetKeys.{any-insert_key}
 
 -- ---- keys of a set

@@ -4,10 +4,8 @@ use Rattle.nntp_facts.proofs.Base.{append_assoc, true≢false, and_parts, and_fr
 use Rattle.nntp_facts.proofs.Base.{AllByRecursion, list_all, option_map_or, same_text, ActiveValue, matches_name, Name, is_same, group_names, names_differ, Ask}
 use Rattle.nntp_facts.proofs.Base.{Bounds, Fact, GroupsAre, asks_of, is_shown_group, first_given, id_in, IsWellFormed, AsksStand, Together, Join, denies_group}
 use Rattle.nntp_facts.proofs.Base.{number_in, In, all_at, all_from, any_in, found_in, same_itself, list_any-append, flat_map-append, given_silent, or_none}
-use Rattle.nntp_facts.proofs.Base.{asks_append, is_listed, LineJoins, NoneIsMissing, told, with_part, Changes, said_of, subst}
+use Rattle.nntp_facts.proofs.Base.{asks_append, is_listed, LineJoins, NoneIsMissing, told, with_part, Changes, said_of, subst, flat_map, any_more}
 use Rattle.nntp_facts.proofs.Keeping.{FactsOfOneGroup.{ids_join, same_told}, SaidOfArticles.{nothing_joins}}
-use Rattle.std.specs.List.{flat_map}
-use Rattle.nntp_theory.proofs.Together.TwoListsOfFacts.{any_more}
 
 -- the bounds that the lines report for a group
 abbrev pub bounds_in : Name → List ActiveValue → List Ask

@@ -3,16 +3,11 @@ use Rattle.nntp_facts.proofs.Base.{Asked, Response, ◌≡◌, ◌+◌, ◌<◌,
 use Rattle.nntp_facts.proofs.Base.{append_assoc, length-append, AllByRecursion, profile_of, start, fits, Visible, Profile, Paired, asked_at, asked_of}
 use Rattle.nntp_facts.proofs.Base.{responses_of, lines_in, Fact, facts_of, ThereIs, FitsAll, size, IsWellFormed, Together, Join, said_behind, AreFew}
 use Rattle.nntp_facts.proofs.Base.{facts_of_all, exchanged, ArePermittedBehind, Contradiction, all_both, all_back, any_back, all_front, all_from, any_in}
-use Rattle.nntp_facts.proofs.Base.{facts_next, as_many, ends, stand_each, facts_behind, Marks, Position, shows_group, same_itself, Kept, IsKept, AreAdded}
-use Rattle.nntp_facts.{proofs.Base.{Saying, IsSelectedShown, Tells, FactsKept, HasNotedBehind, IsDue, IsNotedBehind}, specs.Inner.Noted.{MayBeNoted, said_then}}
-use Rattle.std.proofs.Common.{◌↔◌}
-use Rattle.nntp_article.specs.Session.Machine.{visible_after}
-use Rattle.nntp_pair.specs.Inner.Pairing.{IsSpelled}
-use Rattle.nntp_said.specs.{Asks.{position_after}, Facts.{facts_from}, declared.position.Position.TheVariants.{Nowhere}}
-use Rattle.nntp_theory.specs.{Inner.Exchanged.{said_by}, Answered.{SomePermitsEach}, declared.noted.Noted.TheVariants.{Consistent, OutOfPlace}}
-use Rattle.nntp_theory.{specs.{Given.{facts_of_session}, Classes.{visible_from}}, proofs.Session.PairsGoOn.{MayFollow, of_these, permitted_next, visible_next}}
-use Rattle.nntp_theory.proofs.Session.{PairsGoOn.{position_next, with_pair}, NumbersOfShownGroups.{Among, HasNoted, still_stands}}
-use Rattle.nntp_theory.proofs.{Given.SessionsGoOn.{small_behind}, Together.WellFormed.{spelled_formed}, Members.{if_some}}
+use Rattle.nntp_facts.proofs.Base.{facts_next, as_many, ends, stand_each, facts_behind, Marks, Position, shows_group, same_itself, Kept, IsKept, Saying}
+use Rattle.nntp_facts.proofs.Base.{IsSelectedShown, Tells, FactsKept, IsNotedBehind, ◌↔◌, visible_after, IsSpelled, position_after, facts_from, Nowhere}
+use Rattle.nntp_facts.proofs.Base.{said_by, SomePermitsEach, Consistent, OutOfPlace, facts_of_session, visible_from, MayFollow, of_these, permitted_next}
+use Rattle.nntp_facts.proofs.Base.{visible_next, position_next, with_pair, Among, HasNoted, still_stands, small_behind, spelled_formed, if_some}
+use Rattle.nntp_facts.specs.Inner.{Kept.{AreAdded}, Noted.{HasNotedBehind, IsDue, MayBeNoted, said_then}}
 
 -- answers that fit leave a group selected that a 211 selected
 left_stands : (profile : Profile) (all : List Fact) (v : Visible) (at : Position) (ps : List Asked) (answers : List Response) → HasNoted profile.marks all v → FitsAll profile v ps answers

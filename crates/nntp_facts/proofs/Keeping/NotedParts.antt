@@ -1,9 +1,9 @@
 -- What is kept in all, where the parts of an answer are noted.
 use Rattle.nntp_facts.proofs.Base.{◌≡◌, ℕ, Bool, List, [], ◌∷◌, Option, None, Some, sym, subst, ◌∙◌, arith, ◌↔◌, IfSome, AllByRecursion, Id, Lists, ActiveValue}
 use Rattle.nntp_facts.proofs.Base.{OverviewValue, Range, Ask, Fact, OverviewsAre, GroupsAre, IsWellFormed, Together, Join, MayList, OfGroup, OfArticle, Saying}
-use Rattle.nntp_facts.proofs.Base.{facts_in, AreListed, IsToExist, MayBeOf, Tells, MaySay, overviews_facts, Kept, AreAdded, IsTextOf, JoinGroups, MayBeSaid}
-use Rattle.nntp_facts.proofs.{Base.{ArticleJoins}, Keeping.OverviewsTold.{plain_told, plain_if, group_there, of_range, overviews_told, no_id_there, asks_there}}
-use Rattle.nntp_facts.{proofs.Keeping.PartsJoin.{parts_join}, specs.Inner.{Saying.{group_of_overviews}, KeptSaying.{MayListOf}}}
+use Rattle.nntp_facts.proofs.Base.{facts_in, AreListed, IsToExist, MayBeOf, Tells, MaySay, overviews_facts, Kept, IsTextOf, MayBeSaid, ArticleJoins}
+use Rattle.nntp_facts.proofs.Keeping.OverviewsTold.{plain_told, plain_if, group_there, of_range, overviews_told, no_id_there, asks_there}
+use Rattle.nntp_facts.{proofs.Keeping.PartsJoin.{parts_join}, specs.Inner.{Kept.{AreAdded}, KeptSaying.{JoinGroups, MayListOf}, Saying.{group_of_overviews}}}
 
 -- what has the same parts is the same
 pub kept_is : (a b : Kept) → a.groups ≡ b.groups → a.names ≡ b.names → a.articles ≡ b.articles → a ≡ b

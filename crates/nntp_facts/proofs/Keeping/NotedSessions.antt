@@ -1,10 +1,7 @@
 -- Exchanges of several sessions are noted one after the other: the next one is permitted exactly if it fits its own session and what it says joins what all said.
 use Rattle.nntp_facts.proofs.Base.{◌≡◌, ◌+◌, ◌<◌, ◌^◌, List, [], ◌∷◌, ◌++◌, length, map, refl, sym, ap, subst, arith, append-nil, length-append, Profile, start}
-use Rattle.nntp_facts.proofs.Base.{Paired, said_behind, AreFew, exchanged, Answered, all_both, facts_behind, IsKept, FactsKept, HasNotedBehind}
-use Rattle.nntp_facts.specs.Inner.Noted.{begun}
-use Rattle.std.proofs.lemmas.List.{map-append}
-use Rattle.nntp_article.specs.Session.Machine.{Run}
-use Rattle.nntp_theory.specs.Answered.{PermitsEach}
+use Rattle.nntp_facts.proofs.Base.{Paired, said_behind, AreFew, exchanged, Answered, all_both, facts_behind, IsKept, FactsKept, map-append, Run, PermitsEach}
+use Rattle.nntp_facts.specs.Inner.Noted.{HasNotedBehind, begun}
 
 -- ---- the facts of sessions
 

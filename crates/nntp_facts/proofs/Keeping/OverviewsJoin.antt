@@ -6,12 +6,11 @@ use Rattle.nntp_facts.proofs.Base.{shows_group, is_shown_group, first_given, id_
 use Rattle.nntp_facts.proofs.Base.{IsWellFormed, JoinNumbers, JoinIds, Together, Join, said_of, AreSame, join_said, In, all_at, all_from, all_back, any_in}
 use Rattle.nntp_facts.proofs.Base.{found_in, same_itself, asks_append, given_append, given_silent, or_none, any_silent, Kept, IsKept, Told, told, AreKept}
 use Rattle.nntp_facts.proofs.Base.{AreKeptNames, AreKeptArticles, with_part, Changes, MayShow, said_kept, IsSaidKept, IsSaidAdded, MayGive, with_overviews}
-use Rattle.nntp_facts.proofs.Base.{said_alone, said_listed, HaveOwn, OverviewJoins, id_listed, place_listed, telling, SaidOfArticle, Fields}
-use Rattle.nntp_facts.proofs.Keeping.{KeptNames.{names_kept}, KeptArticles.{Articles, MayKeep, article_joins, denied_kept}, ListedOverviews.{listed_asks}}
-use Rattle.nntp_facts.proofs.Keeping.{ListedOverviews.{listed_ids, listed_places, listed_said, own_agree, none_in_front}, FactsOfOneGroup.{asked_here}}
-use Rattle.nntp_facts.proofs.Keeping.{FactsOfOneGroup.{asked_elsewhere, numbers_join, told_same, same_told}, PartsJoin.{agree_told}}
-use Rattle.nntp_facts.{proofs.Keeping.SaidOfArticles.{said_append}, specs.Inner.KeptSaying.{MayBeGiven}}
-use Rattle.nntp_theory.{specs.{Given.{id_of_overview}, Together.{number_of_overview}}, proofs.Together.ListedOverviews.{overview_at, overview_of, told_by}}
+use Rattle.nntp_facts.proofs.Base.{said_alone, said_listed, HaveOwn, OverviewJoins, id_listed, place_listed, telling, SaidOfArticle, Fields, id_of_overview}
+use Rattle.nntp_facts.proofs.{Base.{number_of_overview, overview_at, overview_of, told_by}, Keeping.{KeptNames.{names_kept}, KeptArticles.{Articles, MayKeep}}}
+use Rattle.nntp_facts.proofs.Keeping.{KeptArticles.{article_joins, denied_kept}, ListedOverviews.{listed_asks, listed_ids, listed_places, listed_said}}
+use Rattle.nntp_facts.proofs.Keeping.{ListedOverviews.{own_agree, none_in_front}, FactsOfOneGroup.{asked_here, asked_elsewhere, numbers_join, told_same}}
+use Rattle.nntp_facts.{proofs.Keeping.{FactsOfOneGroup.{same_told}, PartsJoin.{agree_told}, SaidOfArticles.{said_append}}, specs.Inner.KeptSaying.{MayBeGiven}}
 
 -- what is told of a group, once its numbers have the ids of these overviews
 abbrev pub with_listed : Told → List OverviewValue → Told

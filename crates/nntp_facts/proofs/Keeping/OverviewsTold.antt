@@ -1,10 +1,9 @@
 -- What a saying tells, by overviews or otherwise.
-use Rattle.nntp_facts.proofs.Base.{◌≡◌, ℕ, false, cond, List, [], ◌∷◌, ◌++◌, Option, None, Some, MatchOption, sym, ap, subst, ◌∙◌, arith, IfSome, list_any}
-use Rattle.nntp_facts.proofs.Base.{option_map_or, OverviewValue, Range, Id, Name, is_same, overview_numbers, Ask, ListsIn, Fact, OverviewsAre, asks_of}
-use Rattle.nntp_facts.proofs.Base.{is_shown_group, first_given, id_in, denies_group, number_in, said_of, OfGroup, Saying, asked_id, overviews_facts, facts_in}
-use Rattle.nntp_facts.proofs.{Base.{MaySay}, Keeping.{FactsOfParts.{shown_group, denied_group}, PartsJoin.{said_of_parts, group_is}}}
-use Rattle.nntp_facts.{proofs.Keeping.ListedOverviews.{listed_asks, listed_ids, listed_places, listed_said}, specs.Inner.Saying.{facts_told, AreOfRange}}
-use Rattle.nntp_facts.specs.Inner.Points.{id_said, place_said, said_by}
+use Rattle.nntp_facts.proofs.Base.{◌++◌, is_shown_group, ◌≡◌, option_map_or, number_in, ◌∙◌, cond, IfSome, Range, sym, Saying, MatchOption, first_given, Some}
+use Rattle.nntp_facts.proofs.Base.{overviews_facts, asks_of, false, denies_group, facts_in, said_of, subst, [], id_in, Option, is_same, ListsIn, list_any, Id}
+use Rattle.nntp_facts.proofs.Base.{Name, Fact, List, OverviewsAre, Ask, None, ℕ, OverviewValue, ◌∷◌, ap, asked_id, overview_numbers, OfGroup, MaySay, arith}
+use Rattle.nntp_facts.proofs.Keeping.{ListedOverviews.{listed_places, listed_ids, listed_said, listed_asks}, FactsOfParts.{denied_group, shown_group}}
+use Rattle.nntp_facts.{proofs.Keeping.PartsJoin.{group_is, said_of_parts}, specs.Inner.{Saying.{facts_told, AreOfRange}, Points.{id_said, place_said, said_by}}}
 
 -- overviews, if any are said
 abbrev pub Overviews : Type 0

@@ -5,12 +5,11 @@ use Rattle.nntp_facts.proofs.Base.{same_text, Id, Name, is_same, only, OverviewV
 use Rattle.nntp_facts.proofs.Base.{AgreesWithItself, said_of, said_nothing, join_said, Together, JoinNumbers, JoinIds, JoinArticle, Join, denies_group}
 use Rattle.nntp_facts.proofs.Base.{number_in, given_append, asks_append, same_itself, all_both, AreBounded, Says, OfGroup, OfArticle, Exists, Describes, Saying}
 use Rattle.nntp_facts.proofs.Base.{asked_id, sent_facts, lack_facts, id_facts, group_facts, facts_in, MaySay, IsToExist, MayBeOf, told, IsUntold, AreKeptGroups}
-use Rattle.nntp_facts.proofs.Base.{with_part, Changes, Agree, IsShownAt, id_of, place_of, GroupJoins, JoinGroups, said_in, ArticleJoins, Bool, IsTrue}
-use Rattle.nntp_facts.proofs.Keeping.FactsOfOneGroup.{numbers_join, no_numbers_join, GiveNoIds, ids_join, told_same, AskOf, asked_here, asked_elsewhere}
-use Rattle.nntp_facts.proofs.Keeping.{FactsOfOneGroup.{GivesId, gives_joins, same_told}, KeptGroups.{Groups}, FactsOfParts.{asks_of_group, ids_in, of_articles}}
-use Rattle.nntp_facts.proofs.Keeping.{FactsOfParts.{group_asks, shown_group, denied_group, group_gives}, SaidOfArticles.{nothing_more, said_is_read}}
-use Rattle.nntp_facts.proofs.Keeping.SaidOfArticles.{overview_said, said_at}
-use Rattle.nntp_theory.{specs.Inner.Together.{JoinNames}, proofs.{Together.ListedOverviews.{alone_agrees}, Ids.OnePlaceOfAnId.{agree_together, shown_with_id}}}
+use Rattle.nntp_facts.proofs.Base.{with_part, Changes, Agree, IsShownAt, id_of, place_of, GroupJoins, ArticleJoins, Bool, IsTrue, JoinNames, alone_agrees}
+use Rattle.nntp_facts.proofs.{Base.{agree_together, shown_with_id}, Keeping.FactsOfOneGroup.{numbers_join, no_numbers_join, GiveNoIds, ids_join, told_same}}
+use Rattle.nntp_facts.proofs.Keeping.{FactsOfOneGroup.{AskOf, asked_here, asked_elsewhere, GivesId, gives_joins, same_told}, KeptGroups.{Groups}}
+use Rattle.nntp_facts.proofs.Keeping.FactsOfParts.{asks_of_group, ids_in, of_articles, group_asks, shown_group, denied_group, group_gives}
+use Rattle.nntp_facts.{proofs.Keeping.SaidOfArticles.{nothing_more, said_is_read, overview_said, said_at}, specs.Inner.KeptSaying.{JoinGroups, said_in}}
 
 -- ---- articles
 

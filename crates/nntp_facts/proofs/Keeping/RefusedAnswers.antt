@@ -3,9 +3,9 @@ use Rattle.nntp_facts.proofs.Base.{◌≡◌, ◌<◌, ◌^◌, IsTrue, List, []
 use Rattle.nntp_facts.proofs.Base.{AllByRecursion, Asked, Response, Marks, Name, Visible, start, fits, Profile, Paired, asked_at, asked_of, responses_of}
 use Rattle.nntp_facts.proofs.Base.{lines_in, Fact, Holds, group_of, FitsAll, Contradiction, Answered, facts_of_all, size, said_behind, Together, exchanged}
 use Rattle.nntp_facts.proofs.Base.{ArePermittedBehind, Placed, the_group, In, all_from, all_at, all_both, all_front, all_back, in_front, in_back, in_cases}
-use Rattle.nntp_facts.proofs.Base.{size-append, stand_each, facts_behind, as_many, ends, facts_next, FactsKept, HasNotedBehind, IsDue, IsNotedBehind, AreHeld}
-use Rattle.nntp_facts.{proofs.Keeping.{NotedExchange.{stand_together}, ToldAnswers.{told_size}}, specs.Inner.Points.{held_by}}
-use Rattle.nntp_theory.{specs.{Conflict.{told, placed_behind, said as said_there}, Inner.Answered.{FitEach}}, proofs.Conflicts.{there_said, group_fitting}}
+use Rattle.nntp_facts.proofs.Base.{size-append, stand_each, facts_behind, as_many, ends, facts_next, FactsKept, IsNotedBehind, AreHeld, placed_behind}
+use Rattle.nntp_facts.{proofs.Keeping.{NotedExchange.{stand_together}, ToldAnswers.{told_size}}, specs.Inner.{Noted.{HasNotedBehind, IsDue}, Points.{held_by}}}
+use Rattle.nntp_theory.{specs.{Conflict.{told, said as said_there}, Inner.Answered.{FitEach}}, proofs.Conflicts.{there_said, group_fitting}}
 use Rattle.nntp_theory.proofs.{PointsOfConflict.{stand_or_conflict}, Given.{GivenPermits.{said}, GivenHasFacts.{given_of_facts, given_has}}}
 use Rattle.nntp_theory.proofs.Given.{ConstructedSpool.{made}, SessionsByFacts.{permits_each, all_fitting, all_placed}, SessionsGoOn.{room_behind}}
 use Rattle.nntp_theory.proofs.Session.{LaterPrompts.{next_behind, run_longer, visible_longer}, OneMoreAnswer.{as_few, fitting_grows}, FittingFacts.{IsFitting}}

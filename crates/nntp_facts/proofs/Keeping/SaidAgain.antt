@@ -2,16 +2,14 @@
 use Rattle.nntp_facts.proofs.Base.{◌≡◌, ℕ, ◌^◌, ◌<◌, true, IsTrue, List, ◌++◌, Option, None, Some, is_some, MatchOption, inl, inr, refl, sym, ap, subst, ◌∙◌}
 use Rattle.nntp_facts.proofs.Base.{arith, or-false, true≢false, and_parts, eqb-true, eq-eqb, cases_lt, leb-true, false_from_ne_true, ◌↔◌, list_any}
 use Rattle.nntp_facts.proofs.Base.{nat_list_cmp_total, get, slice_cmp-IsAntisymmetric, nat_cmp-IsAntisymmetric, insert-same, Id, Name, Ask, Fact, AsksStand}
-use Rattle.nntp_facts.proofs.Base.{same_itself, all_both, any_in, Said, Says, IsSummary, AreBounded, OfGroup, Saying, MaySay, KeptGroup, Told, told}
-use Rattle.nntp_facts.proofs.Base.{IsKeptGroup, AreKept, Agree, IsShownAt, MayShow, ids_with, places_with, AreKeptWith, IsThereAlready}
-use Rattle.nntp_facts.{proofs.Keeping.KeptGroups.{Groups, kept_of, part_kept, bounded_more, agree_kept, same_id}, specs.Inner.KeptSaying.{HasSaid}}
-use Rattle.std.{proofs.lemmas.Bool.{or_from, ltb-true}, specs.FinMap.{len}}
-use Rattle.nntp_intervals.specs.Inner.Intervals.{holds}
-use Rattle.nntp_theory.{specs.{Given.{is_denied, says_some, demand, join, IsGivenNumber}, Together.{is_possible}}, proofs.Together.FewEnough.{few_for}}
-use Rattle.nntp_theory.proofs.{Together.FewEnough.{within_all}, GivenNumbers.GivenNumbersMeet.{same_demand}, Members.{first_found}}
-use Rattle.nntp_numbers.{specs.Inner.{Part.{only_has, part_denies, is_one_of, join_ends}, Summary.{Summary, has, AddsNothing}}, proofs.MoreAsks.{are_possible}}
-use Rattle.nntp_numbers.proofs.{MoreAsks.{added}, HullOfMarks.{apart_by_hull, stands_by_hull, said_some, shown_says, demand_says, some_is}}
+use Rattle.nntp_facts.proofs.Base.{same_itself, all_both, any_in, Says, IsSummary, AreBounded, OfGroup, Saying, MaySay, KeptGroup, Told, told, AreKept, Agree}
+use Rattle.nntp_facts.proofs.Base.{IsShownAt, MayShow, ids_with, places_with, IsThereAlready, or_from, ltb-true, len, holds, is_denied, demand, IsGivenNumber}
+use Rattle.nntp_facts.proofs.{Base.{is_possible, first_found}, Keeping.KeptGroups.{Groups, kept_of, part_kept, bounded_more, agree_kept, same_id}}
+use Rattle.nntp_facts.specs.Inner.{Kept.{IsKeptGroup, AreKeptWith}, KeptSaying.{HasSaid}}
+use Rattle.nntp_numbers.specs.Inner.{Part.{Said, only_has, part_denies, is_one_of, join_ends}, Summary.{Summary, has, AddsNothing}}
+use Rattle.nntp_numbers.proofs.{MoreAsks.{are_possible, added}, HullOfMarks.{apart_by_hull, stands_by_hull, said_some, shown_says, demand_says, some_is}}
 use Rattle.nntp_numbers.proofs.{AsksSettled.{ArePossible}, Implied.{Implies}}
+use Rattle.nntp_theory.{specs.Given.{says_some, join}, proofs.{Together.FewEnough.{few_for, within_all}, GivenNumbers.GivenNumbersMeet.{same_demand}}}
 
 -- ---- asks of which the same is kept
 

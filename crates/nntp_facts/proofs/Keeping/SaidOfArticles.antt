@@ -1,10 +1,8 @@
 -- What facts say of ids: of two lists, one behind the other, and of single facts.
 use Rattle.nntp_facts.proofs.Base.{◌≡◌, true, cond, MatchOption, List, [], ◌∷◌, ◌++◌, Option, None, Some, refl, sym, arith, true≢false, list_any-append}
 use Rattle.nntp_facts.proofs.Base.{or-false, OverviewValue, What, Id, Line, is_same, only, Fact, FieldsAre, SaidOfArticle, said_of, said_nothing, join_said}
-use Rattle.nntp_facts.proofs.Base.{JoinArticle, given_append, or_none, head_sent, body_sent, telling, Exists, Describes, said_in, said_alone, OfArticle}
-use Rattle.nntp_facts.proofs.{Base.{IsToExist}, Keeping.FactsOfParts.{IsRead}}
-use Rattle.nntp_said.specs.Facts.{TextIs}
-use Rattle.nntp_theory.specs.Given.{head_in, body_in}
+use Rattle.nntp_facts.proofs.Base.{JoinArticle, given_append, or_none, head_sent, body_sent, telling, Exists, Describes, said_alone, OfArticle, IsToExist}
+use Rattle.nntp_facts.{proofs.{Base.{TextIs, head_in, body_in}, Keeping.FactsOfParts.{IsRead}}, specs.Inner.KeptSaying.{said_in}}
 
 -- ---- one list behind the other
 

@@ -2,16 +2,14 @@
 use Rattle.nntp_facts.proofs.Base.{◌≡◌, ℕ, ◌<◌, ◌^◌, get_or, true, IsTrue, List, [], ◌∷◌, Option, None, Some, is_some, inl, inr, refl, sym, ap, subst, ◌∙◌}
 use Rattle.nntp_facts.proofs.Base.{arith, true≢false, and_parts, eqb-true, leb-true, list_all, IfSome, Id, Name, Visible, fits, overview_numbers, only}
 use Rattle.nntp_facts.proofs.Base.{names_differ, Profile, numbers_of, Lists, Asked, Response, Marks, Range, ActiveValue, OverviewValue, active_groups}
-use Rattle.nntp_facts.proofs.Base.{overviews_of, Position, Ask, Estimates, ListsIn, Fact, ThereIs, Asks, FieldsAre, here, facts_of, group_of, Said, Says}
-use Rattle.nntp_facts.proofs.Base.{AreBounded, all_from, each_of, found_in, AreListed, Saying, TellsHere, IsSelectedShown, IsShownThen, nothing, saying_by}
-use Rattle.nntp_facts.{proofs.Base.{asked_id, id_facts, HaveOwn, MayList}, specs.Inner.Saying.{numbers_shown}}
-use Rattle.nntp_said.specs.{Facts.{IdAt}, Asks.{Lacks, StandsAt, StandsNowhere, StepsUp, StepsDown, IsTop, IsBottom}}
-use Rattle.std.specs.Prelude.{nat_le, ◌≤◌}
-use Rattle.nntp_article.specs.{Session.Machine.{is_article_number, active_fits}, Inner.Listed.{lists_of}}
-use Rattle.nntp_wire.specs.{Answer.{overviews_are}, declared.water_marks.WaterMarks.{WaterMarks}, Listing.{listed_numbers}}
-use Rattle.nntp_numbers.{specs.Inner.{Part.{AreListable}, PartOf.{IsSmall, nothing_said, part_with}}, proofs.SaidInARange.{says_range, says_listed}}
+use Rattle.nntp_facts.proofs.Base.{overviews_of, Position, Ask, Estimates, ListsIn, Fact, ThereIs, Asks, FieldsAre, here, facts_of, group_of, Says, AreBounded}
+use Rattle.nntp_facts.proofs.Base.{all_from, each_of, found_in, AreListed, Saying, TellsHere, IsSelectedShown, IsShownThen, nothing, saying_by, asked_id}
+use Rattle.nntp_facts.{proofs.Base.{id_facts, HaveOwn, MayList, nat_le, ◌≤◌, is_article_number, active_fits, lists_of}, specs.Inner.Saying.{numbers_shown}}
+use Rattle.nntp_numbers.{specs.Inner.{Part.{Said, AreListable}, PartOf.{IsSmall, nothing_said, part_with}}, proofs.SaidInARange.{says_range, says_listed}}
 use Rattle.nntp_numbers.proofs.SaidOfAsks.{said_small, says_marks, marks_bounded, says_has, says_lacks, says_stands, says_nowhere, says_up, says_down, says_top}
 use Rattle.nntp_numbers.proofs.SaidOfAsks.{says_bottom}
+use Rattle.nntp_said.specs.{Facts.{IdAt}, Asks.{Lacks, StandsAt, StandsNowhere, StepsUp, StepsDown, IsTop, IsBottom}}
+use Rattle.nntp_wire.specs.{Answer.{overviews_are}, declared.water_marks.WaterMarks.{WaterMarks}, Listing.{listed_numbers}}
 use Rattle.nntp_facts.specs.declared.saying.Saying as parts
 use Rattle.nntp_facts.specs.Inner.SayingView as view
 use Rattle.nntp_said.proofs.Rows as rows

@@ -1,14 +1,14 @@
 -- Noting what answers say by themselves.
-use Rattle.nntp_facts.proofs.Base.{arith, zero, suc, ◌+◌, ◌*◌, ◌^◌, ◌<◌, ◌≤◌, ◌≡◌, ℕ, Bool, true, false, IsTrue, Option, None, Some, sym, ap, subst, ◌∙◌, List}
-use Rattle.nntp_facts.proofs.Base.{[], ◌∷◌, ◌++◌, length, length-append, append-nil, append_assoc, or_left, flat_map-append, IfSome, unwrap_or, option_map}
+use Rattle.nntp_facts.proofs.Base.{arith, zero, suc, ◌+◌, ◌^◌, ◌<◌, ◌≤◌, ◌≡◌, ℕ, Bool, true, false, IsTrue, Option, None, Some, sym, ap, subst, ◌∙◌, List, []}
+use Rattle.nntp_facts.proofs.Base.{◌∷◌, ◌++◌, length, length-append, append-nil, append_assoc, or_left, flat_map-append, IfSome, unwrap_or, option_map}
 use Rattle.nntp_facts.proofs.Base.{slice_get, AllByRecursion, option_map_or, Asked, Response, lines_in, Name, Visible, start, fits, Profile, numbers_of}
 use Rattle.nntp_facts.proofs.Base.{Position, Fact, Holds, here, facts_of, group_of, is_shown_group, size, Together, Join, IsWellFormed, FitsThere, Placed, said}
-use Rattle.nntp_facts.proofs.Base.{the_group, SomeHas, told_with, any_back, all_front, size-append, together_more, stand, same_itself, Kept, IsKept, AreAdded}
-use Rattle.nntp_facts.proofs.Base.{Saying, OfGroup, Tells, TellsHere, TellsThere, IsShownThen, IsSelectedShown, there_facts, AreTold, AreToldWith, PlacesTold}
-use Rattle.nntp_facts.proofs.Keeping.NotedExchange.{Adds}
-use Rattle.nntp_theory.{specs.{Conflict.{told, told_at}, Inner.Together.{AgreeWithin}}, proofs.Ids.SizeOfASession.{answer_size}}
-use Rattle.nntp_theory.proofs.{Session.GroupOfAnAnswer.{same_selected}, Together.FactsJoin.{answer_agrees}}
-use Rattle.std.proofs.{Common.{◌↔◌}, Math.Path.{ap₂}}
+use Rattle.nntp_facts.proofs.Base.{the_group, SomeHas, told_with, any_back, all_front, size-append, together_more, same_itself, Kept, IsKept, Saying, OfGroup}
+use Rattle.nntp_facts.{proofs.{Base.{Tells, TellsHere, IsShownThen, IsSelectedShown, ◌↔◌}, Keeping.NotedExchange.{Adds}}, specs.Inner.Kept.{AreAdded}}
+use Rattle.nntp_facts.specs.Inner.{Saying.{TellsThere, there_facts}, Told.{AreTold, AreToldWith, PlacesTold}}
+use Rattle.std.proofs.{Common.{◌*◌}, Math.Path.{ap₂}}
+use Rattle.nntp_theory.proofs.{Together.{FactsOfASpoolStand.{stand}, FactsJoin.{answer_agrees}}, Ids.SizeOfASession.{answer_size}}
+use Rattle.nntp_theory.{proofs.Session.GroupOfAnAnswer.{same_selected}, specs.{Conflict.{told, told_at}, Inner.Together.{AgreeWithin}}}
 
 -- ---- the group of a saying
 

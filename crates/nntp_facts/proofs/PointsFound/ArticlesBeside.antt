@@ -1,17 +1,12 @@
 -- Points that are about articles, where what an answer says conflicts with what is kept.
-use Rattle.std.proofs.Common.{ℕ, true, false, not, cond, IsTrue, List, ◌≡◌, ◌++◌, ◌||◌, ◌⊎◌, Option, None, Some, refl, sym, ap, subst, ◌∙◌, arith}
-use Rattle.std.{proofs.lemmas.{Bool.{true≢false, cases_Bool, or_left, or_right}, List.Folds.{list_any-append}}, specs.Prelude.{IfSome, IsFalse, MatchOption}}
-use Rattle.std.specs.{List.{list_any}, Option.{option_map_or}, Cmp.Lexicographic.{same_text}, FinMap.{get}}
-use Rattle.nntp_wire.specs.{Listing.{OverviewValue}, declared.{command.What.{What}, range.Range.{Range}}}
-use Rattle.nntp_article.specs.{Article.Parts.{Id, Line}, Session.Machine.{is_same, head_fits}, declared.session.profile.Profile.{Profile}}
-use Rattle.nntp_said.specs.Facts.{Fact}
-use Rattle.nntp_theory.specs.{Given.{first_given, head_in, body_in}, Together.{shows_article, denies_article}, Inner.Together.{SaidOfArticle, said_nothing}}
-use Rattle.nntp_theory.{specs.{Inner.Together.{AreSame}, Conflict.{Point, Article, HeadOf, BodyOf, ConflictAt}}, proofs.Members.{In, any_in, found_in}}
-use Rattle.nntp_theory.proofs.{Members.{first_found, none_there}, PointsByRank.{of_rank}, Together.FactsOfASpoolStand.{same_itself}}
-use Rattle.nntp_theory.proofs.Together.TwoListsOfFacts.{apart_both, give_same_of_both}
-use Rattle.nntp_facts.specs.Inner.{Kept.{Kept, said_kept}, Saying.{OfArticle, Sends, MayBeOf}, KeptSaying.{kept_by, said_in, said_listed}, Points.{Statement}}
-use Rattle.nntp_facts.{specs.Inner.{Points.{IsPointOf, IsBeside, said_by}, Articles.{is_there}}, proofs.Keeping.OverviewsTold.{Overviews, plain_by_article}}
-use Rattle.nntp_facts.proofs.{Keeping.KeptArticles.{shown_kept, denied_kept}, PointsFound.{Statements.{article_told}, KindsOfPoints.{one_given}}}
+use Rattle.nntp_facts.proofs.Base.{ℕ, true, false, not, cond, IsTrue, List, ◌≡◌, ◌++◌, ◌||◌, ◌⊎◌, Option, None, Some, refl, sym, ap, subst, ◌∙◌, arith}
+use Rattle.nntp_facts.proofs.Base.{true≢false, cases_Bool, or_left, or_right, list_any-append, IfSome, IsFalse, MatchOption, list_any, option_map_or, same_text}
+use Rattle.nntp_facts.proofs.Base.{get, OverviewValue, What, Range, Id, Line, is_same, head_fits, Profile, Fact, first_given, head_in, body_in, shows_article}
+use Rattle.nntp_facts.proofs.Base.{denies_article, SaidOfArticle, said_nothing, AreSame, Point, Article, HeadOf, BodyOf, ConflictAt, In, any_in, found_in}
+use Rattle.nntp_facts.proofs.Base.{first_found, none_there, of_rank, same_itself, apart_both, give_same_of_both, Kept, said_kept, OfArticle, Sends, MayBeOf}
+use Rattle.nntp_facts.proofs.{Base.{kept_by, said_listed, IsPointOf}, Keeping.{OverviewsTold.{Overviews, plain_by_article}, KeptArticles.{shown_kept}}}
+use Rattle.nntp_facts.proofs.{Keeping.KeptArticles.{denied_kept}, PointsFound.{Statements.{article_told}, KindsOfPoints.{one_given}}}
+use Rattle.nntp_facts.specs.Inner.{KeptSaying.{said_in}, Points.{Statement, IsBeside, said_by}, Articles.{is_there}}
 
 -- ---- the parts of an article
 

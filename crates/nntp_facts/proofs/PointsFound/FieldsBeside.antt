@@ -1,18 +1,12 @@
 -- Points that are about headers, where what an answer tells of them conflicts with what is kept.
-use Rattle.std.proofs.Common.{◌≡◌, true, false, IsTrue, List, [], ◌∷◌, ◌++◌, Option, None, Some, MatchOption, refl, sym, ap, subst, ◌∙◌, arith}
-use Rattle.std.{proofs.lemmas.Bool.{true≢false}, specs.{Prelude.{◌≢◌, IfSome, option_map, is_some}, List.{AllByRecursion}, Option.{option_map_or}}}
-use Rattle.std.specs.FinMap.{get}
-use Rattle.nntp_wire.specs.{Listing.{OverviewValue, Fields}, declared.{command.What.{What}, range.Range.{Range}}}
-use Rattle.nntp_article.specs.{Article.{Parts.{Id, Line}, Fields.{fields_of_head, words_in}}, declared.article.field.Field.{Field}}
-use Rattle.nntp_article.specs.{declared.session.profile.Profile.{Profile}, Session.Machine.{head_fits, only}}
-use Rattle.nntp_said.specs.Facts.{Fact}
-use Rattle.nntp_theory.specs.{Given.{first_given, fields_in, fields_of_overview}, Together.{GiveOne}, Inner.Together.{SaidOfArticle, AreSame}, Conflict.{Point}}
-use Rattle.nntp_theory.{specs.Conflict.{ConflictAt, words_told}, proofs.{Members.{if_some, In, all_at, all_from, part_first}, PointsByRank.{of_rank}}}
-use Rattle.nntp_theory.proofs.Together.{TwoListsOfFacts.{give_same_of_both}, ListedOverviews.{told_by}}
-use Rattle.nntp_facts.specs.Inner.{Kept.{Kept, said_kept}, Articles.{head_sent}, Saying.{OfArticle, Sends, Describes, MayBeOf}, KeptSaying.{said_in}}
-use Rattle.nntp_facts.specs.Inner.{KeptSaying.{said_listed, kept_by}, Points.{IsPointOf, IsBeside, IsFieldOf, IsFieldAmong, IsOtherField, OneTellsOther}}
-use Rattle.nntp_facts.{specs.Inner.Points.{Statement, said_by}, proofs.Keeping.{OverviewsTold.{of_range}, ListedOverviews.{own_agree}}}
-use Rattle.nntp_facts.proofs.PointsFound.{Statements.{article_told}, KindsOfPoints.{one_given}, ArticlesBeside.{own, others, said, said_plain}}
+use Rattle.nntp_facts.proofs.Base.{◌≡◌, true, false, IsTrue, List, [], ◌∷◌, ◌++◌, Option, None, Some, MatchOption, refl, sym, ap, subst, ◌∙◌, arith, true≢false}
+use Rattle.nntp_facts.proofs.Base.{◌≢◌, IfSome, option_map, is_some, AllByRecursion, option_map_or, get, OverviewValue, Fields, What, Range, Id, Line}
+use Rattle.nntp_facts.proofs.Base.{fields_of_head, words_in, Field, Profile, head_fits, only, Fact, first_given, fields_in, fields_of_overview, GiveOne}
+use Rattle.nntp_facts.proofs.Base.{SaidOfArticle, AreSame, Point, ConflictAt, words_told, if_some, In, all_at, all_from, part_first, of_rank, give_same_of_both}
+use Rattle.nntp_facts.proofs.Base.{told_by, Kept, said_kept, head_sent, OfArticle, Sends, Describes, MayBeOf, said_listed, kept_by, IsPointOf}
+use Rattle.nntp_facts.proofs.{Keeping.{OverviewsTold.{of_range}, ListedOverviews.{own_agree}}, PointsFound.Statements.{article_told}}
+use Rattle.nntp_facts.{proofs.PointsFound.{KindsOfPoints.{one_given}, ArticlesBeside.{own, others, said, said_plain}}, specs.Inner.KeptSaying.{said_in}}
+use Rattle.nntp_facts.specs.Inner.Points.{IsBeside, IsFieldOf, IsFieldAmong, IsOtherField, OneTellsOther, Statement, said_by}
 
 -- ---- of one header what is given of all
 

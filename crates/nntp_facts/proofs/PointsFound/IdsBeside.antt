@@ -1,15 +1,10 @@
 -- Points that are about the ids at numbers, where what an answer says conflicts with what is kept.
-use Rattle.std.proofs.{Common.{arith, ℕ, Bool, true, cond, List, [], ◌∷◌, ◌≡◌, ◌++◌, ◌==◌, IsTrue, Option, None, Some, refl, sym}, lemmas.Bool.{eq-eqb}}
-use Rattle.std.{proofs.lemmas.Bool.{eqb-true}, specs.{Prelude.{IfSome, MatchOption}, List.{AllByRecursion}, Option.{option_map_or}}}
-use Rattle.std.specs.Cmp.Lexicographic.{same_text}
-use Rattle.nntp_wire.specs.{Listing.{OverviewValue}, declared.range.Range.{Range}}
-use Rattle.nntp_article.specs.{Article.Parts.{Id}, Session.{Spool.{Name}, Machine.{is_same}}, declared.session.profile.Profile.{Profile}}
-use Rattle.nntp_said.specs.Facts.{Fact, OverviewsAre}
-use Rattle.nntp_theory.specs.{Given.{first_given, id_in}, Together.{number_in}, Inner.Together.{GiveSame, AgreesWithItself}, Conflict.{Point, IdOf, PlaceOf}}
-use Rattle.nntp_theory.{specs.Conflict.{rank, ConflictAt}, proofs.{Members.{if_some, all_at, all_from, first_found, none_there}, PointsByRank.{of_rank}}}
-use Rattle.nntp_theory.proofs.Together.{FactsOfASpoolStand.{same_itself}, ListedOverviews.{apart_agree}, TwoListsOfFacts.{give_same_of_both, or_none}}
-use Rattle.nntp_facts.specs.Inner.{Kept.{Kept}, Saying.{OfGroup}, Points.{Statement, IsPointOf, IsBeside, other_id_at, other_place_of}}
+use Rattle.nntp_facts.proofs.Base.{arith, ℕ, Bool, true, cond, List, [], ◌∷◌, ◌≡◌, ◌++◌, ◌==◌, IsTrue, Option, None, Some, refl, sym, eq-eqb, eqb-true, IfSome}
+use Rattle.nntp_facts.proofs.Base.{MatchOption, AllByRecursion, option_map_or, same_text, OverviewValue, Range, Id, Name, is_same, Profile, Fact, OverviewsAre}
+use Rattle.nntp_facts.proofs.Base.{first_given, id_in, number_in, GiveSame, AgreesWithItself, Point, IdOf, PlaceOf, rank, ConflictAt, if_some, all_at, all_from}
+use Rattle.nntp_facts.proofs.Base.{first_found, none_there, of_rank, same_itself, apart_agree, give_same_of_both, or_none, Kept, OfGroup, IsPointOf}
 use Rattle.nntp_facts.proofs.{Keeping.OverviewsTold.{of_range}, PointsFound.{KindsOfPoints.{one_given}, Statements.{id_given, place_given}}}
+use Rattle.nntp_facts.specs.Inner.Points.{Statement, IsBeside, other_id_at, other_place_of}
 
 -- the test of what is kept gives the point where that is another
 other_id : (o : Option Id) (id : Id) (p : Point) → MatchOption (cond (option_map_or (λ y. is_same y id) o true) None (Some p)) (IfSome o (λ y. id ≡ y)) (λ q. (q ≡ p) × (IfSome o (λ y. id ≡ y) → ⊥))

@@ -1,20 +1,14 @@
 -- Points of each kind, where what an answer says conflicts with what is kept.
-use Rattle.std.proofs.Common.{arith, ℕ, Bool, true, false, not, IsTrue, List, [], ◌≡◌, ◌∷◌, ◌++◌, ◌<◌, ◌⊎◌, Option, None, Some, inl, inr, refl, sym, ap, subst}
-use Rattle.std.proofs.{Common.{◌∙◌, append-nil}, lemmas.Bool.{true≢false, cases_Bool, and_parts, or_left, or_right, not-true, false_from_ne_true}}
-use Rattle.std.{proofs.lemmas.List.Folds.{list_any-append}, specs.{Prelude.{IfSome, IsFalse, MatchOption, option_map}, List.{AllByRecursion, list_any}}}
-use Rattle.std.specs.{List.{list_all}, Option.{option_map_or}, Cmp.Lexicographic.{same_text}}
-use Rattle.nntp_wire.specs.{Listing.{ActiveValue}, declared.marks.Marks.TheVariants.{Lenient}}
-use Rattle.nntp_article.specs.{Session.{Spool.{Name}, Machine.{is_same}}, declared.session.profile.Profile.{Profile}}
-use Rattle.nntp_said.specs.{Asks.{Ask, Bounds, Estimates}, Facts.{Fact, ThereIs, Asks, GroupsAre, group_of}}
-use Rattle.nntp_theory.specs.{Given.{asks_of, shows_group, is_shown_group, is_known, is_denied, demand, IsGivenNumber}, Together.{is_possible, MeetsDemand}}
-use Rattle.nntp_theory.specs.{Together.{GiveOne, denies_group}, Conflict.{widest, the_group, Point, Step, Group, Number, Count, First, rank, ConflictAt}}
-use Rattle.nntp_theory.{specs.{Conflict.{AreTooMany}, Inner.Together.{GiveSame}}, proofs.{Members.{all_at, all_from, found_in}, Conflicts.{at_point}}}
-use Rattle.nntp_theory.proofs.{PointsByRank.{of_rank}, Together.{FactsJoin.{asks_append}, FactsOfASpoolStand.{same_itself}, TwoListsOfFacts.{apart_both}}}
-use Rattle.nntp_theory.proofs.Together.TwoListsOfFacts.{give_one_both}
-use Rattle.nntp_numbers.specs.Inner.Part.{Says}
-use Rattle.nntp_facts.specs.Inner.{Kept.{Kept}, Saying.{OfGroup, asked_id, IsAlone}, ListedGroups.{is_listed, MayList, NoneIsMissing}, Points.{Statement}}
-use Rattle.nntp_facts.specs.Inner.Points.{TellsAlone, IsPointOf, IsPointIn, IsBeside, IsAbout, is_impossible, shows_name, denies_name, bounds_of}
-use Rattle.nntp_facts.proofs.{Keeping.ListedGroups.{no_bounds, bounds_at}, PointsFound.Statements.{shown_told, denied_told, asks_listed, asks_told, or_no}}
+use Rattle.nntp_facts.proofs.Base.{arith, ℕ, Bool, true, false, not, IsTrue, List, [], ◌≡◌, ◌∷◌, ◌++◌, ◌<◌, ◌⊎◌, Option, None, Some, inl, inr, refl, sym, ap}
+use Rattle.nntp_facts.proofs.Base.{subst, ◌∙◌, append-nil, true≢false, cases_Bool, and_parts, or_left, or_right, not-true, false_from_ne_true, list_any-append}
+use Rattle.nntp_facts.proofs.Base.{IfSome, IsFalse, MatchOption, option_map, AllByRecursion, list_any, list_all, option_map_or, same_text, ActiveValue, Lenient}
+use Rattle.nntp_facts.proofs.Base.{Name, is_same, Profile, Ask, Bounds, Estimates, Fact, ThereIs, Asks, GroupsAre, group_of, asks_of, shows_group}
+use Rattle.nntp_facts.proofs.Base.{is_shown_group, is_known, is_denied, demand, IsGivenNumber, is_possible, MeetsDemand, GiveOne, denies_group, widest}
+use Rattle.nntp_facts.proofs.Base.{the_group, Point, Step, Group, Number, Count, First, rank, ConflictAt, AreTooMany, GiveSame, all_at, all_from, found_in}
+use Rattle.nntp_facts.proofs.Base.{at_point, of_rank, asks_append, same_itself, apart_both, give_one_both, Says, Kept, OfGroup, asked_id, is_listed, MayList}
+use Rattle.nntp_facts.proofs.{Base.{NoneIsMissing, IsPointOf}, Keeping.ListedGroups.{no_bounds, bounds_at}, PointsFound.Statements.{shown_told, denied_told}}
+use Rattle.nntp_facts.{proofs.PointsFound.Statements.{asks_listed, asks_told, or_no}, specs.Inner.{Saying.{IsAlone}, Points.{Statement, TellsAlone, IsPointIn}}}
+use Rattle.nntp_facts.specs.Inner.Points.{IsBeside, IsAbout, is_impossible, shows_name, denies_name, bounds_of}
 
 -- an ask can't be met
 abbrev pub cannot : Ask → Bool

@@ -1,12 +1,7 @@
 -- Points that are about the numbers of a group.
-use Rattle.std.proofs.{Common.{arith, ℕ, ◌≡◌, ◌<◌, ◌++◌, ◌∷◌, List, subst, sym, ◌∙◌}, lemmas.Bool.{true≢false, cases_Bool}}
-use Rattle.nntp_wire.specs.{Limit.{greatest}, declared.{limit.Limit.{Limit}, marks.Marks.TheVariants.{Lenient}}}
-use Rattle.nntp_article.specs.{Session.Spool.{Name}, declared.session.profile.Profile.{Profile}}
-use Rattle.nntp_said.specs.{Asks.{Ask, Estimates}, Facts.{Fact}}
-use Rattle.nntp_theory.specs.{Given.{asks_of, denies, demand, IsGivenNumber}, Together.{MeetsDemand}, Inner.Conflict.{AreApart}, Conflict.{widest, Point}}
-use Rattle.nntp_theory.{specs.Conflict.{Number, Count, rank, ConflictAt, AreTooMany}, proofs.Members.{any_back}}
-use Rattle.nntp_numbers.specs.Inner.Summary.{AreBounded}
-use Rattle.nntp_facts.specs.{Inner.{Points.{IsAbout, NoneBefore}, StatementView.{rank_of_numbers}}, declared.points.NumbersKind.{NumbersKind}}
+use Rattle.nntp_facts.proofs.Base.{arith, ℕ, ◌≡◌, ◌<◌, ◌++◌, ◌∷◌, List, subst, sym, ◌∙◌, true≢false, cases_Bool, greatest, Limit, Lenient, Name, Profile, Ask}
+use Rattle.nntp_facts.proofs.Base.{Estimates, Fact, asks_of, denies, demand, IsGivenNumber, MeetsDemand, AreApart, widest, Point, Number, Count, rank}
+use Rattle.nntp_facts.{proofs.Base.{ConflictAt, AreTooMany, any_back, AreBounded, NoneBefore, rank_of_numbers, NumbersKind}, specs.Inner.Points.{IsAbout}}
 
 -- their ranks are these
 pub above_one : (kind : NumbersKind) → 1 < rank_of_numbers kind

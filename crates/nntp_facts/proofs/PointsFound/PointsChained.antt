@@ -1,14 +1,9 @@
 -- Kinds of points that are looked for one after the other.
-use Rattle.std.{proofs.Common.{get_or, ◌≡◌, ℕ, ◌+◌, ◌<◌, ◌≤◌, ◌++◌, ◌∙◌, ap, arith, List, [], ◌∷◌, Option, inl, inr, sym, subst}, specs.List.{AllByRecursion}}
-use Rattle.std.specs.Prelude.{option_map, MatchOption}
-use Rattle.nntp_article.specs.{declared.session.profile.Profile.{Profile}, Inner.Misfit.{numbers_of}}
-use Rattle.nntp_wire.specs.declared.marks.Marks.TheVariants.{Lenient}
-use Rattle.nntp_said.specs.Facts.{Fact}
-use Rattle.nntp_theory.specs.{Inner.{Together.{IsWellFormed, Together}, Conflict.{FitsThere}}, Conflict.{Placed, told, told_with, Point, ConflictAt}}
-use Rattle.nntp_theory.{specs.Conflict.{IsFirstPoint}, proofs.{Members.{all_at, all_from, all_both}, Conflicts.{with_told, told_fitting, told_placed}}}
-use Rattle.nntp_theory.proofs.PointsOfConflict.{stand_or_conflict}
-use Rattle.nntp_facts.specs.Inner.{Points.{Answers, AreHeld, Statement, TellsAlone, IsBeside, IsPointOf, NoneBefore}, PointView.{point_of}}
-use Rattle.nntp_facts.specs.{Inner.StatementView.{rank_of}, declared.{point.Point.{Point as CodePoint}, points.Kind.{Kind}}}
+use Rattle.nntp_facts.proofs.Base.{get_or, ◌≡◌, ℕ, ◌+◌, ◌<◌, ◌≤◌, ◌++◌, ◌∙◌, ap, arith, List, [], ◌∷◌, Option, inl, inr, sym, subst, AllByRecursion, option_map}
+use Rattle.nntp_facts.proofs.Base.{MatchOption, Profile, numbers_of, Lenient, Fact, IsWellFormed, Together, FitsThere, Placed, told_with, Point, ConflictAt}
+use Rattle.nntp_facts.{proofs.Base.{all_at, all_from, all_both, AreHeld, IsPointOf, NoneBefore, point_of}, specs.Inner.Points.{Answers, Statement, TellsAlone}}
+use Rattle.nntp_facts.specs.{Inner.{Points.{IsBeside}, StatementView.{rank_of}}, declared.{point.Point.{Point as CodePoint}, points.Kind.{Kind}}}
+use Rattle.nntp_theory.{specs.Conflict.{told, IsFirstPoint}, proofs.{Conflicts.{with_told, told_fitting, told_placed}, PointsOfConflict.{stand_or_conflict}}}
 use Rattle.nntp_facts.specs.declared.points.Kind.TheVariants as kind
 use Rattle.nntp_facts.specs.declared.points.NumbersKind.TheVariants as numbers
 

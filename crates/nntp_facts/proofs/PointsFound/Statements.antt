@@ -1,21 +1,15 @@
 -- What an answer tells by itself, the group of which it speaks, and what its facts say, read off what is looked at.
-use Rattle.std.proofs.Common.{◌≡◌, ℕ, Bool, true, false, ◌||◌, ◌&&◌, not, cond, List, [], ◌∷◌, ◌++◌, Option, None, Some, refl, sym, ap, subst, ◌∙◌, append-nil}
-use Rattle.std.{proofs.{Common.{arith}, lemmas.{List.Folds.{list_any-append}, Bool.{or_left}}}, specs.Prelude.{IfSome, option_map, IsTrue, unwrap_or}}
-use Rattle.std.specs.{List.{list_any, AllByRecursion}, Option.{option_map_or}}
-use Rattle.nntp_wire.specs.{Listing.{ActiveValue}, declared.marks.Marks.{Marks, TheVariants.{Lenient}}, Decided.{matches_name}, Name.{IsGroupName}}
-use Rattle.nntp_wire.specs.Answer.{Asked, Response}
-use Rattle.nntp_article.specs.{Article.Parts.{Id}, Session.{Spool.{Name}, Machine.{is_same, Visible, fits}}, declared.session.profile.Profile.{Profile}}
-use Rattle.nntp_article.specs.Inner.Misfit.{numbers_of}
-use Rattle.nntp_said.specs.{Asks.{Estimates}, Facts.{Fact, GroupsAre, here, facts_of, group_of}, declared.position.Position.{Position}}
-use Rattle.nntp_theory.specs.{Given.{asks_of, shows_group, is_shown_group, first_given, id_in}, Together.{denies_group, number_in}, Inner.Together.{said_of}}
-use Rattle.nntp_theory.specs.{Inner.{Together.{IsWellFormed}, Conflict.{FitsThere}}, Conflict.{widest, the_group, Placed, said, told}}
-use Rattle.nntp_theory.proofs.{Together.{FactsJoin.{asks_append, answer_agrees}, FactsOfASpoolStand.{same_itself}}, Members.{in_front, in_back, all_at}}
-use Rattle.nntp_theory.proofs.Members.{all_both}
-use Rattle.nntp_facts.specs.Inner.{Saying.{Saying, asked_id, facts_in, facts_told, IsAlone, TellsHere, TellsThere, IsSelectedShown}, ListedGroups.{MayList}}
-use Rattle.nntp_facts.specs.Inner.{ListedGroups.{is_listed}, Points.{Statement, TellsAlone, shows_name, denies_name, id_told, place_told, said_by, bounds_of}}
+use Rattle.nntp_facts.proofs.Base.{◌≡◌, ℕ, Bool, true, false, ◌||◌, ◌&&◌, not, cond, List, [], ◌∷◌, ◌++◌, Option, None, Some, refl, sym, ap, subst, ◌∙◌}
+use Rattle.nntp_facts.proofs.Base.{append-nil, arith, list_any-append, or_left, IfSome, option_map, IsTrue, unwrap_or, list_any, AllByRecursion, option_map_or}
+use Rattle.nntp_facts.proofs.Base.{ActiveValue, Marks, Lenient, matches_name, IsGroupName, Asked, Response, Id, Name, is_same, Visible, fits, Profile}
+use Rattle.nntp_facts.proofs.Base.{numbers_of, Estimates, Fact, GroupsAre, here, facts_of, group_of, Position, asks_of, shows_group, is_shown_group}
+use Rattle.nntp_facts.proofs.Base.{first_given, id_in, denies_group, number_in, said_of, IsWellFormed, FitsThere, widest, the_group, Placed, said, asks_append}
+use Rattle.nntp_facts.proofs.Base.{same_itself, in_front, in_back, all_at, all_both, Saying, asked_id, facts_in, TellsHere, IsSelectedShown, MayList, is_listed}
 use Rattle.nntp_facts.proofs.Keeping.{PartsJoin.{no_group_is}, OverviewsTold.{plain_told, plain_alone, shown_by_told, denied_by_told, said_by_told}}
 use Rattle.nntp_facts.proofs.Keeping.{OverviewsTold.{asks_by_told, ids_by_told, places_by_told}, ToldAnswers.{there_told, group_said, none_said}}
-use Rattle.nntp_facts.proofs.Keeping.ToldAnswers.{selected_spoken}
+use Rattle.nntp_facts.{proofs.Keeping.ToldAnswers.{selected_spoken}, specs.Inner.{Saying.{facts_told, IsAlone, TellsThere}, Points.{Statement, TellsAlone}}}
+use Rattle.nntp_facts.specs.Inner.Points.{shows_name, denies_name, id_told, place_told, said_by, bounds_of}
+use Rattle.nntp_theory.{specs.Conflict.{told}, proofs.Together.FactsJoin.{answer_agrees}}
 
 -- ---- what it tells
 

@@ -1,16 +1,12 @@
 -- When an exchange may be noted, what is noted of it behind earlier sessions, and how it is judged.
-use Rattle.std.proofs.{Common.{ℕ, List, [], arith, ◌≡◌, true, ◌∷◌, ◌++◌, map, Some, sym, ap, subst, ◌∙◌}, lemmas.Bool.{true≢false}}
-use Rattle.nntp_article.specs.{declared.session.profile.Profile.{Profile}, Session.Machine.{start, fits}}
-use Rattle.nntp_pair.specs.{Pairing.{Paired, Unpaired, IsNext, streams, asked_at, asked_of, responses_of}, declared.class.Class.TheVariants.{OutOfPlace}}
-use Rattle.nntp_pair.specs.declared.class.Class.TheVariants.{Contradiction}
-use Rattle.nntp_theory.specs.{Permitted.{ArePermitted, exchanged, ArePermittedBehind}, Reading.{Judged, accepted_of, AreJudged, Accepted, Refused, IsJudged}}
-use Rattle.nntp_theory.specs.{Reading.{class_behind}, Answered.{SomePermitsEach}, declared.noted.Noted.TheVariants.{Consistent, OutOfPlace as NotedOutOfPlace}}
-use Rattle.nntp_theory.{specs.declared.noted.Noted.TheVariants.{Contradiction as NotedContradiction}, proofs.Reading.JudgedAnswers.{accepted_behind}}
-use Rattle.nntp_theory.proofs.{Reading.{JudgedAnswers.{accepted_few, visible_behind, accepted_open}, JudgedSession.{index_in_session}}, Members.{all_back}}
-use Rattle.nntp_theory.proofs.Session.{LaterPrompts.{next_behind, visible_longer}, OneMoreAnswer.{as_few}, PairsGoOn.{Runs, of_these, with_pair, as_many}}
-use Rattle.nntp_theory.proofs.Streams.OneClass.{run_fits}
-use Rattle.nntp_facts.specs.Inner.Noted.{FactsKept, HasNoted, IsDue, HasNotedBehind, IsNotedBehind}
-use Rattle.nntp_wire.specs.Session.{ClientStream}
+use Rattle.nntp_facts.proofs.Base.{ℕ, List, [], arith, ◌≡◌, true, ◌∷◌, ◌++◌, map, Some, sym, ap, subst, ◌∙◌, true≢false, Profile, start, fits, Paired, asked_at}
+use Rattle.nntp_facts.proofs.Base.{asked_of, responses_of, exchanged, ArePermittedBehind, SomePermitsEach, Consistent, index_in_session, all_back, of_these}
+use Rattle.nntp_facts.{proofs.Base.{with_pair, as_many, FactsKept, IsNotedBehind, ClientStream}, specs.Inner.Noted.{HasNoted, IsDue, HasNotedBehind}}
+use Rattle.nntp_pair.specs.{Pairing.{Unpaired, IsNext, streams}, declared.class.Class.TheVariants.{OutOfPlace, Contradiction}}
+use Rattle.nntp_theory.specs.{Permitted.{ArePermitted}, Reading.{Judged, accepted_of, AreJudged, Accepted, Refused, IsJudged, class_behind}}
+use Rattle.nntp_theory.specs.declared.noted.Noted.TheVariants.{OutOfPlace as NotedOutOfPlace, Contradiction as NotedContradiction}
+use Rattle.nntp_theory.proofs.{Reading.JudgedAnswers.{accepted_behind, accepted_few, visible_behind, accepted_open}, Session.LaterPrompts.{next_behind}}
+use Rattle.nntp_theory.proofs.{Session.{LaterPrompts.{visible_longer}, OneMoreAnswer.{as_few}, PairsGoOn.{Runs}}, Streams.OneClass.{run_fits}}
 
 -- the next pair may be noted
 pub due_in_session : (profile : Profile) (client : ClientStream) (server : List ℕ) (answers : List Judged) (left after : Unpaired) (pair : Paired) (facts : FactsKept)

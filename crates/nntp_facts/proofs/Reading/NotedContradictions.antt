@@ -1,15 +1,11 @@
 -- What is noted to be a contradiction conflicts with the accepted answers.
-use Rattle.std.{proofs.Common.{◌≡◌, ◌≤◌, List, [], ◌∷◌, ◌++◌, length, Some, refl, sym, ap, subst, ◌∙◌, arith}, specs.List.{AllByRecursion}}
-use Rattle.nntp_wire.specs.Answer.{Asked, Response}
-use Rattle.nntp_article.specs.{declared.session.profile.Profile.{Profile}, Session.Machine.{Visible, visible_after, start}}
-use Rattle.nntp_pair.specs.Pairing.{Paired, asked_at, asked_of, responses_of}
-use Rattle.nntp_said.specs.{declared.position.Position.{Position, TheVariants.{Nowhere}}, Asks.{position_after}}
-use Rattle.nntp_theory.specs.{declared.noted.Noted.TheVariants.{Contradiction}, Classes.{visible_from, position_from, asked_next}, Inner.Permits.{SomePermits}}
-use Rattle.nntp_theory.specs.{Inner.Conflict.{FitsThere}, Permitted.{exchanged}, Conflict.{placed_from, placed_of, placed_behind, told_with, SomeHas, below}}
-use Rattle.nntp_theory.proofs.{Conflicts.{session_fits, contradicts}, Given.{GivenPermits.{said}, SessionsByFacts.{permits_alone}}}
-use Rattle.nntp_theory.proofs.Session.{LaterPrompts.{next_behind, visible_longer, position_longer, permitted_longer}, OneMoreAnswer.{as_few, fitting_grows}}
-use Rattle.nntp_theory.proofs.Session.PairsGoOn.{as_many, ends}
-use Rattle.nntp_facts.specs.Inner.Noted.{FactsKept, HasNoted, IsNoted, IsDue}
+use Rattle.nntp_facts.proofs.Base.{◌≡◌, ◌≤◌, List, [], ◌∷◌, ◌++◌, length, Some, refl, sym, ap, subst, ◌∙◌, arith, AllByRecursion, Asked, Response, Profile}
+use Rattle.nntp_facts.proofs.Base.{Visible, visible_after, start, Paired, asked_at, asked_of, responses_of, Position, Nowhere, position_after, Contradiction}
+use Rattle.nntp_facts.proofs.Base.{visible_from, position_from, FitsThere, exchanged, placed_behind, told_with, SomeHas, below, permits_alone, as_many, ends}
+use Rattle.nntp_facts.{proofs.Base.{FactsKept}, specs.Inner.Noted.{HasNoted, IsNoted, IsDue}}
+use Rattle.nntp_theory.{specs.{Classes.{asked_next}, Inner.Permits.{SomePermits}, Conflict.{placed_from, placed_of}}, proofs.Conflicts.{session_fits}}
+use Rattle.nntp_theory.proofs.{Conflicts.{contradicts}, Given.GivenPermits.{said}, Session.LaterPrompts.{next_behind, visible_longer, position_longer}}
+use Rattle.nntp_theory.proofs.Session.{LaterPrompts.{permitted_longer}, OneMoreAnswer.{as_few, fitting_grows}}
 
 -- ---- one answer more, and more prompts
 

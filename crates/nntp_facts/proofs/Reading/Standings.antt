@@ -1,10 +1,7 @@
 -- Where a session stands is what its answers leave visible, and the position.
-use Rattle.std.proofs.Common.{◌≡◌, ◌∙◌, ap, refl, List, [], ◌∷◌, ◌++◌, arith}
-use Rattle.nntp_article.specs.Session.Machine.{Visible, visible_after}
-use Rattle.nntp_pair.specs.Pairing.{Paired, asked_at, asked_of, responses_of}
-use Rattle.nntp_said.specs.{Asks.{position_after}, declared.position.Position.{Position}}
-use Rattle.nntp_theory.specs.{Classes.{visible_from, position_from}, Conflict.{placed_behind}}
-use Rattle.nntp_facts.specs.{declared.{standing.Standing.{Standing}, placed.Placed.{Placed}}, Standing.{standing_after, standing_from, standing, stands_of}}
+use Rattle.nntp_facts.proofs.Base.{◌≡◌, ◌∙◌, ap, refl, List, [], ◌∷◌, ◌++◌, arith, Visible, visible_after, Paired, asked_at, asked_of, responses_of}
+use Rattle.nntp_facts.proofs.Base.{position_after, Position, visible_from, position_from, placed_behind, stands_of}
+use Rattle.nntp_facts.specs.{declared.{standing.Standing.{Standing}, placed.Placed.{Placed}}, Standing.{standing_after, standing_from, standing}}
 
 pub name_after : (pair : Paired) (s : Standing) (v : Visible) → s.selected ≡ v.selected
     → (standing_after s pair).selected ≡ (visible_after v (asked_at pair.place) pair.response).selected

@@ -1,6 +1,5 @@
 //! What comes of adding what is said of an id.
-ghost use Rattle.std.specs.Prelude.{◌≡◌, None, Some, IsTrue, option_map};
-ghost use Rattle.std.specs.Rc.{rc_str_bytes};
+ghost use Rattle.std.specs.{Prelude.{◌≡◌, None, Some, IsTrue, option_map}, Rc.{rc_str_bytes}};
 ghost use Rattle.nntp_facts.specs.Inner.ArticleView.{is_added, text_of};
 
 use std::alloc::Allocator;

@@ -1,11 +1,9 @@
 //! What is known of one article.
 ghost use Rattle.std.specs.Prelude.{◌≡◌, ◌↔◌, ◌≢◌, false, true, None, Some, IsTrue, IfOk, IfSome, MatchOption, option_map};
-ghost use Rattle.nntp_article.specs.Article.Fields.{fields_of_head, words_in};
-ghost use Rattle.nntp_article.specs.Inner.Fields.{AreWords};
+ghost use Rattle.nntp_article.specs.{Article.Fields.{fields_of_head, words_in}, Inner.Fields.{AreWords}};
 ghost use Rattle.nntp_theory.specs.Inner.Together.{AreSame};
-ghost use Rattle.nntp_facts.specs.Inner.Articles.{MayBeSent, MayBeTold, with_sent, with_told};
-ghost use Rattle.nntp_facts.specs.Inner.Kept.{IsAddedIf};
-ghost use Rattle.nntp_facts.specs.Inner.ArticleView.{fields_held, fields_kept, known_article, lines_held, of_parts};
+ghost use Rattle.nntp_facts.specs.Inner.{Articles.{MayBeSent, MayBeTold, with_sent, with_told}, Kept.{IsAddedIf}, ArticleView.{fields_held, fields_kept}};
+ghost use Rattle.nntp_facts.specs.Inner.ArticleView.{known_article, lines_held, of_parts};
 
 use crate::articles::sent::Sent;
 use nntp_article::{Field, Fields, ToldFields};
@@ -267,9 +265,7 @@ impl<A: Allocator + Copy> KnownArticle<A> {
             (None, None, None) => Ok(KnownArticle::Named),
         }
     }
-}
 
-impl<A: Allocator + Copy> KnownArticle<A> {
     /// Holds what an overview tells, if it tells of headers and may tell it, and tells whether it may. `is_sent` where no
     /// range was asked for.
     pub(crate) fn note_told(

@@ -1,7 +1,6 @@
 //! What a success sends of an article.
 ghost use Rattle.std.specs.Prelude.{◌≡◌, IsTrue, option_map};
-ghost use Rattle.nntp_article.specs.Article.Parts.{Id};
-ghost use Rattle.nntp_article.specs.Session.Machine.{head_fits};
+ghost use Rattle.nntp_article.specs.{Article.Parts.{Id}, Session.Machine.{head_fits}};
 ghost use Rattle.nntp_facts.specs.Inner.Articles.{head_sent, body_sent};
 
 use nntp_article::Parts;

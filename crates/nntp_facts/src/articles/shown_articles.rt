@@ -1,9 +1,6 @@
 //! The articles that answers show, one after the other.
-ghost use Rattle.std.specs.Prelude.{◌≡◌, None, MatchOption, option_map};
-ghost use Rattle.std.specs.Iterator.{YieldsFirst, item_count};
-ghost use Rattle.std.specs.Rc.{rc_str_bytes};
-ghost use Rattle.nntp_facts.specs.Inner.Readers.{articles_shown_in, shown_article};
-ghost use Rattle.nntp_facts.specs.Inner.ArticleView.{entries_value, known_article};
+ghost use Rattle.std.specs.{Prelude.{◌≡◌, None, MatchOption, option_map}, Iterator.{YieldsFirst, item_count}, Rc.{rc_str_bytes}};
+ghost use Rattle.nntp_facts.specs.Inner.{Readers.{articles_shown_in, shown_article}, ArticleView.{entries_value, known_article}};
 
 use crate::articles::known::KnownArticle;
 use nntp_article::ToldFields;
@@ -22,13 +19,9 @@ pub struct ShownArticle<'a, A: Allocator = Global> {
 
 impl<'a, A: Allocator> Model for ShownArticle<'a, A> {
     ghost use Rattle.std.specs.Rc.{rc_str_bytes};
-    ghost use Rattle.nntp_facts.specs.Inner.Readers.{ShownArticle as ArticleValue, shown_article};
-    ghost use Rattle.nntp_facts.specs.Inner.ReadersView.{coded_shown_article};
-    ghost use Rattle.nntp_facts.specs.Inner.ArticleView.{known_article};
+    ghost use Rattle.nntp_facts.specs.Inner.{Readers.{ShownArticle as ArticleValue, shown_article}, ArticleView.{known_article}};
 
     ghost Value = { ArticleValue };
-
-    ghost coded = { coded_shown_article };
 
     ghost view = { λ a. shown_article (rc_str_bytes a.id.now) (known_article a.article.now) };
 }
@@ -87,14 +80,9 @@ pub struct ShownArticles<'a, A: Allocator = Global> {
 
 impl<'a, A: Allocator> Model for ShownArticles<'a, A> {
     ghost use Rattle.std.specs.Prelude.{List};
-    ghost use Rattle.std.specs.Coded.{coded_list};
-    ghost use Rattle.nntp_facts.specs.Inner.Readers.{ShownArticle as ArticleValue, articles_shown_in};
-    ghost use Rattle.nntp_facts.specs.Inner.ReadersView.{coded_shown_article};
-    ghost use Rattle.nntp_facts.specs.Inner.ArticleView.{entries_value};
+    ghost use Rattle.nntp_facts.specs.Inner.{Readers.{ShownArticle as ArticleValue, articles_shown_in}, ArticleView.{entries_value}};
 
     ghost Value = { List ArticleValue };
-
-    ghost coded = { coded_list coded_shown_article };
 
     ghost view = { λ s. articles_shown_in (entries_value s.rest) };
 }

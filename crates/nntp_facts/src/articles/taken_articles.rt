@@ -1,8 +1,6 @@
 //! The articles that answers show, given away one after the other.
-ghost use Rattle.std.specs.Prelude.{◌≡◌};
-ghost use Rattle.std.specs.Iterator.{YieldsFirst, item_count};
-ghost use Rattle.nntp_facts.specs.Inner.Readers.{articles_shown_in};
-ghost use Rattle.nntp_facts.specs.Inner.ArticleView.{entries_value};
+ghost use Rattle.std.specs.{Prelude.{◌≡◌}, Iterator.{YieldsFirst, item_count}};
+ghost use Rattle.nntp_facts.specs.Inner.{Readers.{articles_shown_in}, ArticleView.{entries_value}};
 
 use crate::articles::known::KnownArticle;
 use crate::articles::shown_articles::ShownArticle;
@@ -26,13 +24,9 @@ impl<A: Allocator> Drop for TakenArticle<A> {
 
 impl<A: Allocator> Model for TakenArticle<A> {
     ghost use Rattle.std.specs.Rc.{rc_str_bytes};
-    ghost use Rattle.nntp_facts.specs.Inner.Readers.{ShownArticle as ArticleValue, shown_article};
-    ghost use Rattle.nntp_facts.specs.Inner.ReadersView.{coded_shown_article};
-    ghost use Rattle.nntp_facts.specs.Inner.ArticleView.{known_article};
+    ghost use Rattle.nntp_facts.specs.Inner.{Readers.{ShownArticle as ArticleValue, shown_article}, ArticleView.{known_article}};
 
     ghost Value = { ArticleValue };
-
-    ghost coded = { coded_shown_article };
 
     ghost view = { λ t. shown_article (rc_str_bytes t.id) (known_article t.article) };
 }
@@ -55,14 +49,9 @@ pub struct TakenArticles<A: Allocator = Global> {
 
 impl<A: Allocator> Model for TakenArticles<A> {
     ghost use Rattle.std.specs.Prelude.{List};
-    ghost use Rattle.std.specs.Coded.{coded_list};
-    ghost use Rattle.nntp_facts.specs.Inner.Readers.{ShownArticle as ArticleValue, articles_shown_in};
-    ghost use Rattle.nntp_facts.specs.Inner.ReadersView.{coded_shown_article};
-    ghost use Rattle.nntp_facts.specs.Inner.ArticleView.{entries_value};
+    ghost use Rattle.nntp_facts.specs.Inner.{Readers.{ShownArticle as ArticleValue, articles_shown_in}, ArticleView.{entries_value}};
 
     ghost Value = { List ArticleValue };
-
-    ghost coded = { coded_list coded_shown_article };
 
     ghost view = { λ s. articles_shown_in (entries_value s.rest) };
 }

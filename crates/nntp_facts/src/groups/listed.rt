@@ -1,20 +1,11 @@
 //! The groups that LIST ACTIVE lists, beside those that are kept (RFC 3977, section 7.6.3).
 ghost use Rattle.std.specs.Prelude.{◌≡◌, ℕ, ◌++◌, ◌∷◌, ◌&&◌, not, [], false, true, List, map, Option, IsTrue, IfOk, OnOk, MatchOption};
-ghost use Rattle.std.specs.Option.{option_map_or};
-ghost use Rattle.nntp_wire.specs.Decided.{matches_name};
-ghost use Rattle.std.specs.List.{list_any};
-ghost use Rattle.std.specs.BTreeMap.{keys};
-ghost use Rattle.nntp_wire.specs.Listing.{active_groups};
-ghost use Rattle.nntp_wire.specs.Inner.View.{active_value};
-ghost use Rattle.nntp_article.specs.Session.Spool.{Name};
-ghost use Rattle.nntp_article.specs.Session.Machine.{is_same};
+ghost use Rattle.std.specs.{Option.{option_map_or}, List.{list_any}, BTreeMap.{keys}};
+ghost use Rattle.nntp_wire.specs.{Decided.{matches_name}, Listing.{active_groups}, Inner.View.{active_value}, Name.{IsGroupName}};
+ghost use Rattle.nntp_article.specs.Session.{Spool.{Name}, Machine.{is_same}};
 ghost use Rattle.nntp_said.specs.Facts.{Fact, GroupsAre};
-ghost use Rattle.nntp_theory.specs.Inner.Together.{Together};
-ghost use Rattle.nntp_theory.specs.Together.{denies_group};
-ghost use Rattle.nntp_wire.specs.Name.{IsGroupName};
-ghost use Rattle.nntp_theory.specs.Given.{is_shown_group};
-ghost use Rattle.nntp_facts.specs.Inner.Kept.{AreKeptGroups, asked_count};
-ghost use Rattle.nntp_facts.specs.Inner.ListedGroups.{is_listed, NoneIsMissing};
+ghost use Rattle.nntp_theory.specs.{Inner.Together.{Together}, Together.{denies_group}, Given.{is_shown_group}};
+ghost use Rattle.nntp_facts.specs.Inner.{Kept.{AreKeptGroups, asked_count}, ListedGroups.{is_listed, NoneIsMissing}};
 
 use crate::group::Group;
 use crate::groups::Groups;

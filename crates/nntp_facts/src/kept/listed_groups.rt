@@ -1,12 +1,9 @@
 //! What an answer to LIST ACTIVE says beside all that was said before (RFC 3977, section 7.6.3).
-ghost use Rattle.std.specs.Prelude.{◌≡◌, ◌↔◌, ◌++◌, ◌∷◌, [], List, length, map, MatchOption, IsTrue, IfOk, OnOk};
-ghost use Rattle.std.specs.List.{AllByRecursion};
+ghost use Rattle.std.specs.{Prelude.{◌≡◌, ◌↔◌, ◌++◌, ◌∷◌, [], List, length, map, MatchOption, IsTrue, IfOk, OnOk}, List.{AllByRecursion}};
 ghost use Rattle.nntp_wire.specs.Inner.View.{active_value};
 ghost use Rattle.nntp_said.specs.Facts.{Fact, GroupsAre};
-ghost use Rattle.nntp_theory.specs.Inner.Together.{IsWellFormed, Together, Join};
-ghost use Rattle.nntp_theory.specs.Given.{is_shown_group};
-ghost use Rattle.nntp_facts.specs.Inner.Kept.{IsKept, AreAdded, asked_count};
-ghost use Rattle.nntp_facts.specs.Inner.ListedGroups.{MayList, LineJoins, shown_lines};
+ghost use Rattle.nntp_theory.specs.{Inner.Together.{IsWellFormed, Together, Join}, Given.{is_shown_group}};
+ghost use Rattle.nntp_facts.specs.Inner.{Kept.{IsKept, AreAdded, asked_count}, ListedGroups.{MayList, LineJoins, shown_lines}};
 
 use crate::kept::Kept;
 use crate::saying::GroupPart;
@@ -72,9 +69,7 @@ impl<A: Allocator + Copy> Kept<A> {
         self.groups.bound_all(groups)?;
         self.names.list(self.alloc, wildmat, groups.len())
     }
-}
 
-impl<A: Allocator + Copy> Kept<A> {
     /// Returns how many of the listed groups are shown already, if each may be there, with its numbers
     /// between the marks.
     fn count_joining(&self, groups: &[ActiveLine<'_>]) -> Option<usize>

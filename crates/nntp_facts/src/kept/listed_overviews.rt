@@ -1,20 +1,12 @@
 //! What an answer to OVER or XOVER with a range says beside all that was said before (RFC 3977, section 8.3).
-ghost use Rattle.std.specs.Prelude.{◌≡◌, ◌↔◌, ◌++◌, [], false, true, Some, List, map, IsTrue, IfOk, OnOk};
-ghost use Rattle.std.specs.List.{AllByRecursion};
-ghost use Rattle.std.specs.FinMap.{get};
-ghost use Rattle.nntp_wire.specs.declared.range.Range.{Range};
-ghost use Rattle.nntp_wire.specs.Inner.View.{overview_value};
-ghost use Rattle.nntp_article.specs.Article.Parts.{Id};
-ghost use Rattle.nntp_article.specs.Inner.Fields.{TellsWords};
-ghost use Rattle.nntp_article.specs.Session.Spool.{Name};
+ghost use Rattle.std.specs.{Prelude.{◌≡◌, ◌↔◌, ◌++◌, [], false, true, Some, List, map, IsTrue, IfOk, OnOk}, List.{AllByRecursion}, FinMap.{get}};
+ghost use Rattle.nntp_wire.specs.{declared.range.Range.{Range}, Inner.View.{overview_value}};
+ghost use Rattle.nntp_article.specs.{Article.Parts.{Id}, Inner.Fields.{TellsWords}, Session.Spool.{Name}};
 ghost use Rattle.nntp_said.specs.Facts.{Fact};
 ghost use Rattle.nntp_theory.specs.Inner.Together.{AreSame, IsWellFormed, Join, Together, join_said, said_of};
-ghost use Rattle.nntp_facts.specs.Inner.Articles.{telling};
-ghost use Rattle.nntp_facts.specs.Inner.Kept.{AreAdded, AreKept, AreKeptArticles, AreKeptWith, IsKept, Told, said_kept};
+ghost use Rattle.nntp_facts.specs.Inner.{Articles.{telling}, Kept.{AreAdded, AreKept, AreKeptArticles, AreKeptWith, IsKept, Told, said_kept}};
 ghost use Rattle.nntp_facts.specs.Inner.KeptSaying.{IsSaidKept, MayBeGiven, MayGive, MayListOf, may_give, said_alone, said_listed, with_overviews};
-ghost use Rattle.nntp_facts.specs.Inner.ListedOverviews.{HaveOwn, OverviewJoins};
-ghost use Rattle.nntp_facts.specs.Inner.Saying.{overviews_facts};
-ghost use Rattle.nntp_facts.specs.Inner.SayingView.{of_group};
+ghost use Rattle.nntp_facts.specs.Inner.{ListedOverviews.{HaveOwn, OverviewJoins}, Saying.{overviews_facts}, SayingView.{of_group}};
 
 use crate::kept::Kept;
 use crate::saying::GroupPart;

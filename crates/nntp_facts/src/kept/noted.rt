@@ -1,15 +1,10 @@
 //! What an answer says, added to all that was said before.
-ghost use Rattle.std.specs.Prelude.{◌≡◌, IsTrue, List, IfOk};
-ghost use Rattle.std.specs.List.{AllByRecursion};
-ghost use Rattle.nntp_wire.specs.Inner.View.{asked};
-ghost use Rattle.nntp_wire.specs.Inner.AnswerView.{response};
-ghost use Rattle.nntp_article.specs.declared.session.profile.Profile.{Profile};
-ghost use Rattle.nntp_article.specs.Session.Machine.{Visible, fits};
-ghost use Rattle.nntp_article.specs.Inner.Listed.{lists, lists_of};
+ghost use Rattle.std.specs.{Prelude.{◌≡◌, IsTrue, List, IfOk}, List.{AllByRecursion}};
+ghost use Rattle.nntp_wire.specs.Inner.{View.{asked}, AnswerView.{response}};
+ghost use Rattle.nntp_article.specs.{declared.session.profile.Profile.{Profile}, Session.Machine.{Visible, fits}, Inner.Listed.{lists, lists_of}};
 ghost use Rattle.nntp_said.specs.Facts.{Fact, here, facts_of};
 ghost use Rattle.nntp_theory.specs.Inner.Together.{IsWellFormed, Together};
-ghost use Rattle.nntp_facts.specs.Inner.Saying.{IsSelectedShown};
-ghost use Rattle.nntp_facts.specs.Inner.Kept.{IsKept, AreAdded};
+ghost use Rattle.nntp_facts.specs.Inner.{Saying.{IsSelectedShown}, Kept.{IsKept, AreAdded}};
 
 use crate::kept::Kept;
 use crate::saying::{Saying, numbers_shown};

@@ -3,9 +3,7 @@ ghost use Rattle.std.specs.Prelude.{◌≡◌, ◌++◌, List, IfOk, option_map}
 ghost use Rattle.nntp_wire.specs.Limit.{greatest};
 ghost use Rattle.nntp_article.specs.declared.session.profile.Profile.{Profile};
 ghost use Rattle.nntp_said.specs.Facts.{Fact};
-ghost use Rattle.nntp_facts.specs.Inner.Points.{IsBeside, IsPointOf, NoneBefore};
-ghost use Rattle.nntp_facts.specs.Inner.PointView.{point_of};
-ghost use Rattle.nntp_facts.specs.Inner.StatementView.{statement_of, rank_of};
+ghost use Rattle.nntp_facts.specs.Inner.{Points.{IsBeside, IsPointOf, NoneBefore}, PointView.{point_of}, StatementView.{statement_of, rank_of}};
 
 mod articles;
 mod fields;

@@ -1,17 +1,10 @@
 //! What answers say by themselves.
-ghost use Rattle.std.specs.Prelude.{◌≡◌, ℕ, List, [], ◌∷◌, ◌++◌, Option, IfOk, map, option_map};
-ghost use Rattle.std.specs.List.{AllByRecursion};
+ghost use Rattle.std.specs.{Prelude.{◌≡◌, ℕ, List, [], ◌∷◌, ◌++◌, Option, IfOk, map, option_map}, List.{AllByRecursion}};
 ghost use Rattle.nntp_wire.specs.Limit.{greatest};
-ghost use Rattle.nntp_article.specs.declared.session.profile.Profile.{Profile};
-ghost use Rattle.nntp_article.specs.Session.Limit.{profile_of};
+ghost use Rattle.nntp_article.specs.{declared.session.profile.Profile.{Profile}, Session.Limit.{profile_of}};
 ghost use Rattle.nntp_said.specs.Facts.{Fact, group_of};
-ghost use Rattle.nntp_theory.specs.Inner.Together.{Together};
-ghost use Rattle.nntp_theory.specs.Conflict.{Placed as PlacedValue, a_group, the_group, told};
-ghost use Rattle.nntp_theory.specs.Inner.Conflict.{FitsThere};
-ghost use Rattle.nntp_facts.specs.Inner.Kept.{IsKept, AreAdded};
-ghost use Rattle.nntp_facts.specs.Inner.Saying.{TellsThere};
-ghost use Rattle.nntp_facts.specs.Inner.SayingView.{saying_of};
-ghost use Rattle.nntp_facts.specs.Inner.Told.{AreTold, AreToldWith, PlacesTold};
+ghost use Rattle.nntp_theory.specs.{Inner.{Together.{Together}, Conflict.{FitsThere}}, Conflict.{Placed as PlacedValue, a_group, the_group, told}};
+ghost use Rattle.nntp_facts.specs.Inner.{Kept.{IsKept, AreAdded}, Saying.{TellsThere}, SayingView.{saying_of}, Told.{AreTold, AreToldWith, PlacesTold}};
 ghost use Rattle.nntp_facts.specs.Standing.{stands_of};
 
 use crate::kept::Kept;

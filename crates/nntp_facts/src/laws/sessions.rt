@@ -1,17 +1,13 @@
 //! Laws of several sessions by what is noted of them, and those of nntp_theory.
 ghost use Rattle.std.specs.Prelude.{◌≡◌, ◌↔◌, ◌<◌, ◌^◌, ◌+◌, List, [], ◌∷◌, ◌++◌, length, Some};
 ghost use Rattle.nntp_article.specs.declared.session.profile.Profile.{Profile};
-ghost use Rattle.nntp_theory.specs.Inner.Together.{Together, Join};
-ghost use Rattle.nntp_pair.specs.declared.class.Class.TheVariants.{OutOfPlace, Contradiction as Contradicts};
-ghost use Rattle.nntp_facts.specs.Inner.Noted.{FactsKept, HasNotedBehind, IsNotedBehind, begun, advanced, said_then, MayBeNoted};
-ghost use Rattle.nntp_theory.specs.Inner.Exchanged.{said_behind};
-ghost use Rattle.nntp_theory.specs.Permitted.{ArePermitted, ArePermittedBehind};
-ghost use Rattle.nntp_facts.specs.Inner.Kept.{Kept, IsKept};
+ghost use Rattle.nntp_theory.specs.{Inner.{Together.{Together, Join}, Exchanged.{said_behind}, Permits.{SomePermits}}, Permitted.{ArePermitted}};
+ghost use Rattle.nntp_theory.specs.{Permitted.{ArePermittedBehind}, declared.noted.Noted.TheVariants.{Consistent, OutOfPlace as NotedOutOfPlace}};
+ghost use Rattle.nntp_theory.specs.{declared.noted.Noted.TheVariants.{Contradiction}, Reading.{Accepted, Refused, IsJudged, class_behind}};
+ghost use Rattle.nntp_pair.specs.{declared.class.Class.TheVariants.{OutOfPlace, Contradiction as Contradicts}, Pairing.{Paired, Unpaired, IsNext, asked_of}};
+ghost use Rattle.nntp_pair.specs.Pairing.{responses_of};
+ghost use Rattle.nntp_facts.specs.Inner.{Noted.{FactsKept, HasNotedBehind, IsNotedBehind, begun, advanced, said_then, MayBeNoted}, Kept.{Kept, IsKept}};
 ghost use Rattle.nntp_facts.specs.Inner.Saying.{IsSelectedShown};
-ghost use Rattle.nntp_theory.specs.declared.noted.Noted.TheVariants.{Consistent, OutOfPlace as NotedOutOfPlace, Contradiction};
-ghost use Rattle.nntp_pair.specs.Pairing.{Paired, Unpaired, IsNext, asked_of, responses_of};
-ghost use Rattle.nntp_theory.specs.Reading.{Accepted, Refused, IsJudged, class_behind};
-ghost use Rattle.nntp_theory.specs.Inner.Permits.{SomePermits};
 
 pub use nntp_theory::laws::sessions::{
     next_answer_joins_all_sessions, sessions_are_permitted_by_facts,

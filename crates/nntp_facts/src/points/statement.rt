@@ -1,12 +1,8 @@
 //! What an answer says by itself.
 ghost use Rattle.std.specs.Prelude.{◌≡◌};
-ghost use Rattle.nntp_article.specs.declared.session.profile.Profile.{Profile};
-ghost use Rattle.nntp_article.specs.Inner.Misfit.{numbers_of};
-ghost use Rattle.nntp_theory.specs.Inner.Conflict.{FitsThere};
-ghost use Rattle.nntp_theory.specs.Conflict.{told};
-ghost use Rattle.nntp_facts.specs.Inner.Points.{TellsAlone};
-ghost use Rattle.nntp_facts.specs.Inner.StatementView.{statement_of};
-ghost use Rattle.nntp_facts.specs.Standing.{stands_of};
+ghost use Rattle.nntp_article.specs.{declared.session.profile.Profile.{Profile}, Inner.Misfit.{numbers_of}};
+ghost use Rattle.nntp_theory.specs.{Inner.Conflict.{FitsThere}, Conflict.{told}};
+ghost use Rattle.nntp_facts.specs.{Inner.{Points.{TellsAlone}, StatementView.{statement_of}}, Standing.{stands_of}};
 
 use crate::placed::Placed;
 use crate::saying::Saying;

@@ -1,5 +1,4 @@
-use Rattle.nntp_facts.proofs.Keeping.CoresFound.{kept_where_told}
-use Rattle.std.proofs.Common.{arith}
+use Rattle.nntp_facts.proofs.{Base.{arith}, Keeping.CoresFound.{kept_where_told}}
 use Rattle.nntp_facts.proofs.conflict.keep.Goals as goal
 
 pub returns : goal.returns

@@ -1,6 +1,4 @@
-use Rattle.std.proofs.Common.{◌++◌, ◌+◌, ◌-◌, ◌≡◌, arith}
-use Rattle.nntp_theory.specs.Conflict.{below}
-use Rattle.nntp_facts.proofs.Keeping.CoresFound.{below_told, place_found, last_found}
+use Rattle.nntp_facts.proofs.{Base.{◌++◌, ◌+◌, ◌-◌, ◌≡◌, arith, below}, Keeping.CoresFound.{below_told, place_found, last_found}}
 use Rattle.nntp_facts.proofs.conflict.search_refused.Goals as goal
 
 pub returns-then-not-branch-clause-found : goal.returns-then-not-branch-clause-found

@@ -1,7 +1,4 @@
-use Rattle.std.{proofs.Common.{List, ℕ, ◌++◌, map}, specs.List.{AllByRecursion}}
-use Rattle.nntp_article.specs.Session.Limit.{profile_of}
-use Rattle.nntp_theory.specs.{Conflict.{Placed, below}, Inner.Conflict.{FitsThere}}
-use Rattle.nntp_facts.specs.{Inner.Told.{AreToldWith}, Standing.{stands_of}}
+use Rattle.nntp_facts.{proofs.Base.{List, ℕ, ◌++◌, map, AllByRecursion, profile_of, Placed, below, FitsThere, stands_of}, specs.Inner.Told.{AreToldWith}}
 use Rattle.nntp_facts.proofs.conflict.search_refused.Given as goal
 
 abbrev pub invariant-loop-place : goal.invariant-loop-place

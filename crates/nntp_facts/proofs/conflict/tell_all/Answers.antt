@@ -1,6 +1,5 @@
-use Rattle.std.proofs.Common.{◌+◌, [], true, false, map, take}
-use Rattle.nntp_article.specs.Session.Limit.{profile_of}
-use Rattle.nntp_facts.{specs.Standing.{stands_of}, proofs.Keeping.CoresFound.{nothing_together, bad_told, more_conflict, next_told, next_conflict}}
+use Rattle.nntp_facts.proofs.{Base.{◌+◌, [], true, false, map, take, profile_of, stands_of}, Keeping.CoresFound.{nothing_together, bad_told, more_conflict}}
+use Rattle.nntp_facts.proofs.Keeping.CoresFound.{next_told, next_conflict}
 use Rattle.nntp_facts.proofs.conflict.tell_all.Goals as goal
 
 pub returns-then-not-branch : goal.returns-then-not-branch

@@ -1,7 +1,4 @@
-use Rattle.std.{proofs.Common.{[], ◌∷◌, map, take}, specs.List.{AllByRecursion}}
-use Rattle.nntp_article.specs.Session.Limit.{profile_of}
-use Rattle.nntp_theory.specs.Inner.Conflict.{FitsThere}
-use Rattle.nntp_facts.specs.{Inner.{Kept.{IsKept}, Told.{AreToldWith}}, Standing.{stands_of}}
+use Rattle.nntp_facts.{proofs.Base.{[], ◌∷◌, map, take, AllByRecursion, profile_of, FitsThere, IsKept, stands_of}, specs.Inner.Told.{AreToldWith}}
 use Rattle.nntp_facts.proofs.conflict.tell_all.Given as goal
 
 abbrev pub invariant-loop-place : goal.invariant-loop-place

@@ -1,5 +1,4 @@
-use Rattle.std.proofs.Common.{◌∙◌}
-use Rattle.nntp_facts.proofs.Keeping.KeptNames.{is_key}
+use Rattle.nntp_facts.proofs.{Base.{◌∙◌}, Keeping.KeptNames.{is_key}}
 use Rattle.nntp_facts.proofs.names.is_one_of.Goals as goal
 
 pub returns : goal.returns

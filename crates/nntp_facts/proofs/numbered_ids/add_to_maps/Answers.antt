@@ -1,5 +1,4 @@
-use Rattle.std.{proofs.Common.{arith}, specs.{Ordering.{nat_cmp}, Cmp.{nat_cmp_total, Lexicographic.{slice_cmp, nat_list_cmp_total}}, Rc.{rc_str_bytes}}}
-use Rattle.nntp_wire.proofs.ShownMaps.{insert-shown}
+use Rattle.nntp_facts.proofs.Base.{arith, nat_cmp, nat_cmp_total, slice_cmp, nat_list_cmp_total, rc_str_bytes, insert-shown}
 use Rattle.std.specs.FinMap as map
 use Rattle.nntp_facts.proofs.numbered_ids.add_to_maps.Goals as goal
 

@@ -1,6 +1,4 @@
-use Rattle.std.{proofs.Common.{Some, None, option_map, sym, ap, ◌∙◌}, specs.Prelude.{if◌then◌else◌}}
-use Rattle.nntp_article.specs.Session.Machine.{is_same}
-use Rattle.nntp_facts.specs.Inner.{IdsHeld.{numbered}, Kept.{place_of}}
+use Rattle.nntp_facts.{proofs.Base.{Some, None, option_map, sym, ap, ◌∙◌, if◌then◌else◌, is_same, place_of}, specs.Inner.IdsHeld.{numbered}}
 use Rattle.nntp_facts.proofs.numbered_ids.number_of.Goals as goal
 
 pub returns-in-Some : goal.returns-in-Some

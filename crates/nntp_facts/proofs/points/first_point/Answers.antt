@@ -1,7 +1,6 @@
-use Rattle.std.proofs.Common.{subst, ◌∙◌, option_map, MatchOption, ◌+◌}
-use Rattle.nntp_theory.specs.Conflict.{IsFirstPoint}
-use Rattle.nntp_facts.{specs.Inner.{Points.{NoneBefore}, PointView.{point_of}, StatementView.{statement_of}}, proofs.PointsFound.PointsChained.{kind_ranked}}
+use Rattle.nntp_facts.proofs.{Base.{subst, ◌∙◌, option_map, MatchOption, ◌+◌, NoneBefore, point_of, statement_of}, PointsFound.PointsChained.{kind_ranked}}
 use Rattle.nntp_facts.proofs.PointsFound.PointsChained.{next_kind, not_nowhere}
+use Rattle.nntp_theory.specs.Conflict.{IsFirstPoint}
 use Rattle.nntp_facts.proofs.points.first_point.Goals as goal
 
 pub returns-in-Some : goal.returns-in-Some

@@ -1,7 +1,4 @@
-use Rattle.std.proofs.Common.{List}
-use Rattle.nntp_article.specs.{Session.Limit.{profile_of}, declared.session.profile.Profile.{Profile}}
-use Rattle.nntp_said.specs.Facts.{Fact}
-use Rattle.nntp_facts.specs.Inner.{Points.{AreHeld, NoneBefore}, StatementView.{listing_of}}
+use Rattle.nntp_facts.{proofs.Base.{List, profile_of, Profile, Fact, AreHeld, NoneBefore}, specs.Inner.StatementView.{listing_of}}
 use Rattle.nntp_facts.proofs.points.first_point.Given as goal
 
 -- at no point of the kinds so far the facts conflict

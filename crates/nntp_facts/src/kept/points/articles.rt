@@ -1,18 +1,10 @@
 //! Articles that are kept otherwise.
-ghost use Rattle.std.specs.Prelude.{◌≡◌, ◌++◌, if◌then◌else◌, false, List, None, Some, MatchOption, option_map};
-ghost use Rattle.std.specs.Option.{option_map_or};
-ghost use Rattle.std.specs.FinMap.{get};
+ghost use Rattle.std.specs.{Prelude.{◌≡◌, ◌++◌, if◌then◌else◌, false, List, None, Some, MatchOption, option_map}, Option.{option_map_or}, FinMap.{get}};
 ghost use Rattle.nntp_wire.specs.Listing.{overviews_of};
-ghost use Rattle.nntp_facts.specs.Inner.Articles.{is_there};
-ghost use Rattle.nntp_theory.specs.Conflict.{Article, HeadOf, BodyOf};
-ghost use Rattle.nntp_theory.specs.Given.{first_given, head_in, body_in};
-ghost use Rattle.nntp_theory.specs.Inner.Together.{AreSame};
-ghost use Rattle.nntp_facts.specs.Inner.Kept.{IsKept};
+ghost use Rattle.nntp_facts.specs.Inner.{Articles.{is_there}, Kept.{IsKept}, Points.{IsBeside, IsPointOf}, PointView.{point_of}, StatementView.{statement_of}};
+ghost use Rattle.nntp_theory.specs.{Conflict.{Article, HeadOf, BodyOf}, Given.{first_given, head_in, body_in}, Inner.Together.{AreSame}};
 ghost use Rattle.nntp_article.specs.declared.session.profile.Profile.{Profile};
 ghost use Rattle.nntp_said.specs.Facts.{Fact};
-ghost use Rattle.nntp_facts.specs.Inner.Points.{IsBeside, IsPointOf};
-ghost use Rattle.nntp_facts.specs.Inner.PointView.{point_of};
-ghost use Rattle.nntp_facts.specs.Inner.StatementView.{statement_of};
 
 use crate::articles::Sent;
 use crate::kept::Kept;

@@ -1,19 +1,12 @@
 //! Groups that are shown and denied.
-ghost use Rattle.std.specs.Prelude.{◌≡◌, ◌++◌, ◌⊎◌, Some, None, List, IfOk, IfSome, option_map, MatchOption, IsTrue, IsFalse};
-ghost use Rattle.std.specs.List.{AllByRecursion, list_any};
-ghost use Rattle.nntp_theory.specs.Inner.Together.{Together};
-ghost use Rattle.nntp_theory.specs.Together.{denies_group};
-ghost use Rattle.nntp_facts.specs.Inner.Kept.{IsKept};
-ghost use Rattle.nntp_facts.specs.Inner.ListedGroups.{is_listed};
-ghost use Rattle.nntp_theory.specs.Conflict.{Group};
+ghost use Rattle.std.specs.{Prelude.{◌≡◌, ◌++◌, ◌⊎◌, Some, None, List, IfOk, IfSome, option_map, MatchOption, IsTrue, IsFalse}, List.{AllByRecursion}};
+ghost use Rattle.std.specs.List.{list_any};
+ghost use Rattle.nntp_theory.specs.{Inner.Together.{Together}, Together.{denies_group}, Conflict.{Group}, Given.{is_shown_group}};
+ghost use Rattle.nntp_facts.specs.Inner.{Kept.{IsKept}, ListedGroups.{is_listed}, Points.{IsBeside, IsPointOf, Statement as StatementValue}};
+ghost use Rattle.nntp_facts.specs.Inner.{PointView.{point_of}, StatementView.{statement_of}, SayingView.{active_said}};
 ghost use Rattle.nntp_wire.specs.Listing.{active_groups};
-ghost use Rattle.nntp_theory.specs.Given.{is_shown_group};
 ghost use Rattle.nntp_article.specs.declared.session.profile.Profile.{Profile};
 ghost use Rattle.nntp_said.specs.Facts.{Fact};
-ghost use Rattle.nntp_facts.specs.Inner.Points.{IsBeside, IsPointOf, Statement as StatementValue};
-ghost use Rattle.nntp_facts.specs.Inner.PointView.{point_of};
-ghost use Rattle.nntp_facts.specs.Inner.StatementView.{statement_of};
-ghost use Rattle.nntp_facts.specs.Inner.SayingView.{active_said};
 
 use crate::kept::Kept;
 use crate::point::Point;

@@ -1,13 +1,10 @@
 //! Ids and numbers that are kept otherwise.
 ghost use Rattle.std.specs.Prelude.{◌≡◌, ◌++◌, List, option_map};
 ghost use Rattle.nntp_wire.specs.Listing.{overviews_of};
-ghost use Rattle.nntp_article.specs.declared.session.profile.Profile.{Profile};
-ghost use Rattle.nntp_article.specs.Session.Spool.{Name};
+ghost use Rattle.nntp_article.specs.{declared.session.profile.Profile.{Profile}, Session.Spool.{Name}};
 ghost use Rattle.nntp_said.specs.Facts.{Fact};
 ghost use Rattle.nntp_theory.specs.Given.{first_given};
-ghost use Rattle.nntp_facts.specs.Inner.Kept.{AreKept, Told};
-ghost use Rattle.nntp_facts.specs.Inner.Points.{IsBeside, IsPointOf, other_id_at, other_place_of};
-ghost use Rattle.nntp_facts.specs.Inner.PointView.{point_of};
+ghost use Rattle.nntp_facts.specs.Inner.{Kept.{AreKept, Told}, Points.{IsBeside, IsPointOf, other_id_at, other_place_of}, PointView.{point_of}};
 ghost use Rattle.nntp_facts.specs.Inner.StatementView.{statement_of};
 
 use crate::kept::Kept;

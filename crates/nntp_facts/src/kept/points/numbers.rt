@@ -1,22 +1,12 @@
 //! Numbers of a group that are known and denied, too many, or not as is demanded.
-ghost use Rattle.std.specs.Prelude.{◌≡◌, ◌++◌, ◌∷◌, [], None, List, IfOk, MatchOption, option_map};
-ghost use Rattle.std.specs.List.{AllByRecursion};
-ghost use Rattle.nntp_wire.specs.Listing.{active_groups};
-ghost use Rattle.nntp_wire.specs.declared.marks.Marks.TheVariants.{Lenient};
-ghost use Rattle.nntp_said.specs.Asks.{Ask, Estimates, Bounds};
-ghost use Rattle.nntp_facts.specs.Inner.Kept.{Kept as KeptValue, IsKept};
-ghost use Rattle.nntp_theory.specs.Conflict.{widest, Point as PointValue, rank, ConflictAt};
-ghost use Rattle.nntp_numbers.specs.Inner.Part.{Says};
-ghost use Rattle.nntp_numbers.specs.Inner.PartView.{said};
-ghost use Rattle.nntp_wire.specs.Limit.{greatest};
+ghost use Rattle.std.specs.{Prelude.{◌≡◌, ◌++◌, ◌∷◌, [], None, List, IfOk, MatchOption, option_map}, List.{AllByRecursion}};
+ghost use Rattle.nntp_wire.specs.{Listing.{active_groups}, declared.marks.Marks.TheVariants.{Lenient}, Limit.{greatest}};
+ghost use Rattle.nntp_said.specs.{Asks.{Ask, Estimates, Bounds}, Facts.{Fact}};
+ghost use Rattle.nntp_facts.specs.Inner.{Kept.{Kept as KeptValue, IsKept}, Points.{Statement as StatementValue, IsAbout, IsBeside, IsPointOf, IsPointIn}};
+ghost use Rattle.nntp_facts.specs.Inner.{Points.{NoneBefore}, PointView.{point_of}, SayingView.{active_said}, StatementView.{statement_of, rank_of_numbers}};
+ghost use Rattle.nntp_theory.specs.{Conflict.{widest, Point as PointValue, rank, ConflictAt}, Given.{asks_of}};
+ghost use Rattle.nntp_numbers.specs.Inner.{Part.{Says}, PartView.{said}, Summary.{IsSummary, AreBounded}};
 ghost use Rattle.nntp_article.specs.declared.session.profile.Profile.{Profile};
-ghost use Rattle.nntp_said.specs.Facts.{Fact};
-ghost use Rattle.nntp_theory.specs.Given.{asks_of};
-ghost use Rattle.nntp_numbers.specs.Inner.Summary.{IsSummary, AreBounded};
-ghost use Rattle.nntp_facts.specs.Inner.Points.{Statement as StatementValue, IsAbout, IsBeside, IsPointOf, IsPointIn, NoneBefore};
-ghost use Rattle.nntp_facts.specs.Inner.PointView.{point_of};
-ghost use Rattle.nntp_facts.specs.Inner.SayingView.{active_said};
-ghost use Rattle.nntp_facts.specs.Inner.StatementView.{statement_of, rank_of_numbers};
 
 use crate::kept::Kept;
 use crate::point::Point;

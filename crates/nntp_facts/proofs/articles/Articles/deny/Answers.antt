@@ -1,4 +1,4 @@
-use Rattle.nntp_facts.proofs.{Base.{arith, entries_value, from_entries}, Keeping.KeptIds.{one_more_denied}}
+use Rattle.nntp_facts.{proofs.{Base.{arith, from_entries}, Keeping.KeptIds.{one_more_denied}}, specs.Inner.ArticleView.{entries_value}}
 use Rattle.nntp_facts.proofs.articles.Articles.deny.Goals as goal
 
 pub returns : goal.returns

@@ -1,5 +1,4 @@
-use Rattle.nntp_facts.{specs.Inner.Articles.{denied}, proofs.Keeping.KeptArticles.{refused, new_kept}}
-use Rattle.std.proofs.{lemmas.Bool.{true≢false, not-false}, Common.{arith, true, refl}}
+use Rattle.nntp_facts.{proofs.{Base.{true≢false, not-false, arith, true, refl}, Keeping.KeptArticles.{refused, new_kept}}, specs.Inner.Articles.{denied}}
 use Rattle.nntp_facts.proofs.articles.Articles.note_lack.Goals as goal
 
 pub returns-then-has_octets : goal.returns-then-has_octets

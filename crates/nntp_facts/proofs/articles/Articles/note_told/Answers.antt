@@ -1,6 +1,5 @@
 use Rattle.nntp_facts.proofs.Base.{arith, true, sym, subst, ◌∙◌, OverviewValue, overviews_of, overview_value, if_ok, telling, is_added, IsSaidAdded, said_alone}
-use Rattle.nntp_facts.proofs.Keeping.SaidOfArticles.{first_said}
-use Rattle.nntp_article.proofs.ArticleLemmas.WordsOfLines.{overviews_words}
+use Rattle.nntp_facts.proofs.{Base.{overviews_words}, Keeping.SaidOfArticles.{first_said}}
 use Rattle.nntp_facts.proofs.articles.Articles.note_told.Goals as goal
 
 pub tell-requires : goal.tell-requires

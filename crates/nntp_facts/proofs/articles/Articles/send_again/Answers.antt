@@ -1,6 +1,6 @@
-use Rattle.nntp_facts.proofs.Base.{Some, map, sym, ap, subst, ◌∙◌, unwrap_or, if_ok, unsent, with_denied, is_added, known_article, entries_value, IsAddedIf}
-use Rattle.nntp_facts.proofs.{Base.{AreKeptArticles, Sends, IsArticleAdded, from_entries, MayBeSent, ◌≡◌, with_sent}, Keeping.KeptIds.{replaced_known}}
-use Rattle.nntp_facts.proofs.Keeping.KeptArticles.{sent_noted}
+use Rattle.nntp_facts.proofs.Base.{Some, map, sym, ap, subst, ◌∙◌, unwrap_or, if_ok, unsent, is_added, known_article, IsAddedIf, AreKeptArticles, Sends}
+use Rattle.nntp_facts.proofs.{Base.{IsArticleAdded, from_entries, MayBeSent, ◌≡◌, with_sent}, Keeping.{KeptIds.{replaced_known}, KeptArticles.{sent_noted}}}
+use Rattle.nntp_facts.specs.Inner.{Articles.{with_denied}, ArticleView.{entries_value}}
 use Rattle.nntp_facts.proofs.articles.Articles.send_again.Goals as goal
 
 pub returns-in-Some : goal.returns-in-Some

@@ -1,5 +1,4 @@
-use Rattle.std.{proofs.Common.{◌≡◌, ◌∙◌, ◌+◌, ◌++◌, ap, arith, ℕ, List, Option, unwrap_or}, specs.Option.{option_map_or}}
-use Rattle.nntp_theory.specs.Conflict.{below, places_of}
+use Rattle.nntp_facts.proofs.Base.{◌≡◌, ◌∙◌, ◌+◌, ◌++◌, ap, arith, ℕ, List, Option, unwrap_or, option_map_or, below, places_of}
 use Rattle.nntp_facts.proofs.conflict.Core.all_places.Goals as goal
 
 -- the places below the bound, where there is one, and those that were found

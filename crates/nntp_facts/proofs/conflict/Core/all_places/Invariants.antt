@@ -1,5 +1,4 @@
-use Rattle.std.proofs.Common.{◌≡◌}
-use Rattle.nntp_theory.specs.Conflict.{below}
+use Rattle.nntp_facts.proofs.Base.{◌≡◌, below}
 use Rattle.nntp_facts.proofs.conflict.Core.all_places.Given as goal
 
 -- the places so far

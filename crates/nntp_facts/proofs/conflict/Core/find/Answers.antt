@@ -1,8 +1,5 @@
-use Rattle.std.proofs.{Common.{◌^◌, ◌<◌, List, length, map, arith, rules, ap}, lemmas.List.{length-map}}
-use Rattle.nntp_article.specs.Session.Limit.{profile_of}
-use Rattle.nntp_theory.proofs.Conflicts.{core_start}
-use Rattle.nntp_facts.{specs.{declared.placed.Placed.{Placed}, Standing.{stands_of}}, proofs.Keeping.CoresFound.{alone, some_left, whole_found, end_found}}
-use Rattle.nntp_facts.proofs.Keeping.CoresFound.{kept_told, none_kept}
+use Rattle.nntp_facts.proofs.{Base.{◌^◌, ◌<◌, List, length, map, arith, rules, ap, length-map, profile_of, core_start, stands_of}, Keeping.CoresFound.{alone}}
+use Rattle.nntp_facts.{proofs.Keeping.CoresFound.{some_left, whole_found, end_found, kept_told, none_kept}, specs.declared.placed.Placed.{Placed}}
 use Rattle.nntp_facts.proofs.conflict.Core.find.Goals as goal
 
 -- as many stand there as there are

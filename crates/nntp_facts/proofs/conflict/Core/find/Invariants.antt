@@ -1,7 +1,4 @@
-use Rattle.std.proofs.Common.{◌≤◌, length, map}
-use Rattle.nntp_article.specs.Session.Limit.{profile_of}
-use Rattle.nntp_theory.specs.Inner.Conflict.{IsPartOfCore}
-use Rattle.nntp_facts.specs.Standing.{stands_of}
+use Rattle.nntp_facts.proofs.Base.{◌≤◌, length, map, profile_of, IsPartOfCore, stands_of}
 use Rattle.nntp_facts.proofs.conflict.Core.find.Given as goal
 
 abbrev pub invariant-loop-places : goal.invariant-loop-places

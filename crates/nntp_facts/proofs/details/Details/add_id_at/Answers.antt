@@ -1,6 +1,4 @@
-use Rattle.std.{proofs.Common.{is_some, sym, ap, ◌∙◌}, specs.Rc.{rc_str_bytes}}
-use Rattle.nntp_wire.proofs.ShownMaps.{is_some-option_map}
-use Rattle.nntp_facts.proofs.Keeping.KeptGroups.{same_id}
+use Rattle.nntp_facts.proofs.{Base.{is_some, sym, ap, ◌∙◌, rc_str_bytes, is_some-option_map}, Keeping.KeptGroups.{same_id}}
 use Rattle.nntp_facts.proofs.details.Details.add_id_at.Goals as goal
 
 pub returns-then-is_some-clause-ids : goal.returns-then-is_some-clause-ids

@@ -1,5 +1,4 @@
-use Rattle.std.proofs.{Common.{refl, sym, ◌∙◌}, lemmas.Iterator.Consumers.{nth_from_yields_List, YieldsList-from_first}}
-use Rattle.nntp_wire.proofs.ShownMaps.{option_map_id}
+use Rattle.nntp_facts.proofs.Base.{refl, sym, ◌∙◌, nth_from_yields_List, YieldsList-from_first, option_map_id}
 use Rattle.nntp_facts.proofs.facts.Facts.article.Goals as goal
 
 pub returns : goal.returns

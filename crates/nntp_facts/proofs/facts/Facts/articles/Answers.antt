@@ -1,6 +1,4 @@
-use Rattle.std.proofs.Common.{arith}
-use Rattle.nntp_theory.specs.Inner.Exchanged.{said_behind}
-use Rattle.nntp_facts.proofs.Keeping.ArticleReaders.{articles_shown}
+use Rattle.nntp_facts.proofs.{Base.{arith, said_behind}, Keeping.ArticleReaders.{articles_shown}}
 use Rattle.nntp_facts.proofs.facts.Facts.articles.Goals as goal
 
 pub returns-clause-noted : goal.returns-clause-noted

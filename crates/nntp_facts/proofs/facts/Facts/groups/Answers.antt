@@ -1,6 +1,4 @@
-use Rattle.std.proofs.Common.{arith}
-use Rattle.nntp_theory.specs.Inner.Exchanged.{said_behind}
-use Rattle.nntp_facts.proofs.Keeping.{GroupReaders.{groups_shown}, NotedExchange.{stand_together}}
+use Rattle.nntp_facts.proofs.{Base.{arith, said_behind}, Keeping.{GroupReaders.{groups_shown}, NotedExchange.{stand_together}}}
 use Rattle.nntp_facts.proofs.facts.Facts.groups.Goals as goal
 
 pub returns : goal.returns

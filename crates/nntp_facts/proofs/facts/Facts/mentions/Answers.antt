@@ -1,5 +1,4 @@
-use Rattle.std.proofs.Common.{sym, subst}
-use Rattle.nntp_facts.specs.Inner.Kept.{AreKeptArticles}
+use Rattle.nntp_facts.proofs.Base.{sym, subst, AreKeptArticles}
 use Rattle.nntp_facts.proofs.facts.Facts.mentions.Goals as goal
 
 pub returns-clause-kept : goal.returns-clause-kept

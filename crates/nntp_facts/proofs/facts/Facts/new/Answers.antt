@@ -1,6 +1,4 @@
-use Rattle.std.proofs.Common.{[], arith}
-use Rattle.nntp_article.specs.Session.Limit.{profile_of}
-use Rattle.nntp_theory.{proofs.Given.{FirstBadAnswer.{none_permitted}, SessionsByFacts.{permits_alone}}, specs.Permitted.{exchanged}}
+use Rattle.nntp_facts.proofs.Base.{[], arith, profile_of, none_permitted, permits_alone, exchanged}
 use Rattle.nntp_facts.proofs.facts.Facts.new.Goals as goal
 
 pub returns-clause-stands : goal.returns-clause-stands

@@ -1,7 +1,5 @@
-use Rattle.std.{proofs.Common.{◌≡◌, true, false, is_some, sym, ap, subst, ◌∙◌, arith}, specs.Prelude.{is_none}}
-use Rattle.nntp_wire.specs.Inner.{View.{asked}, AnswerView.{response}}
-use Rattle.nntp_article.{specs.Inner.Listed.{lists_of}, proofs.SessionLemmas.Misfits.{fits_by_reason}}
-use Rattle.nntp_facts.{specs.Inner.Noted.{profile_kept, HasNotedBehind}, proofs.Keeping.NotedExchange.{unfit, weighed, refused, accepted}}
+use Rattle.nntp_facts.proofs.Base.{◌≡◌, true, false, is_some, sym, ap, subst, ◌∙◌, arith, is_none, asked, response, lists_of, fits_by_reason}
+use Rattle.nntp_facts.{proofs.Keeping.NotedExchange.{unfit, weighed, refused, accepted}, specs.Inner.Noted.{profile_kept, HasNotedBehind}}
 use Rattle.nntp_facts.proofs.facts.Facts.note_listing.Goals as goal
 
 pub returns-then-is_some : goal.returns-then-is_some

@@ -1,5 +1,4 @@
-use Rattle.std.proofs.Common.{arith}
-use Rattle.nntp_facts.proofs.Keeping.ArticleReaders.{articles_shown}
+use Rattle.nntp_facts.proofs.{Base.{arith}, Keeping.ArticleReaders.{articles_shown}}
 use Rattle.nntp_facts.proofs.facts.Facts.take_articles.Goals as goal
 
 pub returns : goal.returns

@@ -1,5 +1,4 @@
-use Rattle.nntp_facts.proofs.Keeping.MarksAlone.{none_identified}
-use Rattle.std.proofs.Common.{arith}
+use Rattle.nntp_facts.proofs.{Base.{arith}, Keeping.MarksAlone.{none_identified}}
 use Rattle.nntp_facts.proofs.group.Group.id.Goals as goal
 
 pub returns-in_err-details : goal.returns-in_err-details

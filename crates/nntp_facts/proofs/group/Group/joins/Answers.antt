@@ -1,5 +1,4 @@
-use Rattle.std.proofs.Common.{arith, ◌≡◌, sym, ap, ◌∙◌}
-use Rattle.nntp_facts.specs.Inner.GroupHeld.{group_held}
+use Rattle.nntp_facts.{proofs.Base.{arith, ◌≡◌, sym, ap, ◌∙◌}, specs.Inner.GroupHeld.{group_held}}
 use Rattle.nntp_facts.proofs.group.Group.joins.Goals as goal
 
 pub returns-in-Between : goal.returns-in-Between

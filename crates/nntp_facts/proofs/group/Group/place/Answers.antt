@@ -1,5 +1,4 @@
-use Rattle.nntp_facts.proofs.Keeping.MarksAlone.{none_placed}
-use Rattle.std.proofs.Common.{arith}
+use Rattle.nntp_facts.proofs.{Base.{arith}, Keeping.MarksAlone.{none_placed}}
 use Rattle.nntp_facts.proofs.group.Group.place.Goals as goal
 
 pub returns-in_err-details : goal.returns-in_err-details

@@ -1,9 +1,7 @@
 use Rattle.nntp_facts.proofs.Base.{◌≡◌, Some, sym, subst, ap, ◌∙◌, nat_cmp, slice_cmp, nat_list_cmp_total, replaced, id_at, AreKept, MayHave, ids_with}
 use Rattle.nntp_facts.proofs.Base.{places_with, IsSummary, ◌++◌, on_ok, None, slice_cmp-IsAntisymmetric, nat_cmp-IsAntisymmetric, insert, map, empty}
-use Rattle.nntp_facts.proofs.{Base.{from_entries}, Keeping.KeptGroups.{kept_of, part_kept, may_have_told, empty_may_have, empty_agree, agree_kept}}
-use Rattle.std.specs.Option.{option_copied_mut}
-use Rattle.nntp_wire.proofs.ShownMaps.{missing}
-use Rattle.nntp_theory.proofs.OkResults.{on_both}
+use Rattle.nntp_facts.proofs.{Base.{from_entries, option_copied_mut, missing, on_both}, Keeping.KeptGroups.{kept_of, part_kept, may_have_told, empty_may_have}}
+use Rattle.nntp_facts.proofs.Keeping.KeptGroups.{empty_agree, agree_kept}
 use Rattle.nntp_facts.proofs.groups.Groups.add.Goals as goal
 
 pub returns-in-Some : goal.returns-in-Some

@@ -1,6 +1,5 @@
-use Rattle.nntp_facts.proofs.Base.{[], ◌∷◌, ◌++◌, None, map, take, take_all, sym, subst, arith, ActiveValue, active_value, one_more, Bounds, GroupsAre}
-use Rattle.nntp_facts.proofs.{Base.{AreKeptGroups, told, Agree, MayShow, IsTextOf}, Keeping.ListedGroups.{one_more_bound, listing}}
-use Rattle.nntp_facts.proofs.Keeping.FactsOfOneGroup.{told_same}
+use Rattle.nntp_facts.proofs.Base.{map, AreKeptGroups, ◌∷◌, IsTextOf, active_value, subst, [], ◌++◌, arith, Bounds, GroupsAre, told, Agree, take, MayShow}
+use Rattle.nntp_facts.proofs.{Base.{one_more, ActiveValue, sym, take_all, None}, Keeping.{FactsOfOneGroup.{told_same}, ListedGroups.{one_more_bound, listing}}}
 use Rattle.nntp_facts.proofs.groups.Groups.bound_all.Goals as goal
 
 pub loop-group-init : goal.loop-group-init

@@ -1,8 +1,7 @@
 use Rattle.nntp_facts.proofs.Base.{◌+◌, cond, sym, ap, ◌∙◌, rules, nat_cmp, slice_cmp, nat_list_cmp_total, entries, nat_cmp-IsAntisymmetric}
-use Rattle.nntp_facts.proofs.Base.{slice_cmp-IsAntisymmetric, is_asked, entries-shown, Name, KeptGroup}
+use Rattle.nntp_facts.proofs.Base.{slice_cmp-IsAntisymmetric, is_asked, entries-shown, Name, KeptGroup, tests}
 use Rattle.std.proofs.lemmas.{Iterator.Consumers.{YieldsList-at, YieldsList-from_rest, YieldsList-from_filter, count_from_yields_List}, List.Folds.{fold-map}}
 use Rattle.std.{proofs.lemmas.List.Sums.{length-filter}, specs.List.{count_by}}
-use borrow.Author.Tests.{tests}
 use Rattle.nntp_facts.proofs.groups.Groups.count_asked.Goals as goal
 
 pub returns : goal.returns

@@ -1,5 +1,4 @@
-use Rattle.std.{proofs.Common.{arith}, specs.{Ordering.{nat_cmp}, Cmp.Lexicographic.{slice_cmp, nat_list_cmp_total}}}
-use Rattle.nntp_wire.proofs.ShownMaps.{get-shown, option_map_id}
+use Rattle.nntp_facts.proofs.Base.{arith, nat_cmp, slice_cmp, nat_list_cmp_total, get-shown, option_map_id}
 use Rattle.nntp_facts.proofs.groups.Groups.get.Goals as goal
 
 pub returns : goal.returns

@@ -1,5 +1,5 @@
-use Rattle.nntp_facts.proofs.Base.{ap, sym, ◌∙◌, nat_cmp, slice_cmp, nat_list_cmp_total, entries-shown, shown_in, shown_groups, named}
-use Rattle.nntp_facts.proofs.Base.{slice_cmp-IsAntisymmetric, nat_cmp-IsAntisymmetric}
+use Rattle.nntp_facts.proofs.Base.{ap, sym, ◌∙◌, nat_cmp, slice_cmp, nat_list_cmp_total, entries-shown, slice_cmp-IsAntisymmetric, nat_cmp-IsAntisymmetric}
+use Rattle.nntp_facts.specs.Inner.{Readers.{shown_in, shown_groups}, ReadersView.{named}}
 use Rattle.nntp_facts.proofs.groups.Groups.shown.Goals as goal
 
 pub returns : goal.returns

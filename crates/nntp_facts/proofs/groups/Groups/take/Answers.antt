@@ -1,5 +1,5 @@
-use Rattle.nntp_facts.proofs.Base.{ap, sym, ◌∙◌, nat_cmp, slice_cmp, nat_list_cmp_total, entries-shown, shown_in, shown_groups, named}
-use Rattle.nntp_facts.proofs.Base.{slice_cmp-IsAntisymmetric, nat_cmp-IsAntisymmetric, map, from_entries}
+use Rattle.nntp_facts.proofs.Base.{ap, sym, ◌∙◌, nat_cmp, slice_cmp, nat_list_cmp_total, entries-shown, slice_cmp-IsAntisymmetric, nat_cmp-IsAntisymmetric, map}
+use Rattle.nntp_facts.{proofs.Base.{from_entries}, specs.Inner.{Readers.{shown_in, shown_groups}, ReadersView.{named}}}
 use Rattle.nntp_facts.proofs.groups.Groups.take.Goals as goal
 
 pub returns : goal.returns

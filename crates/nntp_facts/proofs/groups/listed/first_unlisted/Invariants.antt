@@ -1,5 +1,4 @@
-use Rattle.nntp_facts.proofs.Base.{◌&&◌, not, true, list_any, option_map_or, matches_name, IsGroupName, Name, is_same}
-use Rattle.std.specs.{Prelude.{IsTrue}, BTreeMap.{keys}}
+use Rattle.nntp_facts.proofs.Base.{◌&&◌, not, true, list_any, option_map_or, matches_name, IsGroupName, Name, is_same, IsTrue, keys}
 use Rattle.nntp_facts.proofs.groups.listed.first_unlisted.Given as goal
 
 -- what is left are names of groups, and a name before it is listed, or doesn't match

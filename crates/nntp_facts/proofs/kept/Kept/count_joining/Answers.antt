@@ -1,6 +1,5 @@
 use Rattle.nntp_facts.proofs.Base.{◌≡◌, ◌+◌, ◌≤◌, Bool, List, ◌∷◌, length, sym, ap, subst, ◌∙◌, arith, true≢false, ◌↔◌, AllByRecursion, ActiveValue}
-use Rattle.nntp_facts.proofs.Base.{active_value, next_left, none_left, Fact, is_shown_group, IsKept, told, shown_lines}
-use mir.Val.{bool_byte}
+use Rattle.nntp_facts.proofs.Base.{active_value, next_left, none_left, Fact, is_shown_group, IsKept, told, shown_lines, bool_byte}
 use Rattle.nntp_facts.proofs.kept.Kept.count_joining.Goals as goal
 
 -- where the next line joins, all lines join if those do that are left

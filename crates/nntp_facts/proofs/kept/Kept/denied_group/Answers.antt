@@ -1,4 +1,4 @@
-use Rattle.nntp_facts.proofs.Base.{◌++◌, ap, sym, subst, arith, option_map, IsPointOf, active_said, statement_of}
+use Rattle.nntp_facts.{proofs.Base.{◌++◌, ap, sym, subst, arith, option_map, IsPointOf, statement_of}, specs.Inner.SayingView.{active_said}}
 use Rattle.nntp_facts.proofs.kept.Kept.denied_group.Goals as goal
 
 pub returns-in-None : goal.returns-in-None

@@ -1,4 +1,4 @@
-use Rattle.nntp_facts.proofs.{Base.{arith, sym, subst, if_ok, active_said, IsKept}, PointsFound.KindsOfPoints.{unlisted_group}}
+use Rattle.nntp_facts.{proofs.{Base.{arith, sym, subst, if_ok, IsKept}, PointsFound.KindsOfPoints.{unlisted_group}}, specs.Inner.SayingView.{active_said}}
 use Rattle.nntp_facts.proofs.kept.Kept.denied_or_unlisted.Goals as goal
 
 pub returns-in-None : goal.returns-in-None

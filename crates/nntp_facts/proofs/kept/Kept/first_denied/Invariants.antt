@@ -1,5 +1,4 @@
-use Rattle.nntp_facts.proofs.Base.{IsFalse, AllByRecursion, list_any, active_groups, Name, Fact, Together, denies_group, IsKept, is_listed}
-use Rattle.std.specs.Prelude.{IsTrue, List}
+use Rattle.nntp_facts.proofs.Base.{IsFalse, AllByRecursion, list_any, active_groups, Name, Fact, Together, denies_group, IsKept, is_listed, IsTrue, List}
 use Rattle.nntp_facts.proofs.kept.Kept.first_denied.Given as goal
 
 -- what is left is listed, and no group before it is denied

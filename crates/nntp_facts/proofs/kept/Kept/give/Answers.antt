@@ -1,6 +1,6 @@
 use Rattle.nntp_facts.proofs.Base.{◌≡◌, ℕ, true, false, [], Some, sym, ap, subst, ◌∙◌, true≢false, IsFalse, option_map, list_any, rc_str_bytes, overview_value}
-use Rattle.nntp_facts.proofs.Base.{first_given, fields_in, denies_article, AreSame, on_ok, Id, telling, AreKept, AreKeptArticles, AreKeptWith, Agree, MayShow}
-use Rattle.nntp_facts.proofs.{Base.{IsSaidAdded, IsSaidKept, IsTextOf, said_alone, is_added, id_at}, Keeping.OverviewsJoin.{surely_added}}
+use Rattle.nntp_facts.proofs.Base.{first_given, fields_in, denies_article, AreSame, on_ok, Id, telling, AreKept, AreKeptArticles, Agree, MayShow, IsSaidAdded}
+use Rattle.nntp_facts.{proofs.{Base.{IsSaidKept, IsTextOf, said_alone, is_added, id_at}, Keeping.OverviewsJoin.{surely_added}}, specs.Inner.Kept.{AreKeptWith}}
 use Rattle.nntp_facts.proofs.kept.Kept.give.Goals as goal
 
 pub returns-clause-kept : goal.returns-clause-kept

@@ -1,7 +1,6 @@
-use Rattle.std.{proofs.Common.{◌≡◌, ◌++◌, Some, sym, ap, subst, ◌∙◌, arith}, specs.Prelude.{◌↔◌, IfSome, IsTrue, option_map}}
-use Rattle.nntp_facts.specs.Inner.{SayingView.{of_group}, Saying.{asked_id, facts_in}, Kept.{joins_at_all, IsKept, AreKeptGroups, told}}
-use Rattle.nntp_facts.{specs.Inner.KeptSaying.{GroupJoins}, proofs.Keeping.PartsJoin.{agree_told, shown_told, says_then, bounded_then, group_changes}}
-use Rattle.nntp_facts.proofs.Keeping.{PartsJoin.{groups_alike}, SaidAgain.{there_before}}
+use Rattle.nntp_facts.proofs.Base.{◌≡◌, ◌++◌, Some, sym, ap, subst, ◌∙◌, arith, ◌↔◌, IfSome, IsTrue, option_map, of_group, asked_id, facts_in, IsKept}
+use Rattle.nntp_facts.proofs.{Base.{AreKeptGroups, told, GroupJoins}, Keeping.PartsJoin.{agree_told, shown_told, says_then, bounded_then, group_changes}}
+use Rattle.nntp_facts.{proofs.Keeping.{PartsJoin.{groups_alike}, SaidAgain.{there_before}}, specs.Inner.Kept.{joins_at_all}}
 use Rattle.nntp_facts.proofs.kept.Kept.group_joins.Goals as goal
 
 pub returns-in-Some-clause-at_all : goal.returns-in-Some-clause-at_all

@@ -1,5 +1,4 @@
-use Rattle.nntp_facts.proofs.Base.{option_map_or, get, overviews_of, first_given, Article}
-use Rattle.std.specs.Prelude.{◌≡◌, if◌then◌else◌, false, Some, None}
+use Rattle.nntp_facts.proofs.Base.{option_map_or, get, overviews_of, first_given, Article, ◌≡◌, if◌then◌else◌, false, Some, None}
 use Rattle.nntp_facts.proofs.kept.Kept.lacked_listed_article.Given as goal
 
 -- the first of those that are left is the first of all

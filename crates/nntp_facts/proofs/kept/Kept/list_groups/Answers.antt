@@ -1,6 +1,5 @@
-use Rattle.nntp_facts.proofs.Base.{[], ◌∷◌, map, sym, subst, active_value, GroupsAre, on_ok, IsKept, said_of, ◌∙◌, ◌++◌, AreKeptArticles}
+use Rattle.nntp_facts.proofs.Base.{[], ◌∷◌, map, sym, subst, active_value, GroupsAre, on_ok, IsKept, said_of, ◌∙◌, ◌++◌, AreKeptArticles, length-map}
 use Rattle.nntp_facts.proofs.Keeping.SaidOfArticles.{said_append, nothing_more}
-use Rattle.std.proofs.lemmas.List.{length-map}
 use Rattle.nntp_facts.proofs.kept.Kept.list_groups.Goals as goal
 
 pub returns : goal.returns

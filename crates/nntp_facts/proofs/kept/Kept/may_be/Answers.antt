@@ -1,5 +1,4 @@
-use Rattle.std.{proofs.Common.{◌≡◌, Bool, not, sym, subst, arith}, specs.Prelude.{◌↔◌, IsTrue, IsFalse}}
-use Rattle.nntp_facts.specs.Inner.Kept.{IsKept, told}
+use Rattle.nntp_facts.proofs.Base.{◌≡◌, Bool, not, sym, subst, arith, ◌↔◌, IsTrue, IsFalse, IsKept, told}
 use Rattle.nntp_facts.proofs.kept.Kept.may_be.Goals as goal
 
 not_is : (b d : Bool) → b ≡ d → IsTrue (not b) ↔ IsFalse d

@@ -1,5 +1,4 @@
-use Rattle.std.{proofs.Common.{◌≡◌, Bool, sym, subst, arith}, specs.Prelude.{◌↔◌, IsTrue, IsFalse, not}}
-use Rattle.nntp_facts.specs.Inner.Kept.{IsKept, told}
+use Rattle.nntp_facts.proofs.Base.{◌≡◌, Bool, sym, subst, arith, ◌↔◌, IsTrue, IsFalse, not, IsKept, told}
 use Rattle.nntp_facts.proofs.kept.Kept.may_be_missing.Goals as goal
 
 -- a test that has to fail

@@ -1,5 +1,4 @@
-use Rattle.nntp_facts.proofs.{Base.{map, arith, true≢false, active_value}, Keeping.{ListedGroups.{listing_joins}, CountedGroups.{as_many_shown}}}
-use Rattle.std.proofs.lemmas.Bool.Decides.{Decides-eqb}
+use Rattle.nntp_facts.proofs.{Base.{map, arith, true≢false, active_value, Decides-eqb}, Keeping.{ListedGroups.{listing_joins}, CountedGroups.{as_many_shown}}}
 use Rattle.nntp_facts.proofs.kept.Kept.may_list_groups.Goals as goal
 
 pub returns-in-Some : goal.returns-in-Some

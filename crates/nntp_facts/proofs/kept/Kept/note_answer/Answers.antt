@@ -1,8 +1,5 @@
-use Rattle.nntp_facts.proofs.Base.{true, not, ap, subst, sym, ◌∙◌, IfOk-weaker, Lists, facts_of, AreAdded, AreListed, nothing, saying_by}
-use Rattle.nntp_facts.proofs.Keeping.{FactsSaid.{no_first, none_added}, SayingRows.{lists_said, told_here}}
-use Rattle.nntp_wire.specs.Inner.{View.{asked}, AnswerView.{response}}
-use Rattle.nntp_article.specs.Inner.Listed.{lists}
-use Rattle.nntp_said.specs.Inner.FactView.{fact_of}
+use Rattle.nntp_facts.proofs.Base.{true, not, ap, subst, sym, ◌∙◌, IfOk-weaker, Lists, facts_of, AreListed, nothing, saying_by, asked, response, lists, fact_of}
+use Rattle.nntp_facts.{proofs.Keeping.{FactsSaid.{no_first, none_added}, SayingRows.{lists_said, told_here}}, specs.Inner.Kept.{AreAdded}}
 use Rattle.nntp_facts.proofs.kept.Kept.note_answer.Goals as goal
 
 pub returns-then-is_none : goal.returns-then-is_none

@@ -1,5 +1,4 @@
-use Rattle.nntp_facts.proofs.{Base.{[], sym, subst, if_ok, AreListed, saying_of, Lenient, widest, refl}, Keeping.SayingRows.{tells_marks}}
-use Rattle.nntp_theory.specs.Conflict.{a_group}
+use Rattle.nntp_facts.proofs.{Base.{[], sym, subst, if_ok, AreListed, saying_of, Lenient, widest, refl, a_group}, Keeping.SayingRows.{tells_marks}}
 use Rattle.nntp_facts.proofs.kept.Kept.note_group.Goals as goal
 
 pub returns : goal.returns

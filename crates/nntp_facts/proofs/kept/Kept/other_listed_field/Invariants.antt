@@ -1,5 +1,4 @@
-use Rattle.nntp_facts.{proofs.Base.{overviews_of, Point}, specs.Inner.Points.{IsFieldAmong}}
-use Rattle.std.specs.Prelude.{Option}
+use Rattle.nntp_facts.{proofs.Base.{overviews_of, Point, Option}, specs.Inner.Points.{IsFieldAmong}}
 use Rattle.nntp_facts.proofs.kept.Kept.other_listed_field.Given as goal
 
 -- what is so of those that are left is so of all

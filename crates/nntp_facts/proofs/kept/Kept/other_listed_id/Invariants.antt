@@ -1,5 +1,4 @@
-use Rattle.nntp_facts.{proofs.Base.{overviews_of, Name, first_given, AreKept, Told}, specs.Inner.Points.{other_id_at}}
-use Rattle.std.specs.Prelude.{◌≡◌}
+use Rattle.nntp_facts.{proofs.Base.{overviews_of, Name, first_given, AreKept, Told, ◌≡◌}, specs.Inner.Points.{other_id_at}}
 use Rattle.nntp_facts.proofs.kept.Kept.other_listed_id.Given as goal
 
 -- the first of those that are left is the first of all

@@ -1,5 +1,4 @@
-use Rattle.nntp_facts.{proofs.Base.{overviews_of, Name, first_given, AreKept, Told}, specs.Inner.Points.{other_place_of}}
-use Rattle.std.specs.Prelude.{◌≡◌}
+use Rattle.nntp_facts.{proofs.Base.{overviews_of, Name, first_given, AreKept, Told, ◌≡◌}, specs.Inner.Points.{other_place_of}}
 use Rattle.nntp_facts.proofs.kept.Kept.other_listed_place.Given as goal
 
 -- the first of those that are left is the first of all

@@ -1,5 +1,5 @@
-use Rattle.nntp_facts.proofs.{Base.{◌++◌, ap, ◌∙◌, option_map, if_ok, active_said, point_of, rank_of_numbers}, PointsFound.KindsOfPoints.{listed_point}}
-use Rattle.nntp_facts.proofs.PointsFound.{KindsOfPoints.{no_numbers_free}, NumbersBeside.{above_one, below_five}}
+use Rattle.nntp_facts.proofs.{Base.{◌++◌, ap, ◌∙◌, option_map, if_ok, point_of, rank_of_numbers}, PointsFound.KindsOfPoints.{listed_point, no_numbers_free}}
+use Rattle.nntp_facts.{proofs.PointsFound.NumbersBeside.{above_one, below_five}, specs.Inner.SayingView.{active_said}}
 use Rattle.nntp_facts.proofs.kept.Kept.point_of_active.Goals as goal
 
 pub returns-in-Some : goal.returns-in-Some

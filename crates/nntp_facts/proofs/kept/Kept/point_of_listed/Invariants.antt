@@ -1,6 +1,5 @@
 use Rattle.nntp_facts.proofs.Base.{◌≡◌, ◌++◌, ◌∷◌, [], List, AllByRecursion, active_groups, Bounds, Fact, asks_of, Point, IsKept, NoneBefore, rank_of_numbers}
-use Rattle.nntp_facts.specs.Inner.Points.{IsAbout}
-use Rattle.nntp_theory.specs.Conflict.{rank, ConflictAt}
+use Rattle.nntp_facts.{proofs.Base.{rank, ConflictAt}, specs.Inner.Points.{IsAbout}}
 use Rattle.nntp_facts.proofs.kept.Kept.point_of_listed.Given as goal
 
 -- what is left are bounds of the groups that are listed, and of those before it none is a point

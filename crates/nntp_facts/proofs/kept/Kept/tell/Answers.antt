@@ -1,5 +1,5 @@
-use Rattle.nntp_facts.proofs.Base.{ap, sym, subst, ◌∙◌, refl, profile_of, start, Lists, group_of, said, the_group, if_ok, AreAdded, TellsThere, saying_of}
-use Rattle.nntp_facts.proofs.{Base.{stands_of}, Keeping.ToldAnswers.{there_told, group_refused, answer_told}}
+use Rattle.nntp_facts.proofs.Base.{ap, sym, subst, ◌∙◌, refl, profile_of, start, Lists, group_of, said, the_group, if_ok, saying_of, stands_of}
+use Rattle.nntp_facts.{proofs.Keeping.ToldAnswers.{there_told, group_refused, answer_told}, specs.Inner.{Kept.{AreAdded}, Saying.{TellsThere}}}
 use Rattle.nntp_facts.proofs.kept.Kept.tell.Goals as goal
 
 pub returns-then-not-branch : goal.returns-then-not-branch

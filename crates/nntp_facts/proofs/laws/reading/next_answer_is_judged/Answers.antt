@@ -1,5 +1,4 @@
-use Rattle.nntp_theory.proofs.Reading.JudgedSession.{one_more_in_session, accepted_one_more, index_in_session}
-use Rattle.nntp_facts.proofs.Reading.NotedAsJudged.{due_in_session}
+use Rattle.nntp_facts.proofs.{Base.{one_more_in_session, accepted_one_more, index_in_session}, Reading.NotedAsJudged.{due_in_session}}
 use Rattle.nntp_facts.proofs.laws.reading.next_answer_is_judged.Goals as goal
 
 pub returns : goal.returns

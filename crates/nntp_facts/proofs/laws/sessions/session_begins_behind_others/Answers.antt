@@ -1,5 +1,4 @@
-use Rattle.nntp_theory.{specs.Permitted.{exchanged}, proofs.Given.SessionsByFacts.{permits_alone}}
-use Rattle.nntp_facts.proofs.Keeping.NotedSessions.{session_begins}
+use Rattle.nntp_facts.proofs.{Base.{exchanged, permits_alone}, Keeping.NotedSessions.{session_begins}}
 use Rattle.nntp_facts.proofs.laws.sessions.session_begins_behind_others.Goals as goal
 
 pub returns : goal.returns

@@ -1,5 +1,4 @@
-use Rattle.std.proofs.Common.{arith, sym, subst}
-use Rattle.nntp_facts.{specs.Inner.Kept.{AreKeptNames}, proofs.Keeping.KeptNames.{some_matches, key_text}}
+use Rattle.nntp_facts.proofs.{Base.{arith, sym, subst, AreKeptNames}, Keeping.KeptNames.{some_matches, key_text}}
 use Rattle.nntp_facts.proofs.names.Names.denies.Goals as goal
 
 pub returns : goal.returns

@@ -1,7 +1,4 @@
-use Rattle.std.{proofs.Common.{◌≡◌, sym, refl, subst}, specs.List.{list_any}}
-use Rattle.nntp_article.specs.Session.{Spool.{Name}, Machine.{is_same}}
-use Rattle.nntp_theory.specs.Together.{denies_group}
-use Rattle.nntp_facts.{specs.Inner.Kept.{AreKeptNames}, proofs.Keeping.KeptNames.{name_denied}}
+use Rattle.nntp_facts.proofs.{Base.{◌≡◌, sym, refl, subst, list_any, Name, is_same, denies_group, AreKeptNames}, Keeping.KeptNames.{name_denied}}
 use Rattle.nntp_facts.proofs.names.Names.deny.Goals as goal
 
 pub returns : goal.returns

@@ -1,6 +1,5 @@
-use Rattle.std.{proofs.Common.{◌≡◌, sym, refl, subst, ◌∙◌}, specs.Prelude.{IsTrue, None, Some}}
-use Rattle.nntp_wire.specs.Wildmat.{is_wildmat}
-use Rattle.nntp_facts.{specs.Inner.{Kept.{AreKeptNames}, ListedGroups.{MayList}}, proofs.Keeping.KeptNames.{wildmat_listed, all_listed}}
+use Rattle.nntp_facts.proofs.{Base.{◌≡◌, sym, refl, subst, ◌∙◌, IsTrue, None, Some, is_wildmat, AreKeptNames, MayList}, Keeping.KeptNames.{wildmat_listed}}
+use Rattle.nntp_facts.proofs.Keeping.KeptNames.{all_listed}
 use Rattle.nntp_facts.proofs.names.Names.list.Goals as goal
 
 pub returns-in_ok-insert-in-Some : goal.returns-in_ok-insert-in-Some

@@ -1,5 +1,4 @@
-use Rattle.std.proofs.Common.{sym, subst, arith}
-use Rattle.nntp_facts.{specs.Inner.Kept.{AreKeptNames}, proofs.Keeping.KeptNames.{answered_found}}
+use Rattle.nntp_facts.proofs.{Base.{sym, subst, arith, AreKeptNames}, Keeping.KeptNames.{answered_found}}
 use Rattle.nntp_facts.proofs.names.Names.listed.Goals as goal
 
 pub returns-in-Some : goal.returns-in-Some

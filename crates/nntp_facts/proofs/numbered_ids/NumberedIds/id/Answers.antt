@@ -1,6 +1,4 @@
-use Rattle.std.{specs.{Ordering.{nat_cmp}, Cmp.{nat_cmp_total}, Rc.{rc_str_bytes}}, proofs.Common.{arith}}
-use Rattle.nntp_wire.proofs.ShownMaps.{get-shown}
-use Rattle.nntp_facts.proofs.Keeping.HeldIds.{id_beside}
+use Rattle.nntp_facts.proofs.{Base.{nat_cmp, nat_cmp_total, rc_str_bytes, arith, get-shown}, Keeping.HeldIds.{id_beside}}
 use Rattle.nntp_facts.proofs.numbered_ids.NumberedIds.id.Goals as goal
 
 pub returns-in-Some : goal.returns-in-Some

@@ -1,6 +1,4 @@
-use Rattle.std.{specs.{Ordering.{nat_cmp}, Cmp.Lexicographic.{slice_cmp, nat_list_cmp_total}, Rc.{rc_str_bytes}}, proofs.Common.{arith}}
-use Rattle.nntp_wire.proofs.ShownMaps.{get-shown, option_map_id}
-use Rattle.nntp_facts.proofs.Keeping.HeldIds.{place_beside}
+use Rattle.nntp_facts.proofs.{Base.{nat_cmp, slice_cmp, nat_list_cmp_total, rc_str_bytes, arith, get-shown, option_map_id}, Keeping.HeldIds.{place_beside}}
 use Rattle.nntp_facts.proofs.numbered_ids.NumberedIds.place.Goals as goal
 
 pub returns-in-Some : goal.returns-in-Some

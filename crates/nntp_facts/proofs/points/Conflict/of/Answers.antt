@@ -1,9 +1,6 @@
-use Rattle.std.proofs.Common.{rules, refl, ◌≡◌, ◌<◌, ◌^◌, ◌++◌, ◌∷◌, [], length, map, Some, sym, ap, subst, ◌∙◌, arith, length-append}
-use Rattle.std.proofs.lemmas.{Option.{slice_get-get_or}, List.{length-map, get_or-map}}
-use Rattle.nntp_article.specs.Session.Limit.{profile_of}
-use Rattle.nntp_facts.{specs.{Inner.Points.{AreHeld}, Standing.{stands_of}}, proofs.Keeping.HeldAnswers.{no_places, core_conflicts, held_alone, held_behind}}
-use Rattle.nntp_facts.proofs.Keeping.HeldAnswers.{last_there, others_stand, told_front}
-use Rattle.nntp_theory.{specs.Conflict.{places_of, told_with}, proofs.OkResults.{if_two}}
+use Rattle.nntp_facts.proofs.Base.{rules, refl, ◌≡◌, ◌<◌, ◌^◌, ◌++◌, ◌∷◌, [], length, map, Some, sym, ap, subst, ◌∙◌, arith, length-append, slice_get-get_or}
+use Rattle.nntp_facts.proofs.{Base.{length-map, get_or-map, profile_of, AreHeld, stands_of, places_of, told_with, if_two}, Keeping.HeldAnswers.{no_places}}
+use Rattle.nntp_facts.proofs.Keeping.HeldAnswers.{core_conflicts, held_alone, held_behind, last_there, others_stand, told_front}
 use Rattle.nntp_facts.proofs.points.Conflict.of.Goals as goal
 
 pub returns-in_default : goal.returns-in_default

@@ -1,6 +1,4 @@
-use Rattle.std.proofs.Common.{ap, sym, ◌∙◌}
-use Rattle.nntp_said.specs.Inner.FactView.{fact_of}
-use Rattle.nntp_facts.specs.Inner.{Saying.{saying_with}, SayingView.{saying_of}}
+use Rattle.nntp_facts.{proofs.Base.{ap, sym, ◌∙◌, fact_of, saying_of}, specs.Inner.Saying.{saying_with}}
 use Rattle.nntp_facts.proofs.saying.Saying.add.Goals as goal
 
 pub returns-in-FieldsAre : goal.returns-in-FieldsAre

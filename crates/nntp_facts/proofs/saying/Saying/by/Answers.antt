@@ -1,5 +1,4 @@
-use Rattle.std.proofs.Common.{arith}
-use Rattle.nntp_facts.proofs.Keeping.FactsSaid.{no_first}
+use Rattle.nntp_facts.proofs.{Base.{arith}, Keeping.FactsSaid.{no_first}}
 use Rattle.nntp_facts.proofs.saying.Saying.by.Goals as goal
 
 pub returns : goal.returns

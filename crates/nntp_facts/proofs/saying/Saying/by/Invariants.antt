@@ -1,5 +1,4 @@
-use Rattle.std.proofs.Common.{◌≡◌, length}
-use Rattle.nntp_facts.specs.Inner.{Saying.{nothing, saying_by}, SayingView.{saying_of}}
+use Rattle.nntp_facts.proofs.Base.{◌≡◌, length, nothing, saying_by, saying_of}
 use Rattle.nntp_facts.proofs.saying.Saying.by.Given as goal
 
 -- with the facts that are left, this is what all of them say

@@ -1,5 +1,4 @@
-use Rattle.std.{proofs.Common.{ap, arith}, specs.Prelude.{option_map}}
-use Rattle.nntp_facts.{specs.Inner.SayingView.{saying_of, of_group}, proofs.Keeping.ToldAnswers.{group_said, none_said, selected_spoken}}
+use Rattle.nntp_facts.proofs.{Base.{ap, arith, option_map, saying_of, of_group}, Keeping.ToldAnswers.{group_said, none_said, selected_spoken}}
 use Rattle.nntp_facts.proofs.saying.Saying.group_of.Goals as goal
 
 pub returns-in-Some-default : goal.returns-in-Some-default

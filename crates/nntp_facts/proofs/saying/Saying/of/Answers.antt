@@ -1,7 +1,5 @@
-use Rattle.std.proofs.Common.{Some, ap, refl, subst, sym, ◌∙◌}
-use Rattle.nntp_article.specs.{declared.session.profile.Profile.{Profile}, Session.Machine.{Visible, start}}
-use Rattle.nntp_wire.specs.Inner.{View.{asked}, AnswerView.{response}}
-use Rattle.nntp_facts.{specs.Inner.Saying.{AreListed, nothing, saying_by}, proofs.Keeping.SayingRows.{told_here, lists_said}}
+use Rattle.nntp_facts.proofs.Base.{Some, ap, refl, subst, sym, ◌∙◌, Profile, Visible, start, asked, response, AreListed, nothing, saying_by}
+use Rattle.nntp_facts.proofs.Keeping.SayingRows.{told_here, lists_said}
 use Rattle.nntp_facts.proofs.saying.Saying.of.Goals as goal
 
 pub returns-clause-tells : goal.returns-clause-tells

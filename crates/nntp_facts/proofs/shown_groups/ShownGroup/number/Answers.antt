@@ -1,5 +1,4 @@
-use Rattle.std.proofs.lemmas.Iterator.Consumers.{nth_from_yields_List, YieldsList-from_first}
-use Rattle.nntp_facts.specs.Inner.ReadersView.{number_value}
+use Rattle.nntp_facts.{proofs.Base.{nth_from_yields_List, YieldsList-from_first}, specs.Inner.ReadersView.{number_value}}
 use Rattle.nntp_facts.proofs.shown_groups.ShownGroup.number.Goals as goal
 
 pub returns : goal.returns

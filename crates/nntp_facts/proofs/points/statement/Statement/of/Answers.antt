@@ -1,8 +1,5 @@
-use Rattle.std.proofs.Common.{◌∙◌, sym, subst, ap}
-use Rattle.nntp_article.specs.{Session.Machine.{start}, Inner.Misfit.{numbers_of}}
-use Rattle.nntp_facts.{specs.{Inner.{Saying.{TellsThere}, SayingView.{saying_of}}, Standing.{stands_of}}, proofs.PointsFound.Statements.{there_told_so}}
-use Rattle.nntp_facts.proofs.PointsFound.Statements.{told_alone}
-use Rattle.nntp_theory.specs.Conflict.{said}
+use Rattle.nntp_facts.proofs.{Base.{◌∙◌, sym, subst, ap, start, numbers_of, saying_of, stands_of, said}, PointsFound.Statements.{there_told_so, told_alone}}
+use Rattle.nntp_facts.specs.Inner.Saying.{TellsThere}
 use Rattle.nntp_facts.proofs.points.statement.Statement.of.Goals as goal
 
 pub returns : goal.returns
