@@ -111,10 +111,7 @@ impl<A: Allocator> Articles<A> {
         ensures { MatchOption result (AreSame (Some told.entry) (said_kept (map.get self.now id.now)).fields)
             (λ field. MatchOption (said_kept (map.get self.now id.now)).fields ⊥ (λ before. words_in told.entry field ≢ words_in before field)) }
     {
-        match self.known.get(id) {
-            Some(article) => article.other_field(told),
-            None => None,
-        }
+        self.known.get(id)?.other_field(told)
     }
 
     /// Returns the ids that have articles, in byte order, with what is known of each.
@@ -148,6 +145,7 @@ impl<A: Allocator + Copy> Articles<A> {
     /// Adds what is said of an id, if it may be so. Where what is said of a group is kept already, so
     /// is that an id at a number of it has an article; else the text of an id that has one is handed
     /// back. After an error the articles say nothing of use.
+    #[tactic(auto, using(nntp_theory::proofs::OkResults::if_ok))]
     pub(crate) fn note(
         &mut self,
         joins: Joins,

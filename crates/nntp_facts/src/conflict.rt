@@ -94,14 +94,14 @@ impl<A: Allocator + Copy> Core<A> {
     {
         let mut places = Vec::new(alloc);
         let mut bound = answers.len();
-        while let Some(kept) = keep(alloc, limit, marks, answers, bad, &places)? {
+        while let Some(mut kept) = keep(alloc, limit, marks, answers, bad, &places)? {
             if places.len() == most {
                 return Ok(Core {
                     places,
                     rest: Some(bound),
                 });
             }
-            bound = first_refused(kept, limit, marks, answers, bound)?;
+            bound = search_refused(&mut kept, limit, marks, answers, bound)?;
             places.insert(0, bound)?;
         }
         Ok(Core { places, rest: None })
@@ -109,6 +109,7 @@ impl<A: Allocator + Copy> Core<A> {
 }
 
 /// Keeps what the bad answer and those at the places say, if some spool has it.
+#[tactic(auto, using(crate::proofs::Keeping::CoresFound::kept_where_told))]
 fn keep<A: Allocator + Copy>(
     alloc: A,
     limit: Limit,
@@ -152,29 +153,8 @@ pub(crate) fn tell_all<A: Allocator + Copy>(
 }
 
 /// Finds the first answer that doesn't stand with what is kept and the answers before it. It is
-/// one of those below the bound, since all of these don't stand with it.
-fn first_refused<A: Allocator + Copy>(
-    mut kept: Kept<A>,
-    limit: Limit,
-    marks: Marks,
-    answers: &[Placed<'_>],
-    bound: usize,
-) -> Result<usize, AllocError>
-    requires { 0 < bound }
-    ensures below { IfOk result (λ place. place < bound) }
-    ensures found { IfOk result (λ place. (bad : PlacedValue) (places : List ℕ)
-        → AllByRecursion (FitsThere (profile_of limit marks)) (bad ∷ map stands_of answers.now)
-        → AreToldWith (profile_of limit marks) bad (map stands_of answers.now) places kept → bound ≤ length (map stands_of answers.now)
-        → length (map stands_of answers.now) < 2 ^ 64
-        → IsPartOfCore (profile_of limit marks) bad (map stands_of answers.now) bound places
-        → IsPartOfCore (profile_of limit marks) bad (map stands_of answers.now) place (place ∷ places)) }
-{
-    // The search has several ends, and would drop what is kept at each.
-    search_refused(&mut kept, limit, marks, answers, bound)
-}
-
-/// Finds the first answer that doesn't stand with what is kept and the answers before it, as
-/// [`first_refused`] does. What is kept says nothing of use then.
+/// one of those below the bound, since all of these don't stand with it. What is kept says
+/// nothing of use then.
 fn search_refused<A: Allocator + Copy>(
     kept: &mut Kept<A>,
     limit: Limit,

@@ -209,10 +209,7 @@ impl<A: Allocator> Details<A> {
     pub(crate) fn id(&self, number: u64) -> Option<&str>
         ensures { option_copied result ≡ get self.now.ids number }
     {
-        match self.id_text(number) {
-            Some(id) => Some(id.as_str()),
-            None => None,
-        }
+        Some(self.id_text(number)?.as_str())
     }
 
     /// Returns the text of the id at the number, if one is shown.

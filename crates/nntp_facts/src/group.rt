@@ -142,13 +142,11 @@ impl<A: Allocator> Group<A> {
     pub(crate) fn shown(&self) -> Option<AscendingNumbers<'_>>
         ensures { MatchOption result (self.now.numbers.shown ≡ []) (λ shown. shown ≡ self.now.numbers.shown) }
     {
-        match self.details() {
-            Some(details) => Some(details.shown()),
-            None => None,
-        }
+        Some(self.details()?.shown())
     }
 
     /// Returns the id at the number, if one is shown.
+    #[tactic(auto, using(crate::proofs::Keeping::MarksAlone::none_identified))]
     pub(crate) fn id(&self, number: u64) -> Option<&str>
         ensures { option_copied result ≡ get self.now.ids number }
     {
@@ -156,6 +154,7 @@ impl<A: Allocator> Group<A> {
     }
 
     /// Returns the text of the id at the number, if one is shown.
+    #[tactic(auto, using(crate::proofs::Keeping::MarksAlone::none_identified))]
     pub(crate) fn id_text(&self, number: u64) -> Option<&RcStr<A>>
         ensures { option_map (λ id. rc_str_bytes id.now) result ≡ get self.now.ids number }
     {
@@ -163,6 +162,7 @@ impl<A: Allocator> Group<A> {
     }
 
     /// Returns the number of the id, if one is shown.
+    #[tactic(auto, using(crate::proofs::Keeping::MarksAlone::none_placed))]
     pub(crate) fn place(&self, id: &str) -> Option<u64>
         ensures { result ≡ get self.now.places id.now }
     {

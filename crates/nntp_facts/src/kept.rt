@@ -74,6 +74,7 @@ impl<A: Allocator + Copy> Kept<A> {
     /// Adds what an answer says, if it stands together with all before, and tells whether it does. If not,
     /// the value stays as it was. After an error it says nothing of use. `listed` is what the answer
     /// lists.
+    #[tactic(auto, using(crate::proofs::Keeping::NotedParts::lists_none, crate::proofs::Keeping::NotedParts::list_added))]
     pub(crate) fn note(
         &mut self,
         saying: &Saying<'_>,

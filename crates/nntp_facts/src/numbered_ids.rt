@@ -80,6 +80,7 @@ impl<A: Allocator> NumberedIds<A> {
     }
 
     /// Returns the id at the number, if there is one.
+    #[tactic(auto, using(crate::proofs::Keeping::HeldIds::id_beside))]
     pub(crate) fn id(&self, number: u64) -> Option<&RcStr<A>>
         ensures { option_map (λ id. rc_str_bytes id.now) result ≡ get self.now.0 number }
     {
@@ -93,6 +94,7 @@ impl<A: Allocator> NumberedIds<A> {
     }
 
     /// Returns the number of the id, if it has one.
+    #[tactic(auto, using(crate::proofs::Keeping::HeldIds::place_beside))]
     pub(crate) fn place(&self, id: &str) -> Option<u64>
         ensures { result ≡ get self.now.1 id.now }
     {

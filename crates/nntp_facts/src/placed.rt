@@ -29,10 +29,7 @@ impl<'a> Placed<'a> {
     pub(crate) fn selected(&self) -> Option<&GroupName<'a>>
         ensures { option_map (λ name. name.now) result ≡ (stands_of self.now).selected }
     {
-        match &self.standing.selected {
-            Some(name) => Some(name),
-            None => None,
-        }
+        self.standing.selected.as_ref()
     }
 
     /// Returns the octets of the name of the selected group, or none if no group is selected.

@@ -178,6 +178,7 @@ impl<'s> Saying<'s> {
 
     /// Returns what the facts say that are left, and goes past them; `shown` are the numbers that their
     /// answer shows.
+    #[tactic(auto, using(crate::proofs::Keeping::FactsSaid::no_first))]
     pub(crate) fn by(facts: &mut SaidFacts<'s>, shown: &'s [u64]) -> Saying<'s>
         ensures { saying_of result ≡ saying_by shown.now nothing facts.old }
     {

@@ -105,9 +105,7 @@ impl<'a, A: Allocator> Iterator for ShownGroups<'a, A> {
     ghost remaining = { item_count (λ groups. groups) };
 
     fn next(&mut self) -> Option<ShownGroup<'a, A>> {
-        match self.rest.next() {
-            Some((name, group)) => Some(ShownGroup::new(name.as_slice(), group)),
-            None => None,
-        }
+        let (name, group) = self.rest.next()?;
+        Some(ShownGroup::new(name.as_slice(), group))
     }
 }

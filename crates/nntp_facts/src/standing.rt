@@ -96,8 +96,5 @@ fn mover(before: Position, after: Position, old: u64, this: u64) -> u64
 fn copied<'a>(name: &Option<GroupName<'a>>) -> Option<GroupName<'a>>
     ensures { result ≡ name.now }
 {
-    match name {
-        Some(name) => Some(name.copy()),
-        None => None,
-    }
+    Some(name.as_ref()?.copy())
 }

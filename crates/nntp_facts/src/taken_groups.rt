@@ -65,9 +65,7 @@ impl<A: Allocator> Iterator for TakenGroups<A> {
     ghost remaining = { item_count (λ groups. groups) };
 
     fn next(&mut self) -> Option<TakenGroup<A>> {
-        match self.rest.next() {
-            Some((name, group)) => Some(TakenGroup { name, group }),
-            None => None,
-        }
+        let (name, group) = self.rest.next()?;
+        Some(TakenGroup { name, group })
     }
 }

@@ -50,8 +50,6 @@ flip_number k n = grind arith
 pub flip_text : (i id : Id) → eq_by_cmp (slice_cmp nat_cmp) i id ≡ is_same id i
 flip_text i id = sym (texts_ties i id) ∙ nat_list_eq_equiv.symm i id
 
--- ---- facts that say nothing of groups
-
 -- ---- ids at numbers
 
 -- the facts give no id at a number

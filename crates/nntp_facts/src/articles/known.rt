@@ -135,10 +135,7 @@ impl<A: Allocator> KnownArticle<A> {
         ensures { MatchOption result (AreSame (Some told.entry) (known_article self.now).fields)
             (λ field. MatchOption (known_article self.now).fields ⊥ (λ before. words_in told.entry field ≢ words_in before field)) }
     {
-        match self.fields() {
-            Some(before) => told.first_difference(before),
-            None => None,
-        }
+        told.first_difference(self.fields()?)
     }
 
     /// Tells whether these parts may be sent of the article.

@@ -73,9 +73,7 @@ impl<A: Allocator> Iterator for TakenArticles<A> {
     ghost remaining = { item_count (λ articles. articles) };
 
     fn next(&mut self) -> Option<TakenArticle<A>> {
-        match self.rest.next() {
-            Some((id, article)) => Some(TakenArticle { id, article }),
-            None => None,
-        }
+        let (id, article) = self.rest.next()?;
+        Some(TakenArticle { id, article })
     }
 }

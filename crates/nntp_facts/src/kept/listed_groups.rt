@@ -46,6 +46,7 @@ impl<A: Allocator + Copy> Kept<A> {
 
     /// Returns how many groups are shown and match: as many as were listed for the wildmat, if that
     /// was answered.
+    #[tactic(auto, using(crate::proofs::Keeping::CountedGroups::were_asked))]
     fn count_asked(&self, wildmat: &Option<Wildmat<'_>>) -> usize
         ensures { (facts : List Fact) → IsKept facts self.now → Together facts → result ≡ asked_count self.now.groups wildmat.now }
     {

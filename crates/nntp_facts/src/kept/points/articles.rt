@@ -51,22 +51,16 @@ impl<A: Allocator> Kept<A> {
     fn shown_article<'s>(&self, id: &'s [u8]) -> Option<Point<'s>>
         ensures { option_map point_of result ≡ (if is_there (get self.now.articles id.now) then Some (Article id.now) else None) }
     {
-        if self.articles.has_octets(id) {
-            Some(Point::Article(id))
-        } else {
-            None
-        }
+        self.articles.has_octets(id).then_some(Point::Article(id))
     }
 
     /// Returns the id, if it is kept that it has no article.
     fn lacked_article<'s>(&self, id: &'s str) -> Option<Point<'s>>
         ensures { option_map point_of result ≡ (if option_map_or (λ a. a.is_denied) (get self.now.articles id.now) false then Some (Article id.now) else None) }
     {
-        if self.articles.is_denied(id) {
-            Some(Point::Article(id.as_bytes()))
-        } else {
-            None
-        }
+        self.articles
+            .is_denied(id)
+            .then_some(Point::Article(id.as_bytes()))
     }
 
     /// Returns the id, if another head of its article is kept than the one that is sent.
@@ -75,11 +69,7 @@ impl<A: Allocator> Kept<A> {
             → MatchOption (option_map point_of result) (AreSame sent.now.head (first_given (head_in id.now) facts))
             (λ point. (point ≡ HeadOf id.now) × (AreSame sent.now.head (first_given (head_in id.now) facts) → ⊥)) }
     {
-        if self.articles.may_have_head(id, sent) {
-            None
-        } else {
-            Some(Point::HeadOf(id.as_bytes()))
-        }
+        (!self.articles.may_have_head(id, sent)).then_some(Point::HeadOf(id.as_bytes()))
     }
 
     /// Returns the id of which the answer sends a head, if another one is kept.
@@ -104,11 +94,7 @@ impl<A: Allocator> Kept<A> {
             → MatchOption (option_map point_of result) (AreSame sent.now.body (first_given (body_in id.now) facts))
             (λ point. (point ≡ BodyOf id.now) × (AreSame sent.now.body (first_given (body_in id.now) facts) → ⊥)) }
     {
-        if self.articles.may_have_body(id, sent) {
-            None
-        } else {
-            Some(Point::BodyOf(id.as_bytes()))
-        }
+        (!self.articles.may_have_body(id, sent)).then_some(Point::BodyOf(id.as_bytes()))
     }
 
     /// Returns the id of which the answer sends a body, if another one is kept.

@@ -35,6 +35,7 @@ impl<A: Allocator> Kept<A> {
     }
 
     /// Returns the first id of an overview that tells other words of a header than are kept, and the first such header.
+    #[tactic(auto, using(crate::proofs::PointsFound::FieldsBeside::at_found, crate::proofs::PointsFound::FieldsBeside::past_found))]
     fn other_listed_field<'s>(&self, block: &Block<'s>) -> Option<Point<'s>>
         ensures { IsFieldAmong self.now (overviews_of block.now) (option_map point_of result) }
     {
@@ -52,10 +53,7 @@ impl<A: Allocator> Kept<A> {
     fn other_field_sent<'s>(&self, id: &'s str, sent: &Sent<'_>) -> Option<Point<'s>>
         ensures { IsFieldOf self.now id.now (option_map fields_of_head sent.now.head) (option_map point_of result) }
     {
-        match &sent.head {
-            Some(head) => self.other_field_told(id, Some(Fields::of_head(head))),
-            None => None,
-        }
+        self.other_field_told(id, Some(Fields::of_head(sent.head.as_ref()?)))
     }
 
     /// Returns the id, if other words of a header are kept than are told, and the first such header.

@@ -50,15 +50,11 @@ impl<A: Allocator> Kept<A> {
             → MatchOption result (IfSome (option_map (λ name. name.now) group.entry) (λ name. IsFalse (list_any (denies_group name) facts)))
             (λ name. (option_map (λ name. name.now) group.entry ≡ Some name) × IsTrue (list_any (denies_group name) facts)) }
     {
-        match group {
-            Some(name) => {
-                if self.may_be(name) {
-                    None
-                } else {
-                    Some(name.copy())
-                }
-            }
-            None => None,
+        let name = group?;
+        if self.may_be(name) {
+            None
+        } else {
+            Some(name.copy())
         }
     }
 
@@ -74,12 +70,10 @@ impl<A: Allocator> Kept<A> {
             (λ name. (option_map (λ name. name.now) missing.entry ≡ Some name)
             × (IsTrue (is_shown_group facts name) ⊎ (option_map (λ name. name.now) group.entry ≡ Some name))) }
     {
-        match missing {
-            Some(missing) => match named(group, missing) {
-                Some(name) => Some(name),
-                None => self.shown_named(missing),
-            },
-            None => None,
+        let missing = missing?;
+        match named(group, missing) {
+            Some(name) => Some(name),
+            None => self.shown_named(missing),
         }
     }
 
@@ -89,11 +83,7 @@ impl<A: Allocator> Kept<A> {
             → MatchOption result (IsFalse (is_shown_group facts name.now)) (λ group. (name.now ≡ group) × IsTrue (is_shown_group facts group)) }
     {
         let group = GroupName::parse(name)?;
-        if self.groups.is_shown(name) {
-            Some(group)
-        } else {
-            None
-        }
+        self.groups.is_shown(name).then_some(group)
     }
 }
 
@@ -134,24 +124,13 @@ fn named<'s>(group: Option<&GroupName<'s>>, name: &[u8]) -> Option<GroupName<'s>
     ensures { MatchOption result (option_map (λ name. name.now) group.entry ≡ Some name.now → ⊥) (λ found. (name.now ≡ found)
         × (option_map (λ name. name.now) group.entry ≡ Some found)) }
 {
-    match group {
-        Some(group) => {
-            if group.as_slice() == name {
-                Some(group.copy())
-            } else {
-                None
-            }
-        }
-        None => None,
-    }
+    let group = group?;
+    (group.as_slice() == name).then_some(group.copy())
 }
 
 /// Returns the point of a group.
 fn point(group: Option<GroupName<'_>>) -> Option<Point<'_>>
     ensures { option_map point_of result ≡ option_map Group group.entry }
 {
-    match group {
-        Some(name) => Some(Point::Group(name)),
-        None => None,
-    }
+    Some(Point::Group(group?))
 }

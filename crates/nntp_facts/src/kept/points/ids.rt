@@ -50,11 +50,7 @@ impl<A: Allocator> Kept<A> {
         ensures { (tells : Name → Told) → AreKept tells self.now.groups
             → option_map point_of result ≡ other_id_at (tells name.now).ids name.now (number, id.now) }
     {
-        if self.groups.may_have(name, number, id) {
-            None
-        } else {
-            Some(Point::IdOf { name, number })
-        }
+        (!self.groups.may_have(name, number, id)).then_some(Point::IdOf { name, number })
     }
 
     /// Returns the first id that the answer shows, and that is kept at another number.

@@ -136,14 +136,13 @@ fn point_in<'s, A: Allocator>(
 }
 
 /// Returns a known number of the group that is denied.
+#[tactic(auto, using(crate::proofs::PointsFound::NumbersBeside::number_free))]
 fn denied<'s, A: Allocator>(name: &'s [u8], numbers: &Numbers<A>) -> Option<Point<'s>>
     ensures { (all : List Fact) → IsSummary numbers.now (asks_of name.now all) → AreBounded (asks_of name.now all)
         → IsPointIn all name.now 2 (option_map point_of result) }
 {
-    match numbers.denied_known() {
-        Some(number) => Some(Point::Number { name, number }),
-        None => None,
-    }
+    let number = numbers.denied_known()?;
+    Some(Point::Number { name, number })
 }
 
 /// Returns the group, if more numbers are given than is estimated.

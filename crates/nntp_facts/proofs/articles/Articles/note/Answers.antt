@@ -18,12 +18,6 @@ returns-in_ok-note_lack-in-Lacks-clause-added g c facts kept may already =
     subst (λ p. IsArticleAdded facts (Some (article_said p)) c.args.self.now c.note_lack.new.self (is_added c.unnamed_if.result)) (sym c.in-Lacks.is)
     (subst (λ does. IsArticleAdded facts (Some (c.in-Lacks.id.now, Lacks)) c.args.self.now c.note_lack.new.self does) (sym c.unnamed_if.ensures.added) (c.in_ok-note_lack-in-Lacks.ensures facts kept))
 
-pub returns-in-Exists-clause-text : goal.returns-in-Exists-clause-text
-returns-in-Exists-clause-text g c = grind (arith, if_ok)
-
-pub returns-in-Sends-clause-text : goal.returns-in-Sends-clause-text
-returns-in-Sends-clause-text g c = grind (arith, if_ok)
-
 pub returns-in-Describes-clause-added : goal.returns-in-Describes-clause-added
 returns-in-Describes-clause-added g c =
     if_ok c.note_told.result (λ added adds facts kept may already. grind (arith, adds facts c.in-Describes.id.now kept)) c.note_told.ensures.added

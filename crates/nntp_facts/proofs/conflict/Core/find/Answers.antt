@@ -19,8 +19,8 @@ returns-then-len-most-clause-found g c =
     let told = kept_told _ _ _ c.in_ok-kept.field-0 c.in-Some.kept c.deref.result.now _ c.in-Some.is c.deref.ensures.value (c.in_ok-kept.ensures fit) in
     end_found _ _ _ fit.0 fit.1 _ _ now.1 short now.0 (alone _ _ _ fit.0 fit.1 _ _ now.1 short now.0 c.in-Some.kept told)
 
-pub first_refused-requires : goal.first_refused-requires
-first_refused-requires g c =
+pub search_refused-requires : goal.search_refused-requires
+search_refused-requires g c =
     let fit = c.requires.fit in
     let now = c.loop-places.invariant in
     let told = kept_told _ _ _ c.in_ok-kept.field-0 c.in-Some.kept c.deref.result.now _ c.in-Some.is c.deref.ensures.value (c.in_ok-kept.ensures fit) in

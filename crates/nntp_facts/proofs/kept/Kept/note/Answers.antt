@@ -1,12 +1,6 @@
 use Rattle.nntp_facts.proofs.{Base.{arith, IfOk-weaker, of_group, saying_of}, Keeping.NotedParts.{list_added, lists_none, overviews_added}}
 use Rattle.nntp_facts.proofs.kept.Kept.note.Goals as goal
 
-pub returns-in-None-None : goal.returns-in-None-None
-returns-in-None-None g c = grind (arith, lists_none)
-
-pub returns-in-Some-default : goal.returns-in-Some-default
-returns-in-Some-default g c = grind (arith, list_added)
-
 pub returns-in-None-Some : goal.returns-in-None-Some
 returns-in-None-Some g c =
     IfOk-weaker c.note_overviews.result _ _ (λ does adds listed facts more kept together formed t.

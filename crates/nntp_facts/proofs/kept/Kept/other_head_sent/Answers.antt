@@ -1,8 +1,5 @@
 use Rattle.nntp_facts.proofs.Base.{sym, subst, arith, IsKept}
 use Rattle.nntp_facts.proofs.kept.Kept.other_head_sent.Goals as goal
 
-pub returns-then-may_have_head : goal.returns-then-may_have_head
-returns-then-may_have_head g c facts kept = grind (arith, c.may_have_head.ensures facts (subst (IsKept facts) (sym c.self.view_is) kept).articles)
-
-pub returns-else-may_have_head : goal.returns-else-may_have_head
-returns-else-may_have_head g c facts kept = grind (arith, c.may_have_head.ensures facts (subst (IsKept facts) (sym c.self.view_is) kept).articles)
+pub returns : goal.returns
+returns g c facts kept = grind (arith, c.may_have_head.ensures facts (subst (IsKept facts) (sym c.self.view_is) kept).articles)

@@ -8,10 +8,7 @@ returns-in_err-group g c facts kept together =
     subst (λ o. MatchOption o (IsFalse (is_shown_group facts name)) (λ group. (name ≡ group) × IsTrue (is_shown_group facts group))) (sym c.from_residual.ensures)
     (grind (arith, cases_Bool, subst (λ o. SomeIff o (IsGroupName name) name) c.in_err-group.was c.parse.ensures, shown_named facts name together.well_formed))
 
-pub returns-then-is_shown : goal.returns-then-is_shown
-returns-then-is_shown g c facts kept together =
+pub returns : goal.returns
+returns g c facts kept together =
     let name = c.args.name.now in
     grind (arith, c.is_shown.ensures (told facts) (subst (IsKept facts) (sym c.self.view_is) kept).groups, subst (λ o. SomeIff o (IsGroupName name) name) c.in_ok-group.was c.parse.ensures)
-
-pub returns-else-is_shown : goal.returns-else-is_shown
-returns-else-is_shown g c facts kept together = sym (c.is_shown.ensures (told facts) (subst (IsKept facts) (sym c.self.view_is) kept).groups) ∙ c.if-is_shown.false

@@ -1,11 +1,5 @@
 use Rattle.nntp_facts.proofs.{Base.{nat_cmp, slice_cmp, nat_list_cmp_total, rc_str_bytes, arith, get-shown, option_map_id}, Keeping.HeldIds.{place_beside}}
 use Rattle.nntp_facts.proofs.numbered_ids.NumberedIds.place.Goals as goal
 
-pub returns-in-Some : goal.returns-in-Some
-returns-in-Some g c = grind (arith, place_beside)
-
-pub returns-in-Some-number_of : goal.returns-in-Some-number_of
-returns-in-Some-number_of g c = grind (arith, place_beside)
-
 pub returns : goal.returns
 returns g c = grind (arith, place_beside, option_map_id, get-shown (slice_cmp nat_cmp) (λ k. rc_str_bytes k) (λ v. v) nat_list_cmp_total c.self.inside.places.entries c.args.id.now)
