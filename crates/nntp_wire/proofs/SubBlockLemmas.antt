@@ -1,6 +1,6 @@
 -- The first lines of a block, and those behind them.
-use Rattle.std.proofs.Common.{◌≡◌, ◌↔◌, ℕ, zero, suc, ◌+◌, ◌-◌, ◌≤◌, List, [], ◌∷◌, ◌++◌, length, take, drop, refl, sym, ◌∙◌, ap, arith, append_assoc}
-use Rattle.std.proofs.{Common.{append-nil, length-append, IsTrue}, lemmas.List.{take_at, drop_at, take_all, drop_all}}
+use Rattle.std.proofs.Common.{◌≡◌, ◌↔◌, ℕ, zero, suc, ◌+◌, ◌-◌, ◌≤◌, List, [], ◌∷◌, ◌++◌, length, take, drop, refl, sym, ◌∙◌, ap, arith, append_assoc, Bool}
+use Rattle.std.proofs.{Common.{true, false, if◌then◌else◌, subst, append-nil, length-append, IsTrue}, lemmas.List.{take_at, drop_at, take_all, drop_all}}
 use Rattle.nntp_wire.specs.{Octets.{crlf, is_clean}, Lines.{HasNoCrlf}, Block.{stuffed, sent, AreClean}, Inner.Block.{received, Sends, IsSent}}
 use Rattle.nntp_wire.proofs.{FrameLemmas.{one_line, occurs-behind}, SpellLemmas.{stuffed-line}, BlockLemmas.{received-sent, sends-received}}
 
@@ -11,6 +11,15 @@ clean-append (x ∷ xs) ys a b = (a.0, clean-append xs ys a.1 b)
 pub sent-append : (xs ys : List (List ℕ)) → sent (xs ++ ys) ≡ sent xs ++ sent ys
 sent-append [] ys = refl
 sent-append (x ∷ xs) ys = ap (λ t. (stuffed x ++ crlf) ++ t) (sent-append xs ys) ∙ sym (append_assoc (stuffed x ++ crlf) (sent xs) (sent ys))
+
+-- octets that send lines, and behind them octets that send more lines
+pub sends-append : (bytes more : List ℕ) (lines others : List (List ℕ)) → Sends bytes lines → Sends more others → Sends (bytes ++ more) (lines ++ others)
+sends-append bytes more lines others s m = grind (arith, clean-append, sent-append)
+
+-- octets that send lines, to which octets that send lines were added, if they were
+pub sends-extended : (old more new : List ℕ) (ok : Bool) → Sends old (received old) → Sends more (received more) → new ≡ (if ok then old ++ more else old) → Sends new (received new)
+sends-extended old more new true s m e = sends-received new (_, subst (λ t. Sends t (received old ++ received more)) (sym e) (sends-append old more _ _ s m))
+sends-extended old more new false s m e = subst (λ t. Sends t (received t)) (sym e) s
 
 -- these lines were passed over, and those are left
 pub record Passed (k : ℕ) (bytes rest : List ℕ) : Type 0 where

@@ -12,3 +12,4 @@ pub mod AnswerView
 pub mod Session
 pub mod Held
 pub mod Misspelling
+pub mod Words

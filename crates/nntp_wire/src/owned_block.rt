@@ -58,6 +58,31 @@ impl<A: Allocator + Copy> OwnedBlock<A> {
         }
     }
 
+    /// Creates a block of no lines, with memory for so many octets as they are sent.
+    ///
+    /// # Errors
+    ///
+    /// [`AllocError`], if memory is refused.
+    pub fn with_capacity(alloc: A, octets: usize) -> Result<OwnedBlock<A>, AllocError>
+        ensures { IfOk result (λ block. block ≡ []) }
+    {
+        Ok(OwnedBlock {
+            sent: Vec::with_capacity(alloc, octets)?,
+        })
+    }
+
+    /// Adds the lines of another block behind the others.
+    ///
+    /// # Errors
+    ///
+    /// [`AllocError`], if memory is refused. The block stays as it was.
+    pub fn extend(&mut self, block: &Block<'_>) -> Result<(), AllocError>
+        ensures ok { OnOk result (self.new ≡ self.old ++ block.now) }
+        ensures err { OnErr result (self.new ≡ self.old) }
+    {
+        self.sent.extend_from_slice(block.sent)
+    }
+
     /// Adds a line behind the others. It has neither NUL, CR nor LF.
     ///
     /// # Errors

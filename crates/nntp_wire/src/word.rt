@@ -1,7 +1,9 @@
 //! The words of a line (RFC 3977, section 3.1).
-ghost use Rattle.std.specs.Prelude.{◌≡◌, ◌<◌, List, [], ◌∷◌, ℕ, length, slice_index, false, MatchOption};
+ghost use Rattle.std.specs.Prelude.{◌≡◌, ◌<◌, List, [], ◌∷◌, ℕ, length, slice_index, true, false, IfSome, MatchOption};
+ghost use Rattle.std.specs.List.{flat_map};
 ghost use Rattle.std.specs.Iterator.{YieldsFirstRef, item_count};
-ghost use Rattle.nntp_wire.specs.Octets.{is_blank};
+ghost use Rattle.nntp_wire.specs.Inner.Words.{are_joined};
+ghost use Rattle.nntp_wire.specs.Octets.{is_blank, space};
 ghost use Rattle.nntp_wire.specs.Words.{words_of};
 
 use memchr::memchr2;
@@ -28,6 +30,17 @@ impl<'a> Words<'a> {
         Words { rest: line }
     }
 
+    /// Returns the octets of all words, if they stand with one SP between each two and nothing behind the last.
+    pub fn joined(&self) -> Option<&'a [u8]>
+        ensures { IfSome result (λ text. flat_map (λ w. space ∷ w) self.now ≡ space ∷ text.now) }
+    {
+        if are_joined(self.rest) {
+            Some(self.rest)
+        } else {
+            None
+        }
+    }
+
     /// Returns the same words once more.
     pub fn copy(&self) -> Words<'a>
         ensures { result ≡ self.now }
@@ -51,6 +64,20 @@ impl<'a> Iterator for Words<'a> {
         self.rest = rest;
         Some(word)
     }
+}
+
+/// Tells whether the octets are words with one SP between each two, and nothing in front of the first or behind the last.
+fn are_joined(text: &[u8]) -> bool
+    ensures { result ≡ are_joined true text.now }
+{
+    let mut is_behind_blank = true;
+    for octet in text {
+        if *octet == b'\t' || (*octet == b' ' && is_behind_blank) {
+            return false;
+        }
+        is_behind_blank = *octet == b' ';
+    }
+    !is_behind_blank
 }
 
 /// Returns the first word, and the octets behind it.

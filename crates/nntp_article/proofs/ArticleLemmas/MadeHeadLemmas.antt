@@ -1,25 +1,16 @@
 -- The line of a header as it is written, word by word.
-use Rattle.std.proofs.Common.{◌≡◌, ℕ, true, List, [], ◌∷◌, ◌++◌, Option, Some, length, refl, sym, ◌∙◌, ap, arith, append_assoc, append-nil}
-use Rattle.std.{proofs.lemmas.{Bool.{and_parts, and_from}, List.Folds.{list_all-append}}, specs.{Prelude.{not, ◌&&◌, nat_le, codes, IfSome}, List.{list_all}}}
-use Rattle.std.specs.List.{flat_map}
-use Rattle.nntp_wire.specs.{Decided.{is_id_octet, begins_id}, Name.{IsMessageId}, Octets.{is_clean, is_line_breaking, space}, Listing.{Fields}}
-use Rattle.nntp_wire.proofs.DecidedLemmas.{message_id-iff}
-use Rattle.nntp_article.specs.{Article.Fields.{Word, name_of_field}, Inner.Fields.{is_word, AreWords}, Session.Spool.{is_line}}
-use Rattle.nntp_article.specs.declared.article.field.Field.{Field, TheVariants.{Subject, From, Date, References}}
+use Rattle.std.proofs.{Common.{◌≡◌, ℕ, true, List, [], ◌∷◌, ◌++◌, length, refl, ◌∙◌, ap, arith, append_assoc}, lemmas.Bool.{and_parts, and_from}}
+use Rattle.std.{proofs.lemmas.List.Folds.{list_all-append}, specs.{Prelude.{not, ◌&&◌, nat_le, codes}, List.{list_all}}}
+use Rattle.nntp_wire.{specs.{Decided.{is_id_octet, begins_id}, Name.{IsMessageId}, Octets.{is_clean, is_line_breaking}}, proofs.DecidedLemmas.{message_id-iff}}
+use Rattle.nntp_wire.proofs.JoinedWords.{spaced}
+use Rattle.nntp_article.specs.{Article.Fields.{Word, name_of_field}, Inner.Fields.{is_word}, Session.Spool.{is_line}, declared.article.field.Field.{Field}}
+use Rattle.nntp_article.specs.declared.article.field.Field.TheVariants.{Subject, From, Date, References}
 
--- each word behind a space
-abbrev pub spaced : List Word → List ℕ
-spaced words = flat_map (λ w. space ∷ w) words
-
--- what stands in front of them
+-- what stands in front of the words
 abbrev pub start : Field → List ℕ
 start field = name_of_field field ++ 58 ∷ []
 
--- the first word is written
-pub first_written : (name : List ℕ) (word : Word) (words : List Word) → ((name ++ 58 ∷ 32 ∷ []) ++ word) ++ spaced words ≡ (name ++ 58 ∷ []) ++ spaced (word ∷ words)
-first_written name word words = grind (arith, append_assoc)
-
--- one more is
+-- one more word is written
 pub word_written : (line : List ℕ) (word : Word) (words : List Word) → ((line ++ 32 ∷ []) ++ word) ++ spaced words ≡ line ++ spaced (word ∷ words)
 word_written line word words = grind (arith, append_assoc)
 
@@ -38,9 +29,9 @@ start_clean Date = refl
 start_clean References = refl
 
 -- the line holds no NUL, CR or LF
-pub line_clean : (field : Field) (words : List Word) (line : List ℕ) → list_all is_word words ≡ true → line ++ [] ≡ start field ++ spaced words → is_clean line ≡ true
+pub line_clean : (field : Field) (words : List Word) (line : List ℕ) → list_all is_word words ≡ true → line ≡ start field ++ spaced words → is_clean line ≡ true
 line_clean field words line h e =
-    ap is_clean (sym (append-nil line) ∙ e) ∙ list_all-append (λ b. not (is_line_breaking b)) (start field) (spaced words)
+    ap is_clean e ∙ list_all-append (λ b. not (is_line_breaking b)) (start field) (spaced words)
     ∙ and_from _ _ (start_clean field) (spaced_clean words h)
 
 -- ---- the line of an id

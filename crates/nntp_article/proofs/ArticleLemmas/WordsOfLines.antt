@@ -7,9 +7,9 @@ use Rattle.nntp_wire.specs.{Octets.{is_blank, is_clean, tab}, Inner.Octets.{are_
 use Rattle.nntp_wire.specs.Listing.{OverviewValue, overview_by, overview_of, overview_of_fields, overviews_of, first_words, fields_of, number_alone, id_alone}
 use Rattle.nntp_wire.specs.{Listing.{listed_id_of, listed_id_of_fields, listed_id_of_words, listed_overview_of, id_of}, Number.{number_of}}
 use Rattle.nntp_wire.proofs.ListingLemmas.{of_either}
-use Rattle.nntp_article.specs.Article.{Parts.{Line, Header, is_colon, with_line, headers, is_named}, Fields.{Word, words_in, words_of_header, words_named}}
+use Rattle.nntp_article.specs.Article.{Parts.{Line, Header, is_colon, with_line, headers, is_named}, Fields.{Word, words_of_header, words_named}}
 use Rattle.nntp_article.specs.{Article.Fields.{fields_of_head}, Inner.Fields.{is_word, AreWords, TellsWords}, Session.Spool.{is_line}}
-use Rattle.nntp_article.{specs.declared.article.field.Field.{Field, TheVariants.{Subject, From, Date, References}}, proofs.ArticleLemmas.IdLemmas.{is_solid}}
+use Rattle.nntp_article.{specs.declared.article.field.Field.TheVariants.{Subject, From, Date, References}, proofs.ArticleLemmas.IdLemmas.{is_solid}}
 
 -- ---- the words of a line
 

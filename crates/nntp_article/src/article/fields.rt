@@ -1,7 +1,9 @@
 //! What heads and overviews tell of four headers (RFC 3977, section 8.3.2).
-ghost use Rattle.std.specs.Prelude.{◌≡◌, ◌≢◌, ◌↔◌, IsTrue, MatchOption};
+ghost use Rattle.std.specs.Prelude.{◌≡◌, ◌≢◌, ◌↔◌, ◌∷◌, IsTrue, IfSome, MatchOption};
+ghost use Rattle.std.specs.List.{flat_map};
 ghost use Rattle.std.specs.Iterator.{YieldsFirstRef, item_count};
 ghost use Rattle.nntp_wire.specs.Inner.View.{overview_value};
+ghost use Rattle.nntp_wire.specs.Octets.{space};
 ghost use Rattle.nntp_article.specs.Article.Parts.{headers};
 ghost use Rattle.nntp_article.specs.Article.Fields.{name_of_field, words_in, words_named, fields_of_head};
 
@@ -52,6 +54,16 @@ impl<'a> FieldWords<'a> {
         ensures { result ≡ words.entry }
     {
         FieldWords { words, lines: None }
+    }
+
+    /// Returns the octets of all words, if they stand in one line with one SP between each two and nothing behind the last.
+    pub(crate) fn joined(&self) -> Option<&'a [u8]>
+        ensures { IfSome result (λ text. flat_map (λ w. space ∷ w) self.now ≡ space ∷ text.now) }
+    {
+        match self.lines {
+            Some(_) => None,
+            None => self.words.joined(),
+        }
     }
 
     /// Whether the others are the same words, in the same order, octet by octet.

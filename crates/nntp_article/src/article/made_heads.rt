@@ -1,9 +1,9 @@
 //! Heads that are made of an id and of what is told of four headers.
-ghost use Rattle.std.specs.Prelude.{◌≡◌, ◌++◌, IfOk, option_map};
+ghost use Rattle.std.specs.Prelude.{◌≡◌, IfOk, option_map};
 ghost use Rattle.nntp_article.specs.Article.Fields.{made_head};
 
-use crate::article::told_fields::ToldFields;
-use nntp_wire::{Block, MessageId, OwnedBlock};
+use crate::article::told_fields::{ToldFields, USUAL_HEAD, USUAL_LINE};
+use nntp_wire::{MessageId, OwnedBlock};
 use std::alloc::{AllocError, Allocator};
 
 /// Makes a head that says the message-id, and of the four headers those that are told with a word,
@@ -19,25 +19,13 @@ pub fn made_head<A: Allocator + Copy>(
 ) -> Result<OwnedBlock<A>, AllocError>
     ensures { IfOk result (λ head. head ≡ made_head id.now (option_map (λ told. told.now) told.entry)) }
 {
-    let mut line = Vec::from_slice(alloc, b"Message-ID: ")?;
+    let mut line = Vec::with_capacity(alloc, USUAL_LINE)?;
+    line.extend_from_slice(b"Message-ID: ")?;
     line.extend_from_slice(id.as_slice())?;
-    let mut head = OwnedBlock::new(alloc);
+    let mut head = OwnedBlock::with_capacity(alloc, USUAL_HEAD)?;
     head.push(&line)?;
     if let Some(told) = told {
-        push_lines(&mut head, &told.lines())?;
+        head.extend(&told.lines())?;
     }
     head.as_block().to_owned(alloc)
-}
-
-/// Puts lines behind the others.
-fn push_lines<A: Allocator + Copy>(
-    head: &mut OwnedBlock<A>,
-    lines: &Block<'_>,
-) -> Result<(), AllocError>
-    ensures { IfOk result (λ _. head.new ≡ head.old ++ lines.now) }
-{
-    for line in lines.lines() {
-        head.push(line)?;
-    }
-    Ok(())
 }

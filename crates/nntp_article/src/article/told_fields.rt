@@ -1,6 +1,7 @@
 //! What overviews told of four headers, as it is held.
 ghost use Rattle.std.specs.Prelude.{◌≡◌, ◌++◌, ◌∷◌, [], IsTrue, IfOk};
-ghost use Rattle.std.specs.List.{list_all};
+ghost use Rattle.std.specs.List.{list_all, flat_map};
+ghost use Rattle.nntp_wire.specs.Octets.{space};
 ghost use Rattle.nntp_article.specs.Article.Fields.{name_of_field, field_line, field_lines};
 ghost use Rattle.nntp_article.specs.Inner.Fields.{is_word, AreWords};
 
@@ -47,8 +48,11 @@ impl<A: Allocator> ToldFields<A> {
     }
 }
 
+/// The octets that the lines of a head that is made seldom have more of, so that memory for them is taken once.
+pub(crate) const USUAL_HEAD: usize = 512;
+
 /// The octets that the line of a header seldom has more of, so that memory for it is taken once.
-const USUAL_LINE: usize = 128;
+pub(crate) const USUAL_LINE: usize = 128;
 
 impl<A: Allocator + Copy> ToldFields<A> {
     /// Holds what an overview tells.
@@ -60,10 +64,10 @@ impl<A: Allocator + Copy> ToldFields<A> {
         requires { AreWords told }
         ensures { IfOk result (λ held. held ≡ told.entry) }
     {
-        let mut lines = OwnedBlock::new(alloc);
+        let mut head = OwnedBlock::with_capacity(alloc, USUAL_HEAD)?;
         let mut line = Vec::with_capacity(alloc, USUAL_LINE)?;
-        push_fields(&mut lines, &mut line, told)?;
-        let lines = lines.as_block().to_owned(alloc)?;
+        push_fields(&mut head, &mut line, told)?;
+        let lines = head.as_block().to_owned(alloc)?;
         Ok(ToldFields { lines })
     }
 }
@@ -95,17 +99,32 @@ fn push_field<A: Allocator + Copy>(
     requires { IsTrue (list_all is_word words) }
     ensures { IfOk result (λ _. head.new ≡ head.old ++ field_line (name_of_field field ++ 58 ∷ []) words.entry) }
 {
-    let mut words = words;
-    let Some(first) = words.next() else {
-        return Ok(());
-    };
     line.clear();
     line.extend_from_slice(field.name().as_bytes())?;
-    line.extend_from_slice(b": ")?;
-    line.extend_from_slice(first)?;
+    line.push(b':')?;
+    let start = line.len();
+    put_words(line, words)?;
+    if line.len() > start {
+        head.push(line)?;
+    }
+    Ok(())
+}
+
+/// Puts the words of a header behind the others, each behind a space.
+fn put_words<A: Allocator + Copy>(
+    line: &mut Vec<u8, A>,
+    words: FieldWords<'_>,
+) -> Result<(), AllocError>
+    ensures { IfOk result (λ _. line.new.items ≡ line.old.items ++ flat_map (λ w. space ∷ w) words.entry) }
+{
+    if let Some(text) = words.joined() {
+        line.push(b' ')?;
+        return line.extend_from_slice(text);
+    }
+    let mut words = words;
     while let Some(word) = words.next() {
         line.push(b' ')?;
         line.extend_from_slice(word)?;
     }
-    head.push(line)
+    Ok(())
 }
