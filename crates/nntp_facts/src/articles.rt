@@ -107,6 +107,7 @@ impl<A: Allocator> Articles<A> {
     }
 
     /// Returns the first of the four headers of the article of which other words were told than these.
+    #[tactic(auto, using(crate::proofs::Keeping::KeptIds::part_known))]
     pub(crate) fn other_field(&self, id: &str, told: Fields<'_>) -> Option<Field>
         ensures { MatchOption result (AreSame (Some told.entry) (said_kept (map.get self.now id.now)).fields)
             (λ field. MatchOption (said_kept (map.get self.now id.now)).fields ⊥ (λ before. words_in told.entry field ≢ words_in before field)) }
@@ -169,6 +170,7 @@ impl<A: Allocator + Copy> Articles<A> {
 
     /// Adds what the only overview of a block tells, if it may be so, and hands back the id's text. After an error the
     /// articles say nothing of use.
+    #[tactic(auto, using(nntp_article::proofs::ArticleLemmas::WordsOfLines::overviews_words))]
     fn note_told(&mut self, block: &Block<'_>) -> Result<Added<A>, AllocError>
         ensures added { IfOk result (λ added. (facts : List Fact) (id : Id) → AreKeptArticles facts self.old
             → MayBeSaid (id, Describes (overviews_of block.now))
@@ -209,6 +211,7 @@ impl<A: Allocator + Copy> Articles<A> {
 
     /// Adds that the id at a number has an article, if it may be so. After an error the articles say
     /// nothing of use.
+    #[tactic(auto, using(nntp_theory::proofs::OkResults::if_ok))]
     fn note_there(&mut self, joins: Joins, id: &str) -> Result<Added<A>, AllocError>
         ensures added { IfOk result (λ added. (facts : List Fact) → AreKeptArticles facts self.old
             → (joins ≡ Again → IsTrue (list_any (shows_article id.now) facts))

@@ -112,6 +112,7 @@ impl<A: Allocator + Copy> Kept<A> {
     }
 
     /// Adds what is said of an id, if it may be so. After an error the value says nothing of use.
+    #[tactic(auto, using(nntp_theory::proofs::OkResults::if_ok))]
     fn note_article(
         &mut self,
         joins: Joins,
@@ -144,7 +145,8 @@ impl<A: Allocator + Copy> Kept<A> {
         }
     }
 
-    /// Adds what is said of a group, where it isn't kept already. After an error the value says nothing of use.
+    /// Adds what is said of a group, where it isn't kept already, with the text of the id that a number has. After an error
+    /// the value says nothing of use.
     fn add_new_group(
         &mut self,
         joins: Joins,
@@ -161,27 +163,10 @@ impl<A: Allocator + Copy> Kept<A> {
     {
         match joins {
             Joins::Again => Ok(()),
-            _ => self.add_group(group, text),
-        }
-    }
-
-    /// Adds what is said of a group, with the text of the id that a number has. After an error the value
-    /// says nothing of use.
-    fn add_group(
-        &mut self,
-        group: &Option<GroupPart<'_>>,
-        text: Option<RcStr<A>>,
-    ) -> Result<(), AllocError>
-        ensures rest { (self.new.names ≡ self.old.names) × (self.new.articles ≡ self.old.articles) }
-        ensures groups { OnOk result ((facts : List Fact) (s : SayingValue) (asks : List Ask) → s.group ≡ option_map of_group group.now → s.groups ≡ None
-            → Together facts → MaySay facts s asks
-            → IfSome s.group (GroupJoins facts asks) → AreKeptGroups facts self.old.groups
-            → IfSome s.group (λ g. IsTextOf (option_map (λ text. rc_str_bytes text) text) g.id)
-            → AreKeptGroups (facts ++ facts_in s asks) self.new.groups) }
-    {
-        match group {
-            Some(group) => self.groups.add(group, text),
-            None => Ok(()),
+            _ => match group {
+                Some(group) => self.groups.add(group, text),
+                None => Ok(()),
+            },
         }
     }
 

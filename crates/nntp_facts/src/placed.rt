@@ -7,7 +7,7 @@ ghost use Rattle.nntp_said.specs.Facts.{facts_of};
 ghost use Rattle.nntp_pair.specs.Inner.Pairing.{lines_in};
 ghost use Rattle.nntp_facts.specs.Standing.{stands_of};
 
-use crate::same::{is_same_answer, is_same_name, is_same_position};
+use crate::same::{is_same_answer, is_same_name};
 use crate::standing::Standing;
 use nntp_pair::Exchange;
 use nntp_said::{Position, SaidFacts, facts_of};
@@ -73,7 +73,7 @@ impl<'a> Placed<'a> {
         ensures { IsTrue result → stands_of self.now ≡ stands_of other.now }
     {
         is_same_name(&self.standing.selected, &other.standing.selected)
-            && is_same_position(self.standing.position, other.standing.position)
+            && self.standing.position == other.standing.position
             && self.exchange.place().is_same(other.exchange.place())
             && is_same_answer(self.exchange.answer(), other.exchange.answer())
     }

@@ -2,15 +2,7 @@
 ghost use Rattle.std.specs.Prelude.{◌≡◌, ◌↔◌, IsTrue};
 ghost use Rattle.nntp_wire.specs.Inner.AnswerView.{response};
 
-use nntp_said::Position;
 use nntp_wire::{Answer, Block, GroupName};
-
-/// Tells whether both are the same position.
-pub(crate) fn is_same_position(some: Position, other: Position) -> bool
-    ensures { IsTrue result ↔ (some ≡ other) }
-{
-    some == other
-}
 
 /// Tells whether both are the same name, or none is there.
 pub(crate) fn is_same_name(some: &Option<GroupName<'_>>, other: &Option<GroupName<'_>>) -> bool

@@ -1,18 +1,14 @@
 -- What a list of groups has to join, and what is told of groups, once more of them are listed.
 use Rattle.nntp_facts.proofs.Base.{◌≡◌, ℕ, Bool, true, false, ◌||◌, cond, not, List, [], ◌∷◌, ◌++◌, Option, refl, sym, ap, ◌∙◌, append-nil, arith, None}
 use Rattle.nntp_facts.proofs.Base.{append_assoc, true≢false, and_parts, and_from, or_left, false_from_ne_true, not-true, true_from_ne_false, or-false, ◌↔◌}
-use Rattle.nntp_facts.proofs.Base.{AllByRecursion, list_all, option_map_or, same_text, ActiveValue, matches_name, Name, is_same, group_names, names_differ, Ask}
+use Rattle.nntp_facts.proofs.Base.{AllByRecursion, list_all, option_map_or, same_text, ActiveValue, matches_name, Name, is_same, group_names, names_differ}
 use Rattle.nntp_facts.proofs.Base.{Bounds, Fact, GroupsAre, asks_of, is_shown_group, first_given, id_in, IsWellFormed, AsksStand, Together, Join, denies_group}
 use Rattle.nntp_facts.proofs.Base.{number_in, In, all_at, all_from, any_in, found_in, same_itself, list_any-append, flat_map-append, given_silent, or_none}
-use Rattle.nntp_facts.proofs.Base.{asks_append, is_listed, LineJoins, NoneIsMissing, told, with_part, Changes, said_of, subst, flat_map, any_more}
-use Rattle.nntp_facts.proofs.Keeping.{FactsOfOneGroup.{ids_join, same_told}, SaidOfArticles.{nothing_joins}}
-
--- the bounds that the lines report for a group
-abbrev pub bounds_in : Name → List ActiveValue → List Ask
-bounds_in name lines = flat_map (λ line. cond (is_same line.name name) (Bounds line.low line.high ∷ []) []) lines
+use Rattle.nntp_facts.proofs.Base.{asks_append, is_listed, LineJoins, NoneIsMissing, told, with_part, Changes, said_of, subst, any_more}
+use Rattle.nntp_facts.{proofs.Keeping.{FactsOfOneGroup.{ids_join, same_told}, SaidOfArticles.{nothing_joins}}, specs.Inner.Points.{bounds_of}}
 
 -- where the group isn't listed, no bounds are reported for it
-pub no_bounds : (name : Name) (lines : List ActiveValue) → is_listed lines name ≡ false → bounds_in name lines ≡ []
+pub no_bounds : (name : Name) (lines : List ActiveValue) → is_listed lines name ≡ false → bounds_of name lines ≡ []
 no_bounds name [] e = refl
 no_bounds name (line ∷ lines) e = grind (arith, true≢false, no_bounds name lines)
 
@@ -25,13 +21,13 @@ differs name other (line ∷ lines) s e =
     (λ i. apart i || differs name other lines s p.1 i)
 
 -- where no group is listed twice, the bounds of a listed one are those of its line
-pub bounds_at : (line : ActiveValue) (lines : List ActiveValue) → names_differ lines ≡ true → In line lines → bounds_in line.name lines ≡ Bounds line.low line.high ∷ []
+pub bounds_at : (line : ActiveValue) (lines : List ActiveValue) → names_differ lines ≡ true → In line lines → bounds_of line.name lines ≡ Bounds line.low line.high ∷ []
 bounds_at line [] d i = absurd i
 bounds_at line (x ∷ xs) d s = grind (arith, and_parts, same_itself, no_bounds, differs, any_in, false_from_ne_true, true≢false, bounds_at line xs)
 
 module _ (facts : List Fact) (p : Option (List ℕ)) (lines : List ActiveValue) where
-  pub listing_asks : (name : Name) → asks_of name (GroupsAre p lines ∷ []) ≡ bounds_in name lines
-  listing_asks name = append-nil (bounds_in name lines)
+  pub listing_asks : (name : Name) → asks_of name (GroupsAre p lines ∷ []) ≡ bounds_of name lines
+  listing_asks name = append-nil (bounds_of name lines)
 
   numbers_from : Together facts → names_differ lines ≡ true → (name : Name) (b : Bool) → is_listed lines name ≡ b
       → AllByRecursion (LineJoins facts) lines → AsksStand (asks_of name facts ++ asks_of name (GroupsAre p lines ∷ []))

@@ -6,9 +6,9 @@ use Rattle.nntp_facts.proofs.Base.{Name, is_same, Profile, Ask, Bounds, Estimate
 use Rattle.nntp_facts.proofs.Base.{is_shown_group, is_known, is_denied, demand, IsGivenNumber, is_possible, MeetsDemand, GiveOne, denies_group, widest}
 use Rattle.nntp_facts.proofs.Base.{the_group, Point, Step, Group, Number, Count, First, rank, ConflictAt, AreTooMany, GiveSame, all_at, all_from, found_in}
 use Rattle.nntp_facts.proofs.Base.{at_point, of_rank, asks_append, same_itself, apart_both, give_one_both, Says, Kept, OfGroup, asked_id, is_listed, MayList}
-use Rattle.nntp_facts.proofs.{Base.{NoneIsMissing, IsPointOf}, Keeping.ListedGroups.{no_bounds, bounds_at}, PointsFound.Statements.{shown_told, denied_told}}
-use Rattle.nntp_facts.{proofs.PointsFound.Statements.{asks_listed, asks_told, or_no}, specs.Inner.{Saying.{IsAlone}, Points.{Statement, TellsAlone, IsPointIn}}}
-use Rattle.nntp_facts.specs.Inner.Points.{IsBeside, IsAbout, is_impossible, shows_name, denies_name, bounds_of}
+use Rattle.nntp_facts.proofs.{Base.{NoneIsMissing, IsPointOf, or-false}, Keeping.ListedGroups.{no_bounds, bounds_at}, PointsFound.Statements.{shown_told}}
+use Rattle.nntp_facts.{proofs.PointsFound.Statements.{denied_told, asks_listed, asks_told}, specs.Inner.{Saying.{IsAlone}, Points.{Statement, TellsAlone}}}
+use Rattle.nntp_facts.specs.Inner.Points.{IsPointIn, IsBeside, IsAbout, is_impossible, shows_name, denies_name, bounds_of}
 
 -- an ask can't be met
 abbrev pub cannot : Ask → Bool
@@ -162,11 +162,11 @@ module _ (profile : Profile) (facts : List Fact) (k : Kept) (t : Statement) (mor
         × IfSome t.saying.there_is_no (λ name. IsFalse (is_shown_group facts name) × (t.group ≡ Some name → ⊥)))
         (λ name. ((t.group ≡ Some name) × IsTrue (list_any (denies_group name) facts)) ⊎ ((t.saying.there_is_no ≡ Some name) × (IsTrue (is_shown_group facts name) ⊎ (t.group ≡ Some name))))
         → IsPointOf all 1 (option_map Group o)
-    named_group (Some name) found = grind (arith, group_found name, or_no, same_itself name)
+    named_group (Some name) found = grind (arith, group_found name, or-false, same_itself name)
     named_group None (free, missing) = group_free
-        (λ name s. grind (arith, or_no, named t.group name))
-        (λ name d s. grind (arith, true≢false, or_no, named t.saying.there_is_no name))
-        (λ name s d. grind (arith, or_no, named t.group name, named t.saying.there_is_no name))
+        (λ name s. grind (arith, or-false, named t.group name))
+        (λ name d s. grind (arith, true≢false, or-false, named t.saying.there_is_no name))
+        (λ name s d. grind (arith, or-false, named t.group name, named t.saying.there_is_no name))
 
     -- where the group of which it speaks isn't denied
     pub missing_group : IfSome t.group (λ name. IsFalse (list_any (denies_group name) facts)) → (o : Option Name)

@@ -1,10 +1,10 @@
 -- What an answer tells by itself, the group of which it speaks, and what its facts say, read off what is looked at.
-use Rattle.nntp_facts.proofs.Base.{◌≡◌, ℕ, Bool, true, false, ◌||◌, ◌&&◌, not, cond, List, [], ◌∷◌, ◌++◌, Option, None, Some, refl, sym, ap, subst, ◌∙◌}
-use Rattle.nntp_facts.proofs.Base.{append-nil, arith, list_any-append, or_left, IfSome, option_map, IsTrue, unwrap_or, list_any, AllByRecursion, option_map_or}
-use Rattle.nntp_facts.proofs.Base.{ActiveValue, Marks, Lenient, matches_name, IsGroupName, Asked, Response, Id, Name, is_same, Visible, fits, Profile}
-use Rattle.nntp_facts.proofs.Base.{numbers_of, Estimates, Fact, GroupsAre, here, facts_of, group_of, Position, asks_of, shows_group, is_shown_group}
-use Rattle.nntp_facts.proofs.Base.{first_given, id_in, denies_group, number_in, said_of, IsWellFormed, FitsThere, widest, the_group, Placed, said, asks_append}
-use Rattle.nntp_facts.proofs.Base.{same_itself, in_front, in_back, all_at, all_both, Saying, asked_id, facts_in, TellsHere, IsSelectedShown, MayList, is_listed}
+use Rattle.nntp_facts.proofs.Base.{◌≡◌, ℕ, true, false, ◌||◌, ◌&&◌, not, cond, List, [], ◌∷◌, ◌++◌, Option, None, Some, refl, sym, ap, subst, ◌∙◌, append-nil}
+use Rattle.nntp_facts.proofs.Base.{arith, list_any-append, or_left, IfSome, option_map, IsTrue, unwrap_or, list_any, AllByRecursion, option_map_or, ActiveValue}
+use Rattle.nntp_facts.proofs.Base.{Marks, Lenient, matches_name, IsGroupName, Asked, Response, Id, Name, is_same, Visible, fits, Profile, numbers_of, Estimates}
+use Rattle.nntp_facts.proofs.Base.{Fact, GroupsAre, here, facts_of, group_of, Position, asks_of, shows_group, is_shown_group, first_given, id_in, denies_group}
+use Rattle.nntp_facts.proofs.Base.{number_in, said_of, IsWellFormed, FitsThere, widest, the_group, Placed, said, asks_append, same_itself, in_front, in_back}
+use Rattle.nntp_facts.proofs.Base.{all_at, all_both, Saying, asked_id, facts_in, TellsHere, IsSelectedShown, MayList, is_listed, or-false}
 use Rattle.nntp_facts.proofs.Keeping.{PartsJoin.{no_group_is}, OverviewsTold.{plain_told, plain_alone, shown_by_told, denied_by_told, said_by_told}}
 use Rattle.nntp_facts.proofs.Keeping.{OverviewsTold.{asks_by_told, ids_by_told, places_by_told}, ToldAnswers.{there_told, group_said, none_said}}
 use Rattle.nntp_facts.{proofs.Keeping.ToldAnswers.{selected_spoken}, specs.Inner.{Saying.{facts_told, IsAlone, TellsThere}, Points.{Statement, TellsAlone}}}
@@ -44,9 +44,6 @@ there_told_so profile a asked response at name numbers s how marks fit to by sta
 
 -- ---- what is read off it
 
-pub or_no : (b : Bool) → (b || false) ≡ b
-or_no b = grind arith
-
 module _ (profile : Profile) (t : Statement) (facts : List Fact) (h : TellsAlone profile t facts) where
   whole : the_group profile t.group ++ facts_told t.saying h.tells.asks ≡ facts
   whole = (λ i. the_group profile (h.group i) ++ h.tells.same i) ∙ h.whole
@@ -72,17 +69,17 @@ module _ (profile : Profile) (t : Statement) (facts : List Fact) (h : TellsAlone
 
   pub shown_told : (name : Name) → is_shown_group facts name ≡ shows_name name t
   shown_told name = read (λ facts. is_shown_group facts name) (λ o. option_map_or (λ g. is_same g name) t.group false || option_map_or (λ l. is_listed l.1 name) o false)
-      (λ none. grind (arith, list_any-append, of_group, shown_by_told h.before t.saying h.tells.asks h.tells.may none name, h.tells.may.there, h.named, or_no))
-      (λ l alone no_group. grind (arith, or_no))
+      (λ none. grind (arith, list_any-append, of_group, shown_by_told h.before t.saying h.tells.asks h.tells.may none name, h.tells.may.there, h.named, or-false))
+      (λ l alone no_group. grind (arith, or-false))
     where
       of_group : (g : Option Name) → list_any (shows_group name) (the_group profile g) ≡ option_map_or (λ g. is_same g name) g false
-      of_group g = grind (arith, or_no)
+      of_group g = grind (arith, or-false)
 
   pub denied_told : (name : Name) → list_any (denies_group name) facts ≡ denies_name name t
   denied_told name = read (list_any (denies_group name))
       (λ o. option_map_or (λ g. is_same g name) t.saying.there_is_no false || option_map_or (λ l. option_map_or (λ w. matches_name w name) l.0 true && not (is_listed l.1 name)) o false)
-      (λ none. past (list_any (denies_group name)) (λ other xs. refl) _ ∙ denied_by_told h.before t.saying h.tells.asks h.tells.may none name ∙ sym (or_no _))
-      (λ l alone no_group. grind (arith, or_no))
+      (λ none. past (list_any (denies_group name)) (λ other xs. refl) _ ∙ denied_by_told h.before t.saying h.tells.asks h.tells.may none name ∙ sym (or-false _))
+      (λ l alone no_group. grind (arith, or-false))
 
   -- ---- numbers
 

@@ -33,6 +33,7 @@ impl<A: Allocator + Copy> Kept<A> {
     /// Tells whether the groups that an answer lists as all that match stand together with all that
     /// was said before. Each of them matches, and none is listed twice, so none that is shown is
     /// missing where as many of them are shown as match.
+    #[tactic(auto, using(crate::proofs::Keeping::ListedGroups::listing_joins))]
     fn may_list_groups(&self, wildmat: &Option<Wildmat<'_>>, groups: &[ActiveLine<'_>]) -> bool
         ensures { (facts : List Fact) → IsKept facts self.now → Together facts
             → AllByRecursion IsWellFormed (GroupsAre wildmat.now (map active_value groups.now) ∷ []) → MayList wildmat.now (map active_value groups.now)
@@ -73,6 +74,7 @@ impl<A: Allocator + Copy> Kept<A> {
 
     /// Returns how many of the listed groups are shown already, if each may be there, with its numbers
     /// between the marks.
+    #[tactic(auto, using(nntp_article::proofs::SessionLemmas::LinesLeft::none_left))]
     fn count_joining(&self, groups: &[ActiveLine<'_>]) -> Option<usize>
         ensures { (facts : List Fact) → IsKept facts self.now → Together facts → MatchOption result
             (AllByRecursion (LineJoins facts) (map active_value groups.now) → ⊥)

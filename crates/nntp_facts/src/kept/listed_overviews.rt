@@ -65,6 +65,7 @@ impl<A: Allocator + Copy> Kept<A> {
 
     /// Adds that each number of the group has the id of its overview, and that this has an article.
     /// After an error the value says nothing of use.
+    #[tactic(auto, using(crate::proofs::Keeping::OverviewsJoin::none_yet, crate::proofs::Keeping::SaidOfArticles::nothing_more))]
     fn give_all(&mut self, name: &[u8], overviews: &[OverviewLine<'_>]) -> Result<(), AllocError>
         requires { AllByRecursion TellsWords (map overview_value overviews.now) }
         ensures names { self.new.names ≡ self.old.names }

@@ -45,6 +45,7 @@ impl<A: Allocator + Copy> Kept<A> {
 
     /// Adds that there is the group of which the answer speaks, if it speaks of one and this stands
     /// together with all before, and tells whether it does.
+    #[tactic(auto, using(nntp_theory::proofs::OkResults::if_ok))]
     fn tell_group(
         &mut self,
         limit: Limit,

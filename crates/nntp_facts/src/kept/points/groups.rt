@@ -29,6 +29,20 @@ impl<A: Allocator + Copy> Kept<A> {
             None => Ok(point(self.denied_by_name(told))),
         }
     }
+
+    /// Returns the first group that is listed and denied, or else the first that is shown, and should be listed and isn't.
+    fn denied_or_unlisted<'s>(
+        &'s self,
+        list: &ActivePart<'s>,
+    ) -> Result<Option<GroupName<'s>>, AllocError>
+        ensures { IfOk result (λ name. (profile : Profile) (facts more : List Fact) (t : StatementValue) → IsBeside profile facts self.now t more
+            → t.saying.groups ≡ Some (active_said list.now) → IsPointOf (facts ++ more) 1 (option_map Group name)) }
+    {
+        match self.first_denied(list.block) {
+            Some(name) => Ok(Some(name)),
+            None => self.groups.unlisted(list.wildmat, list.block),
+        }
+    }
 }
 
 impl<A: Allocator> Kept<A> {
@@ -85,25 +99,7 @@ impl<A: Allocator> Kept<A> {
         let group = GroupName::parse(name)?;
         self.groups.is_shown(name).then_some(group)
     }
-}
 
-impl<A: Allocator + Copy> Kept<A> {
-    /// Returns the first group that is listed and denied, or else the first that is shown, and should be listed and isn't.
-    fn denied_or_unlisted<'s>(
-        &'s self,
-        list: &ActivePart<'s>,
-    ) -> Result<Option<GroupName<'s>>, AllocError>
-        ensures { IfOk result (λ name. (profile : Profile) (facts more : List Fact) (t : StatementValue) → IsBeside profile facts self.now t more
-            → t.saying.groups ≡ Some (active_said list.now) → IsPointOf (facts ++ more) 1 (option_map Group name)) }
-    {
-        match self.first_denied(list.block) {
-            Some(name) => Ok(Some(name)),
-            None => self.groups.unlisted(list.wildmat, list.block),
-        }
-    }
-}
-
-impl<A: Allocator> Kept<A> {
     /// Returns the first group that is listed and denied.
     fn first_denied<'s>(&self, block: &Block<'s>) -> Option<GroupName<'s>>
         ensures { (facts : List Fact) → IsKept facts self.now → Together facts

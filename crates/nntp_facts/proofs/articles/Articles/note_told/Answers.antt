@@ -1,9 +1,6 @@
-use Rattle.nntp_facts.proofs.Base.{arith, true, sym, subst, ◌∙◌, OverviewValue, overviews_of, overview_value, if_ok, telling, is_added, IsSaidAdded, said_alone}
-use Rattle.nntp_facts.proofs.{Base.{overviews_words}, Keeping.SaidOfArticles.{first_said}}
+use Rattle.nntp_facts.proofs.Base.{true, sym, subst, ◌∙◌, OverviewValue, overviews_of, overview_value, if_ok, telling, is_added, IsSaidAdded, said_alone}
+use Rattle.nntp_facts.proofs.Keeping.SaidOfArticles.{first_said}
 use Rattle.nntp_facts.proofs.articles.Articles.note_told.Goals as goal
-
-pub tell-requires : goal.tell-requires
-tell-requires g c = grind (arith, overviews_words)
 
 pub returns-in-Some-clause-added : goal.returns-in-Some-clause-added
 returns-in-Some-clause-added g c = if_ok c.tell.result (λ added adds facts id kept may.

@@ -1,8 +1,5 @@
-use Rattle.nntp_facts.proofs.{Base.{arith, refl}, Keeping.{KeptIds.{part_known, no_part_known}, KeptArticles.{same_as_none}}}
+use Rattle.nntp_facts.proofs.{Base.{arith, refl}, Keeping.{KeptIds.{no_part_known}, KeptArticles.{same_as_none}}}
 use Rattle.nntp_facts.proofs.articles.Articles.other_field.Goals as goal
-
-pub returns : goal.returns
-returns g c = grind (arith, part_known)
 
 pub returns-in_err-get : goal.returns-in_err-get
 returns-in_err-get g c =

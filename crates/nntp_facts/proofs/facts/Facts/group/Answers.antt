@@ -2,8 +2,6 @@ use Rattle.nntp_facts.proofs.Base.{refl, sym, ◌∙◌, nth_from_yields_List, Y
 use Rattle.nntp_facts.proofs.facts.Facts.group.Goals as goal
 
 pub returns : goal.returns
-returns g c profile earlier past stands = (
-  c.groups.result,
-  c.groups.ensures profile earlier past stands,
-  sym (option_map_id _) ∙ nth_from_yields_List c.nth.result _ c.args.index c.nth.ensures.ran (YieldsList-from_first (λ x. x) (λ w. w) c.groups.result refl),
-)
+returns g c profile earlier past stands =
+    let at = sym (option_map_id _) ∙ nth_from_yields_List c.nth.result _ c.args.index c.nth.ensures.ran (YieldsList-from_first (λ x. x) (λ w. w) c.groups.result refl) in
+    (c.groups.result, c.groups.ensures profile earlier past stands, at)

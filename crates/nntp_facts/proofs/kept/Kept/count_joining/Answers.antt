@@ -1,5 +1,5 @@
 use Rattle.nntp_facts.proofs.Base.{◌≡◌, ◌+◌, ◌≤◌, Bool, List, ◌∷◌, length, sym, ap, subst, ◌∙◌, arith, true≢false, ◌↔◌, AllByRecursion, ActiveValue}
-use Rattle.nntp_facts.proofs.Base.{active_value, next_left, none_left, Fact, is_shown_group, IsKept, told, shown_lines, bool_byte}
+use Rattle.nntp_facts.proofs.Base.{active_value, next_left, Fact, is_shown_group, IsKept, told, shown_lines, bool_byte}
 use Rattle.nntp_facts.proofs.kept.Kept.count_joining.Goals as goal
 
 -- where the next line joins, all lines join if those do that are left
@@ -27,6 +27,3 @@ loop-line-preserved g c =
           let is = c.is_shown-is_shown.ensures (told facts) (subst (IsKept facts) (sym c.self.view_is) kept).groups ∙ ap (is_shown_group facts) c.as_slice.ensures.value in
           grind (arith, counted, joined),
     )
-
-pub returns : goal.returns
-returns g c facts kept t = grind (arith, none_left)

@@ -1,10 +1,7 @@
 use Rattle.nntp_facts.proofs.Base.{arith, [], ◌∷◌, ◌++◌, ◌+◌, map, take, drop, take_all, sym, subst, ◌∙◌, AllByRecursion, OverviewValue, overview_value}
-use Rattle.nntp_facts.proofs.{Base.{TellsWords, next_left, one_more, MayGive, with_overviews, HaveOwn, between}, Keeping.OverviewsJoin.{none_yet, so_far}}
-use Rattle.nntp_facts.proofs.Keeping.{OverviewsJoin.{AreGiven, said_so_far, said_next, may_give_next, one_more_given}, SaidOfArticles.{nothing_more}}
+use Rattle.nntp_facts.proofs.{Base.{TellsWords, next_left, one_more, MayGive, with_overviews, HaveOwn, between}, Keeping.OverviewsJoin.{so_far, AreGiven}}
+use Rattle.nntp_facts.proofs.Keeping.OverviewsJoin.{said_so_far, said_next, may_give_next, one_more_given}
 use Rattle.nntp_facts.proofs.kept.Kept.give_all.Goals as goal
-
-pub loop-overview-init : goal.loop-overview-init
-loop-overview-init g c = grind (arith, none_yet, nothing_more)
 
 pub give-requires : goal.give-requires
 give-requires g c = grind (arith, next_left)

@@ -1,4 +1,4 @@
-use Rattle.nntp_facts.proofs.{Base.{map, arith, true≢false, active_value, Decides-eqb}, Keeping.{ListedGroups.{listing_joins}, CountedGroups.{as_many_shown}}}
+use Rattle.nntp_facts.proofs.{Base.{map, arith, active_value, Decides-eqb}, Keeping.{ListedGroups.{listing_joins}, CountedGroups.{as_many_shown}}}
 use Rattle.nntp_facts.proofs.kept.Kept.may_list_groups.Goals as goal
 
 pub returns-in-Some : goal.returns-in-Some
@@ -8,6 +8,3 @@ returns-in-Some g c facts kept t formed may =
     let joins = listing_joins facts p lines t formed may.differ in
     let counted = c.in-Some.ensures facts kept t in
     grind (arith, as_many_shown facts c.args.self.now.groups kept.groups t p lines may, Decides-eqb c.in-Some.shown c.count_asked.result)
-
-pub returns-in-None : goal.returns-in-None
-returns-in-None g c facts kept t formed may = grind (arith, listing_joins, true≢false)

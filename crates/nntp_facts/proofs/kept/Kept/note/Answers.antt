@@ -1,4 +1,4 @@
-use Rattle.nntp_facts.proofs.{Base.{arith, IfOk-weaker, of_group, saying_of}, Keeping.NotedParts.{list_added, lists_none, overviews_added}}
+use Rattle.nntp_facts.proofs.{Base.{arith, IfOk-weaker, of_group, saying_of}, Keeping.NotedParts.{overviews_added}}
 use Rattle.nntp_facts.proofs.kept.Kept.note.Goals as goal
 
 pub returns-in-None-Some : goal.returns-in-None-Some

@@ -1,4 +1,4 @@
-use Rattle.nntp_facts.proofs.Base.{◌≡◌, sym, subst, ◌∙◌, arith, cases_Bool, IsFalse, IsGroupName, is_shown_group, shown_named, IsKept, told}
+use Rattle.nntp_facts.proofs.Base.{◌≡◌, sym, subst, arith, cases_Bool, IsFalse, IsGroupName, is_shown_group, shown_named, IsKept, told}
 use Rattle.std.specs.Prelude.{MatchOption, SomeIff, IsTrue}
 use Rattle.nntp_facts.proofs.kept.Kept.shown_named.Goals as goal
 
