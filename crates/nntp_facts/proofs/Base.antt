@@ -4,21 +4,19 @@ pub use Rattle.std.proofs.Common.{false, Option, None, inl, inr, ◌++◌, lengt
 pub use Rattle.std.proofs.{Common.{is_some, ◌==◌, cond, ◌||◌, ap₂, rules, take_all, drop, Bor, ◌⊎◌, ◌-◌}, Math.Bool.{or-false}, lemmas.Bool.{true≢false}}
 pub use Rattle.std.proofs.lemmas.Bool.{and_from, cases_lt, and_parts, eqb-true, eq-eqb, or_left, false_from_ne_true, true_from_ne_false, not-true, or_right}
 pub use Rattle.std.proofs.lemmas.{Bool.{leb-true, cases_Bool, not-false, or_from, ltb-true, Decides.{Decides-eqb, nat_tests}}, Grind.{flat_map-append}}
-pub use Rattle.std.proofs.lemmas.{List.{length-map, map-append, get_or-map, take_more, map-id, Folds.{list_any-append}}, Result.{IfOk-weaker}}
+pub use Rattle.std.proofs.lemmas.{List.{length-map, map-append, get_or-map, take_more, Folds.{list_any-append}}, Result.{IfOk-weaker}}
 pub use Rattle.std.proofs.lemmas.{Iterator.Consumers.{nth_from_yields_List, YieldsList-from_first}, Map.Views.{any-filter_same}, Option.{slice_get-get_or}}
-pub use Rattle.std.specs.{BTreeMap.{insert_entry, keys, is_at}, Cmp.{nat_cmp_total, eq_by_cmp_equiv, both_ways, Lexicographic.{slice_cmp, same_text}}}
-pub use Rattle.std.specs.{Cmp.Lexicographic.{nat_list_eq_equiv, nat_list_cmp_total, texts_ties}, FinMap.{FinMap, get, entries, entries_sorted, insert}}
-pub use Rattle.std.specs.FinMap.{get-insert, slice_cmp-IsAntisymmetric, nat_cmp-IsAntisymmetric, get-empty, empty, from_entries, IsAntisymmetric}
-pub use Rattle.std.specs.{FinMap.{contains_key-keys, len}, List.{list_any, filter, AllByRecursion, list_all, flat_map, Sorted.{IsStrictlySortedBy}}}
-pub use Rattle.std.specs.{Option.{option_map_or, option_or, option_copied_mut}, Ordering.{nat_cmp, eq_by_cmp, is_eq}, Prelude.{◌↔◌, IsFalse, option_map}}
-pub use Rattle.std.specs.{Prelude.{slice_get, ⊤, unwrap_or, IfSome, if◌then◌else◌, ◌≢◌, nat_lt, is_none, nat_le}, Rc.{rc_str_bytes}}
-pub use Rattle.std.specs.{declared.cmp.Ordering.{Ordering, TheVariants.{Equal, Less}}, Bool.{then_some}}
-pub use Rattle.nntp_article.proofs.SessionLemmas.{LinesLeft.{one_more, next_left, none_left, between}, Misfits.{fits_by_reason}}
-pub use Rattle.nntp_article.{proofs.ArticleLemmas.WordsOfLines.{overviews_words}, specs.Article.{Parts.{Id, Line}, Fields.{fields_of_head, words_in}}}
-pub use Rattle.nntp_article.specs.{Inner.{Fields.{TellsWords}, Listed.{Lists, lists_of, lists}, Misfit.{numbers_of}}, Session.Limit.{profile_of}}
-pub use Rattle.nntp_article.specs.Session.Machine.{is_same, is_ascending, group_names, names_differ, overview_numbers, start, fits, Visible, only, all_differ}
-pub use Rattle.nntp_article.specs.Session.{Machine.{visible_after, Run, head_fits, is_article_number, active_fits}, Spool.{Name}}
-pub use Rattle.nntp_article.specs.declared.{session.profile.Profile.{Profile}, article.field.Field.{Field}}
+pub use Rattle.std.specs.{BTreeMap.{insert_entry, keys}, Cmp.{nat_cmp_total, eq_by_cmp_equiv, Lexicographic.{slice_cmp, same_text, nat_list_eq_equiv}}}
+pub use Rattle.std.specs.{Cmp.Lexicographic.{nat_list_cmp_total, texts_ties}, FinMap.{FinMap, get, entries, insert, get-insert, slice_cmp-IsAntisymmetric}}
+pub use Rattle.std.specs.{FinMap.{nat_cmp-IsAntisymmetric, get-empty, empty, from_entries, IsAntisymmetric, len}, List.{list_any, filter, AllByRecursion}}
+pub use Rattle.std.specs.{List.{list_all}, Option.{option_map_or, option_or, option_copied_mut}, Ordering.{nat_cmp, eq_by_cmp, is_eq}, Prelude.{◌↔◌, IsFalse}}
+pub use Rattle.std.specs.{Prelude.{option_map, slice_get, ⊤, unwrap_or, IfSome, if◌then◌else◌, ◌≢◌, nat_lt, is_none, nat_le}, Rc.{rc_str_bytes}}
+pub use Rattle.std.specs.{declared.cmp.Ordering.{Ordering, TheVariants.{Equal}}, Bool.{then_some}}
+pub use Rattle.nntp_article.proofs.SessionLemmas.{LinesLeft.{one_more, next_left, none_left, between}, Misfits.{fits_by_reason}, SetKeys.{any-insert_key}}
+pub use Rattle.nntp_article.specs.{Article.{Parts.{Id, Line}, Fields.{fields_of_head, words_in}}, Inner.{Fields.{TellsWords}, Listed.{Lists, lists_of, lists}}}
+pub use Rattle.nntp_article.specs.{Inner.Misfit.{numbers_of}, Session.{Limit.{profile_of}, Machine.{is_same, is_ascending, group_names, names_differ}}}
+pub use Rattle.nntp_article.specs.Session.Machine.{overview_numbers, start, fits, Visible, only, visible_after, Run, head_fits, is_article_number, active_fits}
+pub use Rattle.nntp_article.specs.{Session.Spool.{Name}, declared.{session.profile.Profile.{Profile}, article.field.Field.{Field}}}
 pub use Rattle.nntp_facts.specs.Inner.{ArticleView.{known_article, is_added}, Articles.{articles_in, with_new, head_sent, body_sent, unsent, telling}}
 pub use Rattle.nntp_facts.specs.Inner.{Articles.{MayBeSent, MayBeTold, with_sent}, Kept.{KeptArticle, said_kept, AreKeptArticles, Kept, told, AreKeptGroups}}
 pub use Rattle.nntp_facts.specs.Inner.Kept.{MayShow, id_of, place_of, KeptGroup, Told, IsUntold, AreKept, IsKept, ids_with, places_with, IsAddedIf, with_part}
@@ -26,10 +24,9 @@ pub use Rattle.nntp_facts.specs.Inner.{Kept.{Changes, Agree, MayHave, AreKeptNam
 pub use Rattle.nntp_facts.specs.Inner.KeptSaying.{kept_by, IsSaidAdded, IsArticleAdded, said_listed, IsTextOf, MayBeSaid, ArticleJoins, MayGive, with_overviews}
 pub use Rattle.nntp_facts.specs.Inner.{KeptSaying.{GroupJoins, IsThereAlready, SaidJoins}, ListedGroups.{MayList, WereListed, is_listed, shown_lines}}
 pub use Rattle.nntp_facts.specs.Inner.{ListedGroups.{NoneIsMissing, LineJoins}, ListedOverviews.{HaveOwn, id_listed, place_listed, OverviewJoins}}
-pub use Rattle.nntp_facts.specs.Inner.{Noted.{FactsKept, IsNotedBehind}, PointView.{point_of}, Points.{AreHeld, IsPointOf, NoneBefore}, Readers.{shown_article}}
-pub use Rattle.nntp_facts.specs.Inner.{Readers.{shown_articles, ShownArticle, IsShownArticle, AreShownArticles}, Saying.{OfGroup, Saying, asked_id, sent_facts}}
-pub use Rattle.nntp_facts.specs.Inner.Saying.{lack_facts, id_facts, group_facts, facts_in, Sends, IsSelectedShown, Tells, OfArticle, AreListed, IsToExist}
-pub use Rattle.nntp_facts.specs.Inner.Saying.{MayBeOf, MaySay, overviews_facts, Exists, Describes, TellsHere, IsShownThen, nothing, saying_by, Lacks}
+pub use Rattle.nntp_facts.specs.Inner.{Noted.{FactsKept, IsNotedBehind}, PointView.{point_of}, Points.{AreHeld, IsPointOf, NoneBefore}, Saying.{OfGroup}}
+pub use Rattle.nntp_facts.specs.Inner.Saying.{Saying, asked_id, sent_facts, lack_facts, id_facts, group_facts, facts_in, Sends, Tells, OfArticle, AreListed}
+pub use Rattle.nntp_facts.specs.Inner.Saying.{IsToExist, MayBeOf, MaySay, overviews_facts, Exists, Describes, nothing, saying_by, Lacks}
 pub use Rattle.nntp_facts.specs.Inner.{SayingView.{article_said, id_at, of_group, overviews_said, saying_of}, StatementView.{statement_of, rank_of_numbers}}
 pub use Rattle.nntp_facts.specs.{Standing.{stands_of}, declared.{articles.known.KnownArticle.TheVariants.{Unsent}, joins.Joins.TheVariants.{Again}}}
 pub use Rattle.nntp_facts.specs.declared.points.NumbersKind.{NumbersKind}

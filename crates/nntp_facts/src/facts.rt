@@ -69,8 +69,7 @@ impl<A: Allocator> Model for Facts<A> {
       visible = f.visible;
       position = f.position;
       kept = f.kept;
-      has_failed =
-          f.has_failed;
+      has_failed = f.has_failed;
     } };
 }
 

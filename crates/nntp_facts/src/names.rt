@@ -32,8 +32,7 @@ impl<A: Allocator> Model for Names<A> {
     ghost view = { λ a. record {
       denied = map (λ name. name.items) a.denied.keys;
       wildmats = map (λ e. (e.0.items, e.1)) a.wildmats.entries;
-      all_listed =
-          a.all_listed;
+      all_listed = a.all_listed;
     } };
 }
 

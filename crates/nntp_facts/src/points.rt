@@ -101,7 +101,7 @@ impl<'a, A: Allocator + Copy> Conflict<'a, A> {
         };
         // They stand together, since none of them can be left out.
         tell_all(&mut kept, limit, marks, answers, bad, others)?;
-        let last = answer_or(answers, *place, bad);
+        let last = answers.get(*place).unwrap_or(bad);
         Conflict::with_last(alloc, limit, marks, kept, last)
     }
 
@@ -205,13 +205,6 @@ fn first_point<'s, A: Allocator + Copy>(
         }
     }
     Ok(None)
-}
-
-/// Returns the answer at the place, or the other one if none is there.
-fn answer_or<'a>(answers: &'a [Placed<'a>], place: usize, other: &'a Placed<'a>) -> &'a Placed<'a>
-    ensures { result.now ≡ get_or answers.now place other.now }
-{
-    answers.get(place).unwrap_or(other)
 }
 
 impl<'a, A: Allocator + Copy> Listing<'a, A> {

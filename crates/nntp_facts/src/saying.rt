@@ -291,14 +291,8 @@ impl<'s> Saying<'s> {
     /// Says that there is such a group, and this of its numbers.
     pub(crate) fn selects(name: &'s GroupName<'s>, numbers: NumbersPart<'s>) -> Saying<'s>
         ensures is_name { IsGroupName name.now }
-        ensures says { saying_of result ≡ record {
-          there_is = Some name.now;
-          there_is_no = None;
-          group = Some (record { name = name.now; numbers = said numbers.entry; id = None });
-          article = None;
-          overviews = None;
-          groups = None;
-        } }
+        ensures says { saying_of result
+            ≡ record nothing { there_is = Some name.now; group = Some (record { name = name.now; numbers = said numbers.entry; id = None }) } }
     {
         Saying {
             there_is: Some(name),

@@ -1,10 +1,10 @@
 -- What is shown of the articles that are kept.
 use Rattle.nntp_facts.proofs.Base.{◌≡◌, Bool, not, IsTrue, List, [], ◌∷◌, map, Some, refl, sym, ap, subst, ◌∙◌, arith, true≢false, list_any, filter}
-use Rattle.nntp_facts.proofs.Base.{AllByRecursion, Ordering, nat_cmp, slice_cmp, same_text, FinMap, get, entries, entries_sorted, Id, is_same, Fact}
-use Rattle.nntp_facts.proofs.Base.{shows_article, said_of, sorted_keys, in_map, from_map, any_in, found_in, same_itself, KeptArticle, said_kept}
-use Rattle.nntp_facts.proofs.Base.{AreKeptArticles, articles_in, shown_article, shown_articles, ShownArticle, IsShownArticle, AreShownArticles, Less, both_ways}
-use Rattle.nntp_facts.proofs.Keeping.{KeptArticles.{shown_kept, listed}, GroupReaders.{read_off, all_along}}
-use Rattle.std.specs.List.Sorted.{IsStrictlySortedBy}
+use Rattle.nntp_facts.proofs.Base.{AllByRecursion, Ordering, nat_cmp, slice_cmp, same_text, FinMap, get, entries, Id, is_same, Fact, shows_article, said_of}
+use Rattle.nntp_facts.proofs.Base.{sorted_keys, in_map, from_map, any_in, found_in, same_itself, KeptArticle, said_kept, AreKeptArticles, articles_in}
+use Rattle.nntp_facts.{proofs.Keeping.{KeptArticles.{shown_kept, listed}, GroupReaders.{read_off, all_along}}, specs.Inner.Readers.{shown_article}}
+use Rattle.nntp_facts.specs.Inner.Readers.{shown_articles, ShownArticle, IsShownArticle, AreShownArticles}
+use Rattle.std.specs.{FinMap.{entries_sorted}, declared.cmp.Ordering.TheVariants.{Less}, Cmp.{both_ways}, List.Sorted.{IsStrictlySortedBy}}
 
 -- ---- order
 

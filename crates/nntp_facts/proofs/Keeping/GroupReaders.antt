@@ -1,10 +1,10 @@
 -- What is shown of the groups that are kept.
 use Rattle.nntp_facts.proofs.Base.{◌≡◌, Bool, ◌==◌, ◌||◌, List, [], ◌∷◌, map, Some, refl, sym, ap, subst, ◌∙◌, arith, list_any, AllByRecursion, nat_cmp}
-use Rattle.nntp_facts.proofs.Base.{eq_by_cmp, slice_cmp, nat_list_cmp_total, FinMap, get, entries, entries_sorted, slice_cmp-IsAntisymmetric}
-use Rattle.nntp_facts.proofs.Base.{nat_cmp-IsAntisymmetric, Name, is_same, Fact, asks_of, AsksStand, sorted_keys, in_get, In, all_from, from_map, KeptGroup}
-use Rattle.nntp_facts.proofs.{Base.{told, AreKeptGroups, IsStrictlySortedBy, is_at, contains_key-keys, map-id, are_unseen}, Keeping.KeptGroups.{kept_of}}
-use Rattle.nntp_facts.{proofs.Keeping.{KeptGroups.{shown_kept}, FactsOfOneGroup.{flip_number, flip_text}}, specs.Inner.Kept.{IsKeptGroup}}
+use Rattle.nntp_facts.proofs.Base.{eq_by_cmp, slice_cmp, nat_list_cmp_total, FinMap, get, entries, slice_cmp-IsAntisymmetric, nat_cmp-IsAntisymmetric, Name}
+use Rattle.nntp_facts.proofs.Base.{is_same, Fact, asks_of, AsksStand, sorted_keys, in_get, In, all_from, from_map, KeptGroup, told, AreKeptGroups, are_unseen}
+use Rattle.nntp_facts.{proofs.Keeping.{KeptGroups.{kept_of, shown_kept}, FactsOfOneGroup.{flip_number, flip_text}}, specs.Inner.Kept.{IsKeptGroup}}
 use Rattle.nntp_facts.specs.Inner.Readers.{shown_groups, AreShownNumbers, HasShownNumbers, AreShownGroups, ShownGroup, with_ids, shown_group}
+use Rattle.std.{specs.{FinMap.{entries_sorted, contains_key-keys}, List.Sorted.{IsStrictlySortedBy}, BTreeMap.{is_at}}, proofs.lemmas.List.{map-id}}
 
 -- ---- lists that are made of another
 

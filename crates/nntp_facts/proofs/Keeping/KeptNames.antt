@@ -5,9 +5,8 @@ use Rattle.nntp_facts.proofs.Base.{Equal, nat_cmp, is_eq, slice_cmp, same_text, 
 use Rattle.nntp_facts.proofs.Base.{matches_name, ActiveValue, Name, is_same, Fact, GroupsAre, is_shown_group, denies_group, all_at, all_from, contains_in}
 use Rattle.nntp_facts.proofs.Base.{in_back, any_silent, get, IsGroupName, get-shown, Together, shown_named, AreKeptNames, KeptGroup, told, AreKeptGroups}
 use Rattle.nntp_facts.proofs.Base.{MayList, WereListed, is_listed, NoneIsMissing, KeptNames, WasAnswered, length, is_wildmat, shown, is_some-option_map}
-use Rattle.nntp_facts.proofs.Keeping.{CountedGroups.{listed_still}, FactsOfOneGroup.{flip_text}, KeptGroups.{Groups, shown_kept}}
+use Rattle.nntp_facts.proofs.{Base.{any-insert_key}, Keeping.{CountedGroups.{listed_still}, FactsOfOneGroup.{flip_text}, KeptGroups.{Groups, shown_kept}}}
 use Rattle.std.specs.{BTreeSet.{insert_key}, Map.{lookup, keys_of}, Borrow.{Bor}}
-use Rattle.nntp_article.proofs.SessionLemmas.SetKeys.{any-insert_key}
 
 -- ---- keys of a set
 

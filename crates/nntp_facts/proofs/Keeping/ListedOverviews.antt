@@ -1,8 +1,8 @@
 -- What overviews of a range say of the numbers and ids of their group.
 use Rattle.nntp_facts.proofs.Base.{or-false, ◌≡◌, ℕ, cond, List, [], ◌∷◌, ◌++◌, None, inl, refl, arith, and_parts, OverviewValue, Range, Id, Name, is_same}
 use Rattle.nntp_facts.proofs.Base.{is_ascending, overview_numbers, ListsIn, OverviewsAre, asks_of, first_given, id_in, fields_of_overview, number_in, said_of}
-use Rattle.nntp_facts.proofs.Base.{AgreesWithItself, each_of, in_map, in_back, or_none, HaveOwn, id_listed, place_listed, said_listed, all_differ, apart_agree}
-use Rattle.nntp_article.specs.Session.Machine.{overview_ids}
+use Rattle.nntp_facts.proofs.Base.{AgreesWithItself, each_of, in_map, in_back, or_none, HaveOwn, id_listed, place_listed, said_listed, apart_agree}
+use Rattle.nntp_article.specs.Session.Machine.{all_differ, overview_ids}
 
 -- what one list of overviews says
 module _ (here : Name) (r : Range) (os : List OverviewValue) where

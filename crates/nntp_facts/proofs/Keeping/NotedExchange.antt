@@ -3,10 +3,10 @@ use Rattle.nntp_facts.proofs.Base.{Asked, Response, ◌≡◌, ◌+◌, ◌<◌,
 use Rattle.nntp_facts.proofs.Base.{append_assoc, length-append, AllByRecursion, profile_of, start, fits, Visible, Profile, Paired, asked_at, asked_of}
 use Rattle.nntp_facts.proofs.Base.{responses_of, lines_in, Fact, facts_of, ThereIs, FitsAll, size, IsWellFormed, Together, Join, said_behind, AreFew}
 use Rattle.nntp_facts.proofs.Base.{facts_of_all, exchanged, ArePermittedBehind, Contradiction, all_both, all_back, any_back, all_front, all_from, any_in}
-use Rattle.nntp_facts.proofs.Base.{facts_next, as_many, ends, stand_each, facts_behind, Marks, Position, shows_group, same_itself, Kept, IsKept, Saying}
-use Rattle.nntp_facts.proofs.Base.{IsSelectedShown, Tells, FactsKept, IsNotedBehind, ◌↔◌, visible_after, IsSpelled, position_after, facts_from, Nowhere}
-use Rattle.nntp_facts.proofs.Base.{said_by, SomePermitsEach, Consistent, OutOfPlace, facts_of_session, visible_from, MayFollow, of_these, permitted_next}
-use Rattle.nntp_facts.proofs.Base.{visible_next, position_next, with_pair, Among, HasNoted, still_stands, small_behind, spelled_formed, if_some}
+use Rattle.nntp_facts.proofs.Base.{facts_next, as_many, ends, stand_each, facts_behind, Marks, Position, shows_group, same_itself, Kept, IsKept, Saying, Tells}
+use Rattle.nntp_facts.proofs.Base.{FactsKept, IsNotedBehind, ◌↔◌, visible_after, IsSpelled, position_after, facts_from, Nowhere, said_by, SomePermitsEach}
+use Rattle.nntp_facts.proofs.Base.{Consistent, OutOfPlace, facts_of_session, visible_from, MayFollow, of_these, permitted_next, visible_next, position_next}
+use Rattle.nntp_facts.{proofs.Base.{with_pair, Among, HasNoted, still_stands, small_behind, spelled_formed, if_some}, specs.Inner.Saying.{IsSelectedShown}}
 use Rattle.nntp_facts.specs.Inner.{Kept.{AreAdded}, Noted.{HasNotedBehind, IsDue, MayBeNoted, said_then}}
 
 -- answers that fit leave a group selected that a 211 selected

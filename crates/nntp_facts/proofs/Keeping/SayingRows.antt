@@ -3,8 +3,8 @@ use Rattle.nntp_facts.proofs.Base.{◌≡◌, ℕ, ◌<◌, ◌^◌, get_or, tru
 use Rattle.nntp_facts.proofs.Base.{arith, true≢false, and_parts, eqb-true, leb-true, list_all, IfSome, Id, Name, Visible, fits, overview_numbers, only}
 use Rattle.nntp_facts.proofs.Base.{names_differ, Profile, numbers_of, Lists, Asked, Response, Marks, Range, ActiveValue, OverviewValue, active_groups}
 use Rattle.nntp_facts.proofs.Base.{overviews_of, Position, Ask, Estimates, ListsIn, Fact, ThereIs, Asks, FieldsAre, here, facts_of, group_of, Says, AreBounded}
-use Rattle.nntp_facts.proofs.Base.{all_from, each_of, found_in, AreListed, Saying, TellsHere, IsSelectedShown, IsShownThen, nothing, saying_by, asked_id}
-use Rattle.nntp_facts.{proofs.Base.{id_facts, HaveOwn, MayList, nat_le, ◌≤◌, is_article_number, active_fits, lists_of}, specs.Inner.Saying.{numbers_shown}}
+use Rattle.nntp_facts.proofs.Base.{all_from, each_of, found_in, AreListed, Saying, nothing, saying_by, asked_id, id_facts, HaveOwn, MayList, nat_le, ◌≤◌}
+use Rattle.nntp_facts.{proofs.Base.{is_article_number, active_fits, lists_of}, specs.Inner.Saying.{TellsHere, IsSelectedShown, IsShownThen, numbers_shown}}
 use Rattle.nntp_numbers.{specs.Inner.{Part.{Said, AreListable}, PartOf.{IsSmall, nothing_said, part_with}}, proofs.SaidInARange.{says_range, says_listed}}
 use Rattle.nntp_numbers.proofs.SaidOfAsks.{said_small, says_marks, marks_bounded, says_has, says_lacks, says_stands, says_nowhere, says_up, says_down, says_top}
 use Rattle.nntp_numbers.proofs.SaidOfAsks.{says_bottom}

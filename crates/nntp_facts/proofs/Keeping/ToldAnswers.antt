@@ -4,8 +4,8 @@ use Rattle.nntp_facts.proofs.Base.{◌∷◌, ◌++◌, length, length-append, a
 use Rattle.nntp_facts.proofs.Base.{slice_get, AllByRecursion, option_map_or, Asked, Response, lines_in, Name, Visible, start, fits, Profile, numbers_of}
 use Rattle.nntp_facts.proofs.Base.{Position, Fact, Holds, here, facts_of, group_of, is_shown_group, size, Together, Join, IsWellFormed, FitsThere, Placed, said}
 use Rattle.nntp_facts.proofs.Base.{the_group, SomeHas, told_with, any_back, all_front, size-append, together_more, same_itself, Kept, IsKept, Saying, OfGroup}
-use Rattle.nntp_facts.{proofs.{Base.{Tells, TellsHere, IsShownThen, IsSelectedShown, ◌↔◌}, Keeping.NotedExchange.{Adds}}, specs.Inner.Kept.{AreAdded}}
-use Rattle.nntp_facts.specs.Inner.{Saying.{TellsThere, there_facts}, Told.{AreTold, AreToldWith, PlacesTold}}
+use Rattle.nntp_facts.{proofs.{Base.{Tells, ◌↔◌}, Keeping.NotedExchange.{Adds}}, specs.Inner.Saying.{TellsHere, IsShownThen, IsSelectedShown, TellsThere}}
+use Rattle.nntp_facts.specs.Inner.{Saying.{there_facts}, Kept.{AreAdded}, Told.{AreTold, AreToldWith, PlacesTold}}
 use Rattle.std.proofs.{Common.{◌*◌}, Math.Path.{ap₂}}
 use Rattle.nntp_theory.proofs.{Together.{FactsOfASpoolStand.{stand}, FactsJoin.{answer_agrees}}, Ids.SizeOfASession.{answer_size}}
 use Rattle.nntp_theory.{proofs.Session.GroupOfAnAnswer.{same_selected}, specs.{Conflict.{told, told_at}, Inner.Together.{AgreeWithin}}}

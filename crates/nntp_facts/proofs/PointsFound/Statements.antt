@@ -4,11 +4,11 @@ use Rattle.nntp_facts.proofs.Base.{arith, list_any-append, or_left, IfSome, opti
 use Rattle.nntp_facts.proofs.Base.{Marks, Lenient, matches_name, IsGroupName, Asked, Response, Id, Name, is_same, Visible, fits, Profile, numbers_of, Estimates}
 use Rattle.nntp_facts.proofs.Base.{Fact, GroupsAre, here, facts_of, group_of, Position, asks_of, shows_group, is_shown_group, first_given, id_in, denies_group}
 use Rattle.nntp_facts.proofs.Base.{number_in, said_of, IsWellFormed, FitsThere, widest, the_group, Placed, said, asks_append, same_itself, in_front, in_back}
-use Rattle.nntp_facts.proofs.Base.{all_at, all_both, Saying, asked_id, facts_in, TellsHere, IsSelectedShown, MayList, is_listed, or-false}
-use Rattle.nntp_facts.proofs.Keeping.{PartsJoin.{no_group_is}, OverviewsTold.{plain_told, plain_alone, shown_by_told, denied_by_told, said_by_told}}
-use Rattle.nntp_facts.proofs.Keeping.{OverviewsTold.{asks_by_told, ids_by_told, places_by_told}, ToldAnswers.{there_told, group_said, none_said}}
-use Rattle.nntp_facts.{proofs.Keeping.ToldAnswers.{selected_spoken}, specs.Inner.{Saying.{facts_told, IsAlone, TellsThere}, Points.{Statement, TellsAlone}}}
-use Rattle.nntp_facts.specs.Inner.Points.{shows_name, denies_name, id_told, place_told, said_by, bounds_of}
+use Rattle.nntp_facts.proofs.{Base.{all_at, all_both, Saying, asked_id, facts_in, MayList, is_listed, or-false}, Keeping.PartsJoin.{no_group_is}}
+use Rattle.nntp_facts.proofs.Keeping.OverviewsTold.{plain_told, plain_alone, shown_by_told, denied_by_told, said_by_told, asks_by_told, ids_by_told}
+use Rattle.nntp_facts.proofs.Keeping.{OverviewsTold.{places_by_told}, ToldAnswers.{there_told, group_said, none_said, selected_spoken}}
+use Rattle.nntp_facts.specs.Inner.{Saying.{TellsHere, IsSelectedShown, facts_told, IsAlone, TellsThere}, Points.{Statement, TellsAlone, shows_name}}
+use Rattle.nntp_facts.specs.Inner.Points.{denies_name, id_told, place_told, said_by, bounds_of}
 use Rattle.nntp_theory.{specs.Conflict.{told}, proofs.Together.FactsJoin.{answer_agrees}}
 
 -- ---- what it tells

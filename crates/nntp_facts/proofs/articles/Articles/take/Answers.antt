@@ -1,6 +1,6 @@
-use Rattle.nntp_facts.proofs.Base.{ap, sym, map, ◌∙◌, nat_cmp, slice_cmp, nat_list_cmp_total, rc_str_bytes, entries-shown, known_article, shown_article}
-use Rattle.nntp_facts.proofs.{Base.{shown_articles, slice_cmp-IsAntisymmetric, nat_cmp-IsAntisymmetric, from_entries}, Keeping.KeptIds.{articles-with_denied}}
-use Rattle.nntp_facts.specs.Inner.{Articles.{with_denied}, ArticleView.{entries_value}, Readers.{articles_shown_in}}
+use Rattle.nntp_facts.proofs.Base.{ap, sym, map, ◌∙◌, nat_cmp, slice_cmp, nat_list_cmp_total, rc_str_bytes, entries-shown, known_article}
+use Rattle.nntp_facts.proofs.{Base.{slice_cmp-IsAntisymmetric, nat_cmp-IsAntisymmetric, from_entries}, Keeping.KeptIds.{articles-with_denied}}
+use Rattle.nntp_facts.specs.Inner.{Readers.{shown_article, shown_articles, articles_shown_in}, Articles.{with_denied}, ArticleView.{entries_value}}
 use Rattle.nntp_facts.proofs.articles.Articles.take.Goals as goal
 
 pub returns : goal.returns

@@ -13,4 +13,5 @@ returns-in-Some-clause-groups g c =
     (told (facts ++ facts_in s asks)) (group_changes facts s asks no_list may part same)) c.add.ensures
 
 pub returns-in-None-clause-groups : goal.returns-in-None-clause-groups
-returns-in-None-clause-groups g c facts s asks is no_list together may joins kept again text = groups_alike facts s asks no_list may (is ∙ ap (option_map of_group) c.in-None.is) c.args.self.now.groups kept
+returns-in-None-clause-groups g c facts s asks is no_list together may joins kept again text =
+    groups_alike facts s asks no_list may (is ∙ ap (option_map of_group) c.in-None.is) c.args.self.now.groups kept
