@@ -54,14 +54,8 @@ impl<'s> NumbersPart<'s> {
     fn denies_after<A: Allocator>(&self, denied: &IntervalSet<A>, n: u64) -> bool
         ensures { result ≡ denied_after denied.now (said self.now) n }
     {
-        denied.contains(n) || self.denies(n)
-    }
-
-    /// Tells whether the part says that the number isn't there.
-    fn denies(&self, n: u64) -> bool
-        ensures { result ≡ part_denies (said self.now) n }
-    {
-        n < self.low
+        denied.contains(n)
+            || n < self.low
             || self.high < n
             || (self.first <= n && n <= self.last && !self.numbers.contains(&n))
     }
@@ -70,6 +64,10 @@ impl<'s> NumbersPart<'s> {
     pub(crate) fn gaps(&self) -> Gaps<'s>
         ensures { result ≡ gaps (Some self.now.first) self.now.last self.now.numbers.now }
     {
-        Gaps::new(self.first, self.last, self.numbers)
+        Gaps {
+            start: Some(self.first),
+            last: self.last,
+            numbers: self.numbers,
+        }
     }
 }

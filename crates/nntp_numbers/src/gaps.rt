@@ -13,11 +13,11 @@ use std::marker::Model;
 #[derive(Drop)]
 pub(crate) struct Gaps<'a> {
     /// The number at which the next interval begins, if there is one.
-    start: Option<u64>,
+    pub(crate) start: Option<u64>,
     /// The last number of the range.
-    last: u64,
+    pub(crate) last: u64,
     /// The numbers that aren't passed yet.
-    numbers: &'a [u64],
+    pub(crate) numbers: &'a [u64],
 }
 
 impl<'a> Model for Gaps<'a> {
@@ -49,19 +49,6 @@ impl<'a> Iterator for Gaps<'a> {
                 self.start = None;
                 Some((start, self.last))
             }
-        }
-    }
-}
-
-impl<'a> Gaps<'a> {
-    /// Begins with the first interval of the range from `first` to `last`.
-    pub(crate) fn new(first: u64, last: u64, numbers: &'a [u64]) -> Gaps<'a>
-        ensures { result ≡ gaps (Some first) last numbers.now }
-    {
-        Gaps {
-            start: Some(first),
-            last,
-            numbers,
         }
     }
 }

@@ -16,7 +16,7 @@ use Rattle.nntp_said.specs.Asks.{Ask, Meets, Bounds, Estimates, ListsIn, Has, La
 use Rattle.nntp_said.specs.{declared.position.Position.{Position, TheVariants.{Nowhere, Known}}, Inner.{Asks.{state_at}, Facts.{FitsAll}}, Facts.{Fact}}
 use Rattle.nntp_said.specs.Facts.{ThereIs, ThereIsNo, Asks, IdAt, TextIs, NoArticle, FieldsAre, OverviewsAre, GroupsAre, Holds, facts_from}
 use Rattle.nntp_said.proofs.{CurrentArticle.{read_off, run_from}, FactsHold.{permits_by_facts}, FiniteMapsDecided.{Dec, dec_true, dec_le, dec_both, dec_by}}
-use Rattle.nntp_said.proofs.FiniteMapsDecided.{dec_none, each_key, dec_some, dec_option, dec_lists, dec_to, passes, fails, dec_all, dec_texts}
+use Rattle.nntp_said.proofs.FiniteMapsDecided.{dec_none, each_key, dec_some, dec_option, dec_lists, dec_to, passes, fails, dec_all, dec_texts, dec_if_some}
 
 each_number : (N : Numbers) (p : ℕ → Bool) → Dec ((n : ℕ) → IsNumber N n → IsTrue (p n))
 each_number N p = each_key nat_cmp_total nat_cmp-IsAntisymmetric p N
@@ -75,9 +75,6 @@ dec_same_keys o same exact m P d ks =
 
 dec_listing : (N : Numbers) (r : Range) (ns : List ℕ) → Dec (Lists N r ns)
 dec_listing N r ns = dec_same_keys nat_cmp_total nat_cmp-IsAntisymmetric exact_unsigned N (IsInRange r) (dec_in_range r) ns
-
-dec_if_some : {A : Type 0} (o : Option A) {Q : A → Type 0} → ((x : A) → Dec (Q x)) → Dec (IfSome o Q)
-dec_if_some o d = grind arith
 
 dec_match : {A : Type 0} (o : Option A) (Q : A → Type 0) → ((x : A) → Dec (Q x)) → Dec (MatchOption o ⊥ Q)
 dec_match o Q d = grind arith

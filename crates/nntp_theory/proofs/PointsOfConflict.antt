@@ -16,8 +16,8 @@ use Rattle.nntp_wire.specs.{declared.marks.Marks.{Marks, TheVariants.{Lenient}},
 use Rattle.nntp_article.specs.{Article.{Parts.{Id}, Fields.{Word, words_in}}, declared.article.field.Field.{Field, TheVariants.{Subject, From, Date}}}
 use Rattle.nntp_article.specs.{declared.{article.field.Field.TheVariants.{References}, session.profile.Profile.{Profile}}, Session.Spool.{Name, Numbers}}
 use Rattle.nntp_article.specs.Session.{Spool.{numbers}, Machine.{is_same}}
-use Rattle.nntp_said.{proofs.FiniteMapsDecided.{Dec, dec_some, dec_texts, dec_lists, dec_all}, specs.{Asks.{Ask}, Facts.{Fact, IdAt, TextIs, FieldsAre}}}
-use Rattle.nntp_said.specs.Facts.{OverviewsAre}
+use Rattle.nntp_said.{proofs.FiniteMapsDecided.{Dec, dec_if_some, dec_some, dec_texts, dec_lists, dec_all}, specs.{Asks.{Ask}, Facts.{Fact, IdAt, TextIs}}}
+use Rattle.nntp_said.specs.Facts.{FieldsAre, OverviewsAre}
 
 -- ---- what a fact gives
 
@@ -52,10 +52,6 @@ field_keys fact = flat_map each_field (article_keys fact)
 -- two names or ids are the same, or tested not to be
 same_or_not : (x y : List ℕ) → (is_same x y ≡ false) ⊎ (x ≡ y)
 same_or_not x y = elim (cases_Bool (is_same x y)) [ inl t ↦ inr (same_text x y (sym t)) | inr f ↦ inl f ]
-
--- whether what is given has it
-dec_if : {A : Type 0} (o : Option A) (Q : A → Type 0) → ((x : A) → Dec (Q x)) → Dec (IfSome o Q)
-dec_if o Q x = grind arith
 
 -- both pass, or where the one does, the other doesn't
 both_or_apart : (a b : Bool) → (IsTrue a × IsTrue b) ⊎ (IsTrue a → IsFalse b)
@@ -128,7 +124,7 @@ module _ (facts : List Fact) where
       → (C : Type 0) → ((k : K) → (GiveOne (f k) facts → ⊥) → C) → C ⊎ ((k : K) → GiveOne (f k) facts)
   each_given {A} {K} keys f d keyed C point = each_key (flat_map keys facts) C (λ k. GiveOne (f k) facts)
       (λ k. each (In k (flat_map keys facts)) (IsFirst (f k)) facts (λ fact i. grind (arith, to_flat keys fact k facts i, keyed k fact)))
-      (λ k. elim (dec_all (IsFirst (f k)) (λ fact. dec_if (f k fact) _ (dec_some d (first_given (f k) facts))) facts) [ inl one ↦ inr one | inr out ↦ inl (point k out) ])
+      (λ k. elim (dec_all (IsFirst (f k)) (λ fact. dec_if_some (f k fact) (dec_some d (first_given (f k) facts))) facts) [ inl one ↦ inr one | inr out ↦ inl (point k out) ])
 
   -- ---- groups
 

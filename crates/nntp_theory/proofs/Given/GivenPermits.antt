@@ -4,7 +4,7 @@ use Rattle.nntp_article.specs.{Session.{Spool.{Spool, IsSpool}, Machine.{Run, st
 use Rattle.nntp_said.{specs.{declared.position.Position.TheVariants.{Nowhere}, Facts.{Holds}, Inner.Facts.{FitsAll}}, proofs.CurrentArticle.{read_off}}
 use Rattle.nntp_said.proofs.{CurrentArticle.{run_from}, FactsHold.{permits_by_facts}}
 use Rattle.nntp_theory.specs.{Given.{IsGiven, facts_of_session, HasAtLeast}, Inner.{Given.{size}, Together.{Together}}}
-use Rattle.nntp_theory.proofs.{Session.{NumbersOfShownGroups.{session_placed}, FittingFacts.{session_fitting}}, Together.FactsOfASpoolStand.{stand}}
+use Rattle.nntp_theory.proofs.{Session.{NumbersOfShownGroups.{session_placed}, FittingFacts.{from_fitting}}, Together.FactsOfASpoolStand.{stand}}
 use Rattle.nntp_theory.proofs.Given.GivenHasFacts.{given_has, least_of_facts}
 use Rattle.nntp_wire.specs.Answer.{Asked, Response}
 
@@ -32,7 +32,7 @@ pub given_permits : (profile : Profile) (G : Spool) (ps : List Asked) (answers :
     → IsGiven (facts_of_session profile.marks ps answers) G → IsSpool profile.limit G × Run profile G start ps answers
 given_permits profile G ps answers fits together small given =
     let facts = facts_of_session profile.marks ps answers in
-    let has = given_has profile profile.marks G facts (session_fitting profile ps answers fits) (session_placed profile ps answers fits) together small given in
+    let has = given_has profile profile.marks G facts (from_fitting profile start.visible Nowhere ps answers fits) (session_placed profile ps answers fits) together small given in
     (has.0, permits profile G ps answers fits has.1)
 
 -- a spool that permits a session has what the session shows, and as many numbers as are given

@@ -4,7 +4,7 @@ use Rattle.nntp_article.specs.{Session.{Spool.{Spool, IsSpool}, Machine.{start}}
 use Rattle.nntp_said.{proofs.{FiniteMapsDecided.{Dec, dec_both}, PermittingDecided.{dec_run}}, specs.{Facts.{Fact, Holds}, Inner.Facts.{FitsAll}}}
 use Rattle.nntp_theory.specs.{Given.{IsGiven, HasAtLeast, facts_of_session}, Inner.{Given.{size}, Permits.{SomePermits}, Together.{Together}}}
 use Rattle.nntp_theory.{specs.{Inner.Answered.{FitEach}, Answered.{Answered, PermitsEach, SomePermitsEach, facts_of_all}}, proofs.Members.{all_from, all_both}}
-use Rattle.nntp_theory.proofs.{Members.{all_front, all_back}, Session.{FittingFacts.{IsFitting, session_fitting}, NumbersOfShownGroups.{Among, Placed}}}
+use Rattle.nntp_theory.proofs.{Members.{all_front, all_back}, Session.{FittingFacts.{IsFitting, from_fitting}, NumbersOfShownGroups.{Among, Placed}}}
 use Rattle.nntp_theory.proofs.{Session.NumbersOfShownGroups.{placed_among, session_placed}, Together.FactsOfASpoolStand.{stand}}
 use Rattle.nntp_theory.proofs.Given.{GivenHasFacts.{given_of_facts, given_has, least_of_facts}, GivenPermits.{said, permits}, ConstructedSpool.{made}}
 use Rattle.nntp_theory.proofs.Given.SpoolsDecided.{dec_spool}
@@ -29,7 +29,7 @@ permits_each profile S (s ∷ more) f h = grind (arith, permits, all_front, all_
 -- it fits
 pub all_fitting : (profile : Profile) (sessions : List Answered) → FitEach profile sessions → AllByRecursion (IsFitting profile) (facts_of_all profile.marks sessions)
 all_fitting profile [] f = tt
-all_fitting profile (s ∷ more) f = grind (arith, all_both, session_fitting, all_fitting profile more f.1)
+all_fitting profile (s ∷ more) f = grind (arith, all_both, from_fitting, all_fitting profile more f.1)
 
 -- and is placed among all that is said
 among_placed : (profile : Profile) (all : List Fact) (sessions : List Answered) → FitEach profile sessions
@@ -97,16 +97,10 @@ permits_alone profile s = (λ h. (h.0, h.1, h.2.0), λ h. (h.0, h.1, (h.2, tt)))
 
 -- ---- one session
 
--- the spool that is made for a session
-pub made_for : Profile → List Asked → List Response → Spool
-made_for profile ps answers = made profile.limit (10 ^ 64) (facts_of_session profile.marks ps answers)
-
--- it is the given one, if the session fits
+-- the spool that is made for a session is the given one, if it fits
 pub given_exists : (profile : Profile) (ps : List Asked) (answers : List Response) → FitsAll profile start.visible ps answers
-    → size (facts_of_session profile.marks ps answers) < 2 ^ 210 → IsGiven (facts_of_session profile.marks ps answers)
-    (made_for profile ps answers)
-unfolding made_for
-given_exists profile ps answers fits small = search (arith, given_of_facts, session_fitting, session_placed)
+    → size (facts_of_session profile.marks ps answers) < 2 ^ 210 → IsGiven (facts_of_session profile.marks ps answers) (made profile.limit (10 ^ 64) (facts_of_session profile.marks ps answers))
+given_exists profile ps answers fits small = search (arith, given_of_facts, from_fitting, session_placed)
 
 -- some spool permits a session, or none does
 pub some_or_none : (profile : Profile) (ps : List Asked) (answers : List Response) → size (facts_of_session profile.marks ps answers) < 2 ^ 210

@@ -11,28 +11,29 @@ use Rattle.nntp_wire.specs.Session.{ClientStream}
 
 -- ---- the first bad answer
 
-pub first_bad : (profile : Profile) (client : ClientStream) (server : List ℕ) (pairs : List Paired) (answer : Judged) (more : List Judged) (ending : Ending) (class : Class)
-    → IsReading profile client server (map Accepted pairs ++ answer ∷ more) ending → class_behind profile pairs answer ≡ Some class
-    → IsOutcome profile client server (No (length pairs) class)
-first_bad profile client server pairs (Accepted pair) more ending class reading e = cc
-first_bad profile client server pairs (Refused pair) more ending class reading e =
-    let r = accepted_first (ArePermitted profile) [] (streams client server) reading.left pairs (Refused pair ∷ more) (none_accepted profile) reading.judged in
-    grind (
-      arith,
-      outcome_at_response profile client server pairs pair r.between r.rest.0 r.paired r.rest.1.0 ((permits_alone profile (exchanged pairs)).0 r.stand)
-          (λ h. r.rest.1.1 ((permits_alone profile (exchanged (pairs ++ pair ∷ []))).1 h)),
-    )
-first_bad profile client server pairs (Unspelled index place initial block) more ending class reading e =
-    let r = accepted_first (ArePermitted profile) [] (streams client server) reading.left pairs (Unspelled index place initial block ∷ more) (none_accepted profile) reading.judged in
-    let pairing : IsPairing client server pairs (bad PairMalformed) = record { left = r.between; paired = r.paired; ends = passed-ends r.between r.rest.0 place initial block r.rest.1.1 } in
-    grind (arith, outcome_at_octets profile client server pairs PairMalformed pairing ((permits_alone profile (exchanged pairs)).0 r.stand))
+module _ (profile : Profile) (client : ClientStream) (server : List ℕ) where
+  pub first_bad : (pairs : List Paired) (answer : Judged) (more : List Judged) (ending : Ending) (class : Class)
+      → IsReading profile client server (map Accepted pairs ++ answer ∷ more) ending → class_behind profile pairs answer ≡ Some class
+      → IsOutcome profile client server (No (length pairs) class)
+  first_bad pairs (Accepted pair) more ending class reading e = cc
+  first_bad pairs (Refused pair) more ending class reading e =
+      let r = accepted_first (ArePermitted profile) [] (streams client server) reading.left pairs (Refused pair ∷ more) (none_accepted profile) reading.judged in
+      grind (
+        arith,
+        outcome_at_response profile client server pairs pair r.between r.rest.0 r.paired r.rest.1.0 ((permits_alone profile (exchanged pairs)).0 r.stand)
+            (λ h. r.rest.1.1 ((permits_alone profile (exchanged (pairs ++ pair ∷ []))).1 h)),
+      )
+  first_bad pairs (Unspelled index place initial block) more ending class reading e =
+      let r = accepted_first (ArePermitted profile) [] (streams client server) reading.left pairs (Unspelled index place initial block ∷ more) (none_accepted profile) reading.judged in
+      let pairing : IsPairing client server pairs (bad PairMalformed) = record { left = r.between; paired = r.paired; ends = passed-ends r.between r.rest.0 place initial block r.rest.1.1 } in
+      grind (arith, outcome_at_octets profile client server pairs PairMalformed pairing ((permits_alone profile (exchanged pairs)).0 r.stand))
 
--- where all are accepted, octets that answer nothing are the first bad answer
-pub bad_at_octets : (profile : Profile) (client : ClientStream) (server : List ℕ) (pairs : List Paired) (class : PairClass)
-    → IsReading profile client server (map Accepted pairs) (bad class) → IsOutcome profile client server (No (length pairs) (class_of class))
-bad_at_octets profile client server pairs class reading =
-    let all = all_paired (ArePermitted profile) client server pairs (bad class) (none_accepted profile) reading in
-    outcome_at_octets profile client server pairs class all.0 ((permits_alone profile (exchanged pairs)).0 all.1)
+  -- where all are accepted, octets that answer nothing are the first bad answer
+  pub bad_at_octets : (pairs : List Paired) (class : PairClass)
+      → IsReading profile client server (map Accepted pairs) (bad class) → IsOutcome profile client server (No (length pairs) (class_of class))
+  bad_at_octets pairs class reading =
+      let all = all_paired (ArePermitted profile) client server pairs (bad class) (none_accepted profile) reading in
+      outcome_at_octets profile client server pairs class all.0 ((permits_alone profile (exchanged pairs)).0 all.1)
 
 -- ---- whether there is one
 

@@ -1,14 +1,13 @@
 -- What the visible condition says of the facts of an answer.
 use Rattle.std.{proofs.{Common.{◌≡◌, ℕ, IsTrue, List, ◌∷◌, arith, ◌≤◌}, lemmas.Bool.{and_parts}}, specs.{Prelude.{⊤}, List.{AllByRecursion}}}
-use Rattle.nntp_article.specs.Session.Machine.{Visible, visible_after, start, fits, is_article_number, head_fits, active_fits, overview_numbers}
+use Rattle.nntp_article.specs.Session.Machine.{Visible, visible_after, fits, is_article_number, head_fits, active_fits, overview_numbers}
 use Rattle.nntp_article.specs.declared.session.profile.Profile.{Profile}
 use Rattle.nntp_wire.specs.{Answer.{Asked, Response}, Listing.{listed_numbers, active_groups, overviews_of}, declared.range.Range.{Range}}
-use Rattle.nntp_said.specs.{Asks.{position_after, Estimates, ListsIn, Has, StandsAt, StepsUp, StepsDown}, declared.position.Position.{Position}}
-use Rattle.nntp_said.specs.{declared.position.Position.TheVariants.{Nowhere}, Facts.{Fact, Asks, IdAt, TextIs, FieldsAre, OverviewsAre, GroupsAre, here}}
-use Rattle.nntp_said.{specs.{Facts.{facts_of, facts_from}, Inner.Facts.{FitsAll}}, proofs.Rows.{Row, AreListed, row, within, marks, listing, up, down, text}}
-use Rattle.nntp_said.proofs.Rows.{text_at, text_here, overview, overview_at, overview_here, active}
-use Rattle.nntp_theory.{specs.{Given.{facts_of_session}, Inner.Together.{AgreesWithItself}}, proofs.Members.{all_both, all_from, each_of}}
-use Rattle.nntp_theory.proofs.Together.ListedOverviews.{apart_agree, alone_agrees}
+use Rattle.nntp_said.specs.{Asks.{position_after, Estimates, ListsIn, Has, StandsAt, StepsUp, StepsDown}, declared.position.Position.{Position}, Facts.{Fact}}
+use Rattle.nntp_said.specs.{Facts.{Asks, IdAt, TextIs, FieldsAre, OverviewsAre, GroupsAre, here, facts_of, facts_from}, Inner.Facts.{FitsAll}}
+use Rattle.nntp_said.proofs.Rows.{Row, AreListed, row, within, marks, listing, up, down, text, text_at, text_here, overview, overview_at, overview_here, active}
+use Rattle.nntp_theory.{specs.Inner.Together.{AgreesWithItself}, proofs.{Members.{all_both, all_from, each_of}, Together.ListedOverviews.{apart_agree}}}
+use Rattle.nntp_theory.proofs.Together.ListedOverviews.{alone_agrees}
 
 -- marks and numbers are within the limit, a low mark of 0 estimates no number, a text has the parts that were asked for, and listed groups match
 abbrev pub IsFitting : Profile → Fact → Type 0
@@ -51,12 +50,7 @@ pub answer_fitting : (profile : Profile) (v : Visible) (at : Position) (p : Aske
 answer_fitting profile v at p a = row_fitting (row profile v at p a)
 
 -- what answers that fit say, from any state on
-from_fitting : (profile : Profile) (v : Visible) (at : Position) (ps : List Asked) (answers : List Response)
+pub from_fitting : (profile : Profile) (v : Visible) (at : Position) (ps : List Asked) (answers : List Response)
     → FitsAll profile v ps answers → AllByRecursion (IsFitting profile) (facts_from profile.marks v at ps answers)
 from_fitting profile v at (p ∷ ps) (a ∷ more) f = grind (arith, all_both, answer_fitting, from_fitting profile (visible_after v p a) (position_after at p a) ps more f.2)
 from_fitting profile v at ps answers f = tt
-
--- what a session that fits says
-pub session_fitting : (profile : Profile) (ps : List Asked) (answers : List Response) → FitsAll profile start.visible ps answers
-    → AllByRecursion (IsFitting profile) (facts_of_session profile.marks ps answers)
-session_fitting profile ps answers f = from_fitting profile start.visible Nowhere ps answers f

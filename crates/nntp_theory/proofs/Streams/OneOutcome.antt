@@ -42,50 +42,51 @@ given_explains profile S G client server n x small given =
       least = λ T m y. grind (arith, same_answers profile T S client server m n y x, given_is_least profile T G (prompts_of client) x.answers y.is_spool);
     }
 
--- two streams have one outcome at most
-pub one_outcome : (profile : Profile) (client : ClientStream) (server : List ℕ) (h k : Outcome) → IsOutcome profile client server h → IsOutcome profile client server k → h ≡ k
-one_outcome profile client server (Yes S n) (Yes T m) x y = grind (arith, same_answers profile S T client server n m x.explains y.explains, given_once)
-one_outcome profile client server (No k c) (No j d) x y =
-    grind (arith, bad_once (λ S. ⊤) profile client server k j x.0 y.0, one_class profile client server j c d)
-one_outcome profile client server h k x y = search (arith, explained_not_bad)
+module _ (profile : Profile) (client : ClientStream) (server : List ℕ) where
+  -- two streams have one outcome at most
+  pub one_outcome : (h k : Outcome) → IsOutcome profile client server h → IsOutcome profile client server k → h ≡ k
+  one_outcome (Yes S n) (Yes T m) x y = grind (arith, same_answers profile S T client server n m x.explains y.explains, given_once)
+  one_outcome (No k c) (No j d) x y =
+      grind (arith, bad_once (λ S. ⊤) profile client server k j x.0 y.0, one_class profile client server j c d)
+  one_outcome h k x y = search (arith, explained_not_bad)
 
--- and they have one
-pub some_outcome : (profile : Profile) (client : ClientStream) (server : List ℕ) → length server < 2 ^ 210 → (h : Outcome) × IsOutcome profile client server h
-some_outcome profile client server small = elim (explained_or_bad profile client server small) [
-  | inl (S, n, x) ↦
-      let few = few_facts profile S client server n x small in
-      let given = given_exists profile (prompts_of client) x.answers (stands profile S (prompts_of client) x.answers x.is_spool x.run).0 few in
-      (Yes _ n, given_explains profile S _ client server n x few given)
-  | inr (k, is_bad) ↦ let c = class_there profile client server k (before_bad (λ S. ⊤) profile client server k is_bad) in (No k c.0, (is_bad, c.1))
-]
+  -- and they have one
+  pub some_outcome : length server < 2 ^ 210 → (h : Outcome) × IsOutcome profile client server h
+  some_outcome small = elim (explained_or_bad profile client server small) [
+    | inl (S, n, x) ↦
+        let few = few_facts profile S client server n x small in
+        let given = given_exists profile (prompts_of client) x.answers (stands profile S (prompts_of client) x.answers x.is_spool x.run).0 few in
+        (Yes _ n, given_explains profile S _ client server n x few given)
+    | inr (k, is_bad) ↦ let c = class_there profile client server k (before_bad (λ S. ⊤) profile client server k is_bad) in (No k c.0, (is_bad, c.1))
+  ]
 
--- it is a yes exactly if some spool explains the streams
-pub yes_explained : (profile : Profile) (client : ClientStream) (server : List ℕ) (h : Outcome) → IsOutcome profile client server h
-    → IsTrue (is_yes h) ↔ ((S : Spool) × (n : ℕ) × Explains profile S client server n)
-yes_explained profile client server (Yes S n) x = (λ t. (S, n, x.explains), λ e. refl)
-yes_explained profile client server (No k class) x = (λ t. absurd (true≢false (sym t)), λ e. absurd (explained_not_bad profile e.0 client server e.1 k e.2 x.0))
+  -- it is a yes exactly if some spool explains the streams
+  pub yes_explained : (h : Outcome) → IsOutcome profile client server h
+      → IsTrue (is_yes h) ↔ ((S : Spool) × (n : ℕ) × Explains profile S client server n)
+  yes_explained (Yes S n) x = (λ t. (S, n, x.explains), λ e. refl)
+  yes_explained (No k class) x = (λ t. absurd (true≢false (sym t)), λ e. absurd (explained_not_bad profile e.0 client server e.1 k e.2 x.0))
 
--- ---- the ways to it
+  -- ---- the ways to it
 
--- at the end of the server's octets
-pub outcome_at_end : (profile : Profile) (client : ClientStream) (server : List ℕ) (pairs : List Paired) (unanswered : ℕ) (G : Spool)
-    → size (facts_of_session profile.marks (asked_of pairs) (responses_of pairs)) < 2 ^ 210
-    → IsPairing client server pairs (end unanswered)
-    → SomePermits profile (asked_of pairs) (responses_of pairs)
-    → IsGiven (facts_of_session profile.marks (asked_of pairs) (responses_of pairs)) G
-    → IsOutcome profile client server (Yes G (length pairs))
-outcome_at_end profile client server pairs unanswered G small pairing permitted given =
-    let p = (pairs_permitted profile client server pairs pairing.left pairing.paired).1 permitted in
-    let x = explained_end profile p.0 client server pairs unanswered pairing p.1 p.2 in
-    let answers : responses_of pairs ≡ x.answers = (by_all_pairs profile p.0 client server (length pairs) pairs (end unanswered) pairing x).0 in
-    let facts = sym (facts_by_pairs profile.marks client server pairs pairing.left pairing.paired) ∙ ap (facts_of_session profile.marks (prompts_of client)) answers in
-    given_explains profile p.0 G client server (length pairs) x (subst (λ facts. size facts < 2 ^ 210) facts small) (subst (λ facts. IsGiven facts G) facts given)
+  -- at the end of the server's octets
+  pub outcome_at_end : (pairs : List Paired) (unanswered : ℕ) (G : Spool)
+      → size (facts_of_session profile.marks (asked_of pairs) (responses_of pairs)) < 2 ^ 210
+      → IsPairing client server pairs (end unanswered)
+      → SomePermits profile (asked_of pairs) (responses_of pairs)
+      → IsGiven (facts_of_session profile.marks (asked_of pairs) (responses_of pairs)) G
+      → IsOutcome profile client server (Yes G (length pairs))
+  outcome_at_end pairs unanswered G small pairing permitted given =
+      let p = (pairs_permitted profile client server pairs pairing.left pairing.paired).1 permitted in
+      let x = explained_end profile p.0 client server pairs unanswered pairing p.1 p.2 in
+      let answers : responses_of pairs ≡ x.answers = (by_all_pairs profile p.0 client server (length pairs) pairs (end unanswered) pairing x).0 in
+      let facts = sym (facts_by_pairs profile.marks client server pairs pairing.left pairing.paired) ∙ ap (facts_of_session profile.marks (prompts_of client)) answers in
+      given_explains profile p.0 G client server (length pairs) x (subst (λ facts. size facts < 2 ^ 210) facts small) (subst (λ facts. IsGiven facts G) facts given)
 
--- at octets that answer nothing
-pub outcome_at_octets : (profile : Profile) (client : ClientStream) (server : List ℕ) (pairs : List Paired) (class : PairClass) → IsPairing client server pairs (bad class)
-    → SomePermits profile (asked_of pairs) (responses_of pairs) → IsOutcome profile client server (No (length pairs) (class_of class))
-outcome_at_octets profile client server pairs class pairing (S, spool, run) =
-    bad_end (λ S. ⊤) profile client server pairs class pairing S spool tt ((pairs_run profile S client server pairs pairing.left pairing.paired).1 run)
+  -- at octets that answer nothing
+  pub outcome_at_octets : (pairs : List Paired) (class : PairClass) → IsPairing client server pairs (bad class)
+      → SomePermits profile (asked_of pairs) (responses_of pairs) → IsOutcome profile client server (No (length pairs) (class_of class))
+  outcome_at_octets pairs class pairing (S, spool, run) =
+      bad_end (λ S. ⊤) profile client server pairs class pairing S spool tt ((pairs_run profile S client server pairs pairing.left pairing.paired).1 run)
 
 -- below, a pair comes next
 module _ (profile : Profile) (client : ClientStream) (server : List ℕ) (pairs : List Paired) (pair : Paired) (before after : Unpaired)

@@ -1,9 +1,9 @@
 -- What two lists of facts show, deny and give.
 use Rattle.nntp_theory.{proofs.Members.{first_found, all_both, all_back, all_from, all_at}, specs.{Given.{first_given}, Together.{GiveOne}}}
 use Rattle.nntp_theory.specs.Inner.Together.{GiveSame}
-use Rattle.std.proofs.{Common.{◌≡◌, Bool, false, ◌||◌, cond, IsTrue, List, [], ◌∷◌, ◌++◌, Option, None, refl, ap, ◌∙◌, arith}, lemmas.Bool.{true≢false}}
-use Rattle.std.{proofs.lemmas.{Bool.{or_left, or_right, or_cases, false_from_ne_true}, List.Folds.{list_any-append}}, specs.Prelude.{IsFalse}}
-use Rattle.std.specs.{List.{list_any}, Option.{option_or}}
+use Rattle.std.proofs.{Common.{◌≡◌, Bool, false, ◌||◌, IsTrue, List, [], ◌∷◌, ◌++◌, Option, None, refl, ap, ◌∙◌, arith}, lemmas.Bool.{true≢false, or_left}}
+use Rattle.std.{proofs.lemmas.{Bool.{or_right, or_cases, false_from_ne_true}, List.Folds.{list_any-append}}, specs.{Prelude.{IsFalse}, List.{list_any}}}
+use Rattle.std.specs.Option.{option_or}
 use Rattle.nntp_said.specs.Facts.{Fact}
 
 -- ---- tests
@@ -43,10 +43,6 @@ given_append {A} f (x ∷ xs) ys = grind (arith, given_append f xs ys)
 -- where nothing more is given, what was is
 pub or_none : {A : Type 0} (o : Option A) → option_or o None ≡ o
 or_none o = grind arith
-
--- where nothing is given either way, nothing is
-pub none_if : {A : Type 0} (b : Bool) → cond {A = Option A} b None None ≡ None
-none_if b = grind arith
 
 -- where more facts give nothing, what is given is as before
 pub given_silent : {A : Type 0} (f : Fact → Option A) (facts more : List Fact) → first_given f more ≡ None → first_given f (facts ++ more) ≡ first_given f facts
