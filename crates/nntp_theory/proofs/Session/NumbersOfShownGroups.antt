@@ -1,10 +1,11 @@
 -- What a session says of numbers, it says of groups that it shows.
-use Rattle.nntp_wire.specs.{declared.{marks.Marks.{Marks}, water_marks.WaterMarks.{WaterMarks}}, Answer.{Asked, Response}}
-use Rattle.std.{proofs.Common.{◌≡◌, IsTrue, List, [], ◌∷◌, Some, is_some, arith}, specs.{Prelude.{⊤}, List.{AllByRecursion}}}
+use Rattle.nntp_wire.specs.{declared.{marks.Marks.{Marks}, water_marks.WaterMarks.{WaterMarks}}, Answer.{Asked, Response, to, plain, group_is, numbers_are}}
+use Rattle.nntp_wire.specs.Command.{group, list_group}
+use Rattle.std.{proofs.{Common.{◌≡◌, IsTrue, List, [], ◌∷◌, Some, is_some, arith}, lemmas.Bool.{or_cases, eqb-true, true≢false, and_parts}}, specs.Prelude.{⊤}}
+use Rattle.std.specs.List.{AllByRecursion}
 use Rattle.nntp_article.specs.{Session.{Spool.{Name}, Machine.{Visible, visible_after, start, fits}}, declared.session.profile.Profile.{Profile}}
 use Rattle.nntp_said.specs.{Asks.{position_after, Estimates}, declared.position.Position.{Position, TheVariants.{Nowhere}}, Facts.{Fact, ThereIs, Asks, IdAt}}
-use Rattle.nntp_said.{specs.{Facts.{OverviewsAre, here, facts_of, facts_from}, Inner.Facts.{FitsAll}}, proofs.Rows.{Row, row, nowhere, top, bottom}}
-use Rattle.nntp_said.proofs.Rows.{none_within, within, lacks, marks, listing, up, down, text_at, text_here, overview_at, overview_here}
+use Rattle.nntp_said.{specs.{Facts.{OverviewsAre, here, facts_of, facts_from}, Inner.Facts.{FitsAll}}, proofs.Rows.{marks, none_cases}}
 use Rattle.nntp_theory.{specs.Given.{facts_of_session}, proofs.Members.{In, all_both, all_front, all_back, all_from}}
 
 -- a 211 said that there is such a group, with its marks, which are read so
@@ -37,24 +38,13 @@ HasNoted how all v = (name : Name) → v.selected ≡ Some name → IsSelectable
 here_stands : (how : Marks) (all : List Fact) (v : Visible) → HasNoted how all v → IsTrue (is_some v.selected) → IsSelectable how all (here v)
 here_stands how all v stands some = grind arith
 
--- what a row whose condition holds says of numbers, it says of a group that is there
-row_placed : {profile : Profile} {v : Visible} {at : Position} {Fits : Type 0} {a : Response} {facts : List Fact} (all : List Fact) → Row profile v at Fits a facts → Fits
-    → HasNoted profile.marks all v → AllByRecursion (Among all) facts → AllByRecursion (Placed profile.marks all) facts
-row_placed {profile} {v} all (nowhere code known) f stands h = (here_stands profile.marks all v stands (known f), tt)
-row_placed {profile} {v} all (top code known) f stands h = (here_stands profile.marks all v stands (known f), tt)
-row_placed {profile} {v} all (bottom code known) f stands h = (here_stands profile.marks all v stands (known f), tt)
-row_placed {profile} {v} all (none_within code range known) f stands h = (here_stands profile.marks all v stands (known f), tt)
-row_placed {profile} {v} all (within range lines known) f stands h = (here_stands profile.marks all v stands (known f).0, tt)
-row_placed {profile} {v} all (lacks code n known) f stands h = (here_stands profile.marks all v stands (known f), tt)
-row_placed {profile} all (marks m name known) f stands h = let g = selectable profile.marks all name m h in (g, (g, tt))
-row_placed {profile} all (listing m name range lines known) f stands h = let g = selectable profile.marks all name m (h.0, (h.1.0, tt)) in (g, (g, (g, tt)))
-row_placed {profile} {v} all (up s known) f stands h = let g = here_stands profile.marks all v stands (known f).0 in (g, (g, tt))
-row_placed {profile} {v} all (down s known) f stands h = let g = here_stands profile.marks all v stands (known f).0 in (g, (g, tt))
-row_placed {profile} {v} all (text_at what s known) f stands h = (tt, (here_stands profile.marks all v stands (known f).1.0, tt))
-row_placed {profile} {v} all (overview_at lines o e known) f stands h = (tt, (here_stands profile.marks all v stands (known f).0, tt))
-row_placed {profile} {v} all (overview_here lines o e known) f stands h = let g = here_stands profile.marks all v stands (known f).0 in (tt, (g, (g, tt)))
-row_placed {profile} {v} all (text_here what s known) f stands h = let g = here_stands profile.marks all v stands (known f).1.0 in (tt, (g, (g, tt)))
-row_placed all r f stands h = assumption
+-- what an answer that fits says of numbers, it says of a group that is there
+answer_placed : (profile : Profile) (all : List Fact) (v : Visible) (at : Position) (p : Asked) (a : Response) → IsTrue (fits profile v p a) → HasNoted profile.marks all v
+    → AllByRecursion (Among all) (facts_of profile.marks v at p a) → AllByRecursion (Placed profile.marks all) (facts_of profile.marks v at p a)
+answer_placed profile all v at (to (group word)) (group_is m name) f stands h = let g = selectable profile.marks all name m h in (g, (g, tt))
+answer_placed profile all v at (to (list_group word range)) (numbers_are m name lines) f stands h = let g = selectable profile.marks all name m (h.0, (h.1.0, tt)) in (g, (g, (g, tt)))
+answer_placed profile all v at (to command) (plain code) f stands _ = grind (arith, and_parts, or_cases, eqb-true, none_cases, true≢false, here_stands profile.marks all v stands)
+answer_placed profile all v at p a f stands _ = grind (arith, and_parts, or_cases, eqb-true, true≢false, here_stands profile.marks all v stands)
 
 -- the group that is selected afterwards is there
 pub still_stands : (profile : Profile) (all : List Fact) (v : Visible) (at : Position) (p : Asked) (a : Response)
@@ -68,7 +58,7 @@ all_placed : (profile : Profile) (all : List Fact) (v : Visible) (at : Position)
     → AllByRecursion (Among all) (facts_from profile.marks v at ps answers)
     → AllByRecursion (Placed profile.marks all) (facts_from profile.marks v at ps answers)
 all_placed profile all v at (p ∷ ps) (a ∷ more) stands f h =
-    let first = row_placed all (row profile v at p a) f.1 stands in
+    let first = answer_placed profile all v at p a f.1 stands in
     let later = all_placed profile all (visible_after v p a) (position_after at p a) ps more in
     grind (arith, all_front, all_back, all_both, first, still_stands profile all v at p a stands f.1, later)
 all_placed profile all v at ps answers stands f h = tt
