@@ -42,8 +42,7 @@ too_many asks count (N, given, is) false few = (λ t. (N, given, λ h. true≢fa
 pub too_many_if : (asks : List Ask) (c : ℕ) → AreCounted (is_known asks) c → (one : Bool) → IsTrue one ↔ ((n : ℕ) × IsOneMore asks n)
     → (more : ℕ) → more ≡ cond one 1 0 → (b : Bool) → b ≡ is_within_all asks (c + more) → IsTrue (not b) ↔ AreTooMany asks
 too_many_if asks c counted true has m is b few = too_many asks (c + 1) (more_given asks c (has.0 refl).0 counted (has.0 refl).1) b (few ∙ ap (is_within_all asks) (omega arith))
-too_many_if asks c counted false has m is b few =
-    too_many asks c (shown_given asks c counted (λ n x. true≢false (sym (has.1 (n, x))))) b (few ∙ ap (is_within_all asks) (omega arith))
+too_many_if asks c counted false has m is b few = too_many asks c (shown_given asks c counted (λ n x. true≢false (sym (has.1 (n, x))))) b (few ∙ ap (is_within_all asks) (omega arith))
 
 -- ---- whether they meet the demand
 

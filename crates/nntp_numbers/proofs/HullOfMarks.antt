@@ -102,8 +102,6 @@ pub demand_says : (asks : List Ask) → is_demanding (demand asks) ≡ true → 
 demand_says asks d = grind (arith, no_demand asks)
 
 -- what is so exactly if a number is shown or demanded is so exactly if all say that there is one
-pub some_is : (asks : List Ask) (b : Bool)
-    → (b ≡ true → ((n : ℕ) × IsTrue (is_shown asks n)) ⊎ (is_demanding (demand asks) ≡ true))
-    → ((n : ℕ) → IsTrue (is_shown asks n) → b ≡ true) → (is_demanding (demand asks) ≡ true → b ≡ true)
-    → b ≡ list_any says_some asks
+pub some_is : (asks : List Ask) (b : Bool) → (b ≡ true → ((n : ℕ) × IsTrue (is_shown asks n)) ⊎ (is_demanding (demand asks) ≡ true))
+    → ((n : ℕ) → IsTrue (is_shown asks n) → b ≡ true) → (is_demanding (demand asks) ≡ true → b ≡ true) → b ≡ list_any says_some asks
 some_is asks b forth shown demanded = grind (arith, shown_says, demand_says, said_some)

@@ -48,8 +48,7 @@ all_possible (ask ∷ asks) h = and_from (is_possible ask) (list_all is_possible
 -- ---- whether there is a number
 
 -- one of the numbers is found where there are some, or what is so else
-pub one_found : (ns ms : List ℕ) (d : Bool) → (not (length ns == 0) || not (length ms == 0) || d) ≡ true
-    → ((n : ℕ) × ((has ns n || is_one_of ms n) ≡ true)) ⊎ (d ≡ true)
+pub one_found : (ns ms : List ℕ) (d : Bool) → (not (length ns == 0) || not (length ms == 0) || d) ≡ true → ((n : ℕ) × ((has ns n || is_one_of ms n) ≡ true)) ⊎ (d ≡ true)
 one_found [] [] d t = inr t
 one_found (n ∷ ns) ms d t = inl (n, grind (arith, nat_tests))
 one_found [] (m ∷ ms) d t = inl (m, grind (arith, nat_tests))
@@ -60,8 +59,7 @@ found_some [] [] n t = cc
 found_some ns ms n t = grind (arith, nat_tests)
 
 -- the first free number below 2^64 is the first one, where none is free from there on
-pub free_of_all : {taken denied : ℕ → Bool} → ((n : ℕ) → n < 2 ^ 64 → taken n ≡ denied n) → ((n : ℕ) → 2 ^ 64 ≤ n → denied n ≡ true)
-    → (f : Option ℕ) → FirstFreeBelow taken f → FirstFree denied f
+pub free_of_all : {taken denied : ℕ → Bool} → ((n : ℕ) → n < 2 ^ 64 → taken n ≡ denied n) → ((n : ℕ) → 2 ^ 64 ≤ n → denied n ≡ true) → (f : Option ℕ) → FirstFreeBelow taken f → FirstFree denied f
 free_of_all same full f taken = grind (arith, cases_lt)
 
 module _ (s : Summary) (p : Said) (asks more : List Ask) (sum : IsSummary s asks) (says : Says p more) where
@@ -140,10 +138,8 @@ module _ (s v : Summary) (p : Said) (b : Bool) (d : Demand) (ends : Option Ends)
 
 -- what is kept with the part is kept of all with the asks
 pub added : (s v : Summary) (p : Said) (t : Summary) → v ≡ s → ((n : ℕ) → has t.shown n ≡ shown_after v.shown p.numbers n) → (IsStrictlySortedBy nat_cmp v.shown → IsStrictlySortedBy nat_cmp t.shown)
-    → (IsRegular p → (n : ℕ) → n < 2 ^ 64 → holds t.denied n ≡ denied_after v.denied p n)
-    → ((n : ℕ) → is_within t.estimate n ≡ (is_within v.estimate n && is_within p.estimate n))
-    → t.ends ≡ join_ends v.ends p.ends
-    → t.demand ≡ join v.demand p.demand → (asks more : List Ask) → IsSummary s asks → Says p more → IsSummary t (asks ++ more)
+    → (IsRegular p → (n : ℕ) → n < 2 ^ 64 → holds t.denied n ≡ denied_after v.denied p n) → ((n : ℕ) → is_within t.estimate n ≡ (is_within v.estimate n && is_within p.estimate n))
+    → t.ends ≡ join_ends v.ends p.ends → t.demand ≡ join v.demand p.demand → (asks more : List Ask) → IsSummary s asks → Says p more → IsSummary t (asks ++ more)
 added s v p t view shown up denied estimate ends demand = grind (arith, shown_grows, denied_grows, demand_grows, ends_append, list_all-append)
 
 -- where nothing is asked, all stands together

@@ -21,8 +21,7 @@ there_is (k ∷ ks) n t = omega arith
 -- ---- in order
 
 -- ascending numbers with further ones above all of these
-ascend_both : (xs ys : List ℕ) → IsStrictlySortedBy nat_cmp xs → IsStrictlySortedBy nat_cmp ys → ((n m : ℕ) → has xs n ≡ true → has ys m ≡ true → n < m)
-    → IsStrictlySortedBy nat_cmp (xs ++ ys)
+ascend_both : (xs ys : List ℕ) → IsStrictlySortedBy nat_cmp xs → IsStrictlySortedBy nat_cmp ys → ((n m : ℕ) → has xs n ≡ true → has ys m ≡ true → n < m) → IsStrictlySortedBy nat_cmp (xs ++ ys)
 unfolding IsStrictlySortedBy
 ascend_both [] ys up more below = more
 ascend_both (x ∷ xs) ys up more below =
@@ -70,8 +69,7 @@ module _ (ks : List ℕ) (n : ℕ) (after : List ℕ) where
   within o are k t more = grind (arith, nat_tests)
 
   -- it is found too
-  found : (o : Option Ends) → AreWithin o ks → (k : Option ℕ) → brought_between o n ≡ k → Bring k ks after → (m : ℕ)
-      → has (numbers_in (with_one o n) after) m ≡ (has (numbers_in o ks) m || n == m)
+  found : (o : Option Ends) → AreWithin o ks → (k : Option ℕ) → brought_between o n ≡ k → Bring k ks after → (m : ℕ) → has (numbers_in (with_one o n) after) m ≡ (has (numbers_in o ks) m || n == m)
   found (Some e) are k t same m = grind (arith, are, t, list_any-append, nat_tests)
   found o are k t more m = grind (arith, are, list_any-append, nat_tests)
 

@@ -18,6 +18,5 @@ says_listed r ns fits small may = grind (arith, and_from, all_pass (is_in_range 
 
 -- the marks and the list say this
 pub says_range : (how : Marks) (m : WaterMarks) (r : Range) (ns : List ℕ) → ((i : ℕ) → get_or ns i 0 < 2 ^ 64) → IsSmall (part_with ns (ListsIn r ns) (part_with ns (Estimates how m) nothing_said))
-    → AreListable r ns
-    → Says (part_with ns (ListsIn r ns) (part_with ns (Estimates how m) nothing_said)) (Estimates how m ∷ ListsIn r ns ∷ [])
+    → AreListable r ns → Says (part_with ns (ListsIn r ns) (part_with ns (Estimates how m) nothing_said)) (Estimates how m ∷ ListsIn r ns ∷ [])
 says_range how m r ns fits small may = grind (arith, and_from, all_pass (is_in_range r) ns, or-false, and-true, and_parts, small_items, leb-true)

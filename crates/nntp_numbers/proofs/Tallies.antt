@@ -24,8 +24,7 @@ and_one_found p n Several (a, b, apart, at, bt) fresh = (a, b, apart, or_left (p
 
 -- one more is counted
 counted_more : (p : ℕ → Bool) (m c : ℕ) → p m ≡ false → AreCounted p c → AreCounted (λ n. p n || m == n) (c + 1)
-counted_more p m c fresh (M, is, as_many) =
-    (insert M m [], λ n. grind (arith, is n, get-insert nat_cmp_total M m [] n, nat_tests), grind (arith, len-insert nat_cmp_total M m [], is m))
+counted_more p m c fresh (M, is, as_many) = (insert M m [], λ n. grind (arith, is n, get-insert nat_cmp_total M m [] n, nat_tests), grind (arith, len-insert nat_cmp_total M m [], is m))
 
 pub same_tally : (p q : ℕ → Bool) → ((n : ℕ) → p n ≡ q n) → (d : Demand) (w : HowMany) (c : ℕ) → IsTally p d w c → IsTally q d w c
 same_tally p q same d w c t = subst {A = ℕ → Bool} (λ p. IsTally p d w c) (λ i n. same n i) t
@@ -53,8 +52,7 @@ one_more_listed xs i l n = grind (arith, list_any_more (λ m. n == m) xs i 0 l, 
 
 -- the one at i is shown too
 pub shown_next : (before now after : ℕ → Bool) (xs : List ℕ) (i : ℕ) → i < length xs
-    → ((n : ℕ) → now n ≡ (before n || is_one_of (take i xs) n)) → ((n : ℕ) → after n ≡ (now n || get_or xs i 0 == n)) → (n : ℕ)
-    → after n ≡ (before n || is_one_of (take (i + 1) xs) n)
+    → ((n : ℕ) → now n ≡ (before n || is_one_of (take i xs) n)) → ((n : ℕ) → after n ≡ (now n || get_or xs i 0 == n)) → (n : ℕ) → after n ≡ (before n || is_one_of (take (i + 1) xs) n)
 shown_next before now after xs i l is more n = grind (arith, or_assoc, one_more_listed)
 
 module _ (ns : List ℕ) (d : Demand) where
@@ -63,8 +61,7 @@ module _ (ns : List ℕ) (d : Demand) where
   tally_start w up found = same_tally (has ns) _ (λ n. grind arith) d w (length ns) (record { found = found; count = (map_of ns, in_map_of ns, len_map_of ns up) })
 
   -- behind the number at i
-  pub tally_step : (xs : List ℕ) (i : ℕ) (w : HowMany) (c : ℕ) → i < length xs
-      → IsTally (λ n. (has ns n || is_one_of (take i xs) n) || get_or xs i 0 == n) d w c
+  pub tally_step : (xs : List ℕ) (i : ℕ) (w : HowMany) (c : ℕ) → i < length xs → IsTally (λ n. (has ns n || is_one_of (take i xs) n) || get_or xs i 0 == n) d w c
       → IsTally (λ n. has ns n || is_one_of (take (i + 1) xs) n) d w c
   tally_step xs i w c l t = same_tally _ _ (λ n. grind (arith, one_more_listed xs i l n)) d w c t
 
@@ -73,8 +70,7 @@ module _ (ns : List ℕ) (d : Demand) where
   tally_end xs i w c e t = subst (λ l. IsTally (λ n. has ns n || is_one_of l n) d w c) (ap (λ i. take i xs) e ∙ take-length xs) t
 
 -- with no ends
-pub tally_no_ends : (p : ℕ → Bool) (o : Option Ends) → o ≡ None → (d : Demand) (w : HowMany) (c : ℕ) → IsTally p d w c
-    → IsTally (λ n. p n || is_end_of o n) d w c
+pub tally_no_ends : (p : ℕ → Bool) (o : Option Ends) → o ≡ None → (d : Demand) (w : HowMany) (c : ℕ) → IsTally p d w c → IsTally (λ n. p n || is_end_of o n) d w c
 tally_no_ends p o is d w c t = same_tally p _ (λ n. grind arith) d w c t
 
 -- with both ends

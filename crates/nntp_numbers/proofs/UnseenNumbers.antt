@@ -8,10 +8,9 @@ use Rattle.nntp_numbers.{proofs.NumberSets.{one_has}, specs.Inner.{Part.{ends_of
 use Rattle.nntp_numbers.specs.Inner.{Summary.{FirstFreeBelow}, Unseen.{one_more_in, known_ends_in, unseen_beside, unseen_in, unseen_high_beside}}
 use Rattle.nntp_numbers.specs.{Inner.Unseen.{unseen_high_in}, declared.{ends.Ends.{Ends}, shown.HowMany.{HowMany, TheVariants.{Absent}}}}
 use Rattle.nntp_said.specs.Asks.{Ask}
-use Rattle.nntp_theory.proofs.{GivenNumbers.{FirstFreeNumber.{free_is, free_none, first_free_once}, MetNumbersStand.{shown_known, wants_less}}, Members.{In}}
-use Rattle.nntp_theory.{proofs.Members.{any_in, found_in}, specs.Given.{is_shown, demand, wants, says_some, IsOneMore, IsGivenNumber, is_known}}
-use Rattle.nntp_theory.specs.Inner.{OneMore.{is_demanding, free, if_wanted, all_numbers}, Together.{AsksStand}, Unseen.{AreUnseen}}
-use Rattle.nntp_theory.specs.declared.demand.Demand.{Demand}
+use Rattle.nntp_theory.proofs.{GivenNumbers.{MetNumbersStand.{shown_known, wants_less}, FirstFreeNumber.{free_is, free_none, first_free_once}}, Members.{In}}
+use Rattle.nntp_theory.{proofs.Members.{any_in, found_in}, specs.{declared.demand.Demand.{Demand}, Inner.OneMore.{is_demanding, free, if_wanted, all_numbers}}}
+use Rattle.nntp_theory.specs.{Inner.{Unseen.{AreUnseen}, Together.{AsksStand}}, Given.{is_shown, demand, wants, says_some, IsOneMore, IsGivenNumber, is_known}}
 
 -- ---- the first free number
 
@@ -67,8 +66,7 @@ module _ (s : Summary) (asks : List Ask) (sum : IsSummary s asks) (bounded : Are
 
   -- whether it is said that there is a number
   some_kept : (not (length s.shown == 0) || is_demanding s.demand) ≡ list_any says_some asks
-  some_kept =
-      grind (arith, some_is asks (not (length s.shown == 0) || is_demanding s.demand), one_found s.shown [], found_some s.shown [], sum.shown, or_right)
+  some_kept = grind (arith, some_is asks (not (length s.shown == 0) || is_demanding s.demand), one_found s.shown [], found_some s.shown [], sum.shown, or_right)
 
   -- the strict marks that are kept, where there is a number
   pub ends_kept : (e : Ends) → known_ends_in s ≡ Some e → (list_any says_some asks ≡ true) × (ends_of asks ≡ Some e)

@@ -41,8 +41,7 @@ facts_hold how S v at (to command) (plain code) h = code_holds how S v at comman
 facts_hold how S v at p a h = grind arith
 
 -- and back, where it fits
-agrees_from : (profile : Profile) (S : Spool) (v : Visible) (at : Position) (p : Asked) (a : Response)
-    → IsTrue (fits profile v p a) → AllByRecursion (Holds S) (facts_of profile.marks v at p a)
+agrees_from : (profile : Profile) (S : Spool) (v : Visible) (at : Position) (p : Asked) (a : Response) → IsTrue (fits profile v p a) → AllByRecursion (Holds S) (facts_of profile.marks v at p a)
     → Agrees profile.marks S (state_at S v at) p a
 agrees_from profile S v at (to command) (plain code) f h = grind (arith, row_from S v at command code, or_cases)
 agrees_from profile S v at p a f h = grind arith
@@ -50,13 +49,11 @@ agrees_from profile S v at p a f h = grind arith
 -- an answer that fits, where the connection is open, is permitted exactly if what it says holds
 pub may_by_facts : (profile : Profile) (S : Spool) (v : Visible) (at : Position) (p : Asked) (a : Response) → v.closed ≡ false → IsTrue (fits profile v p a)
     → AllByRecursion (Holds S) (facts_of profile.marks v at p a) ↔ MayAnswer profile S (state_at S v at) p a
-may_by_facts profile S v at p a is_open f =
-    (λ h. record { is_open = is_open; fits_visible = f; agrees = agrees_from profile S v at p a f h }, λ may. facts_hold profile.marks S v at p a may.agrees)
+may_by_facts profile S v at p a is_open f = (λ h. record { is_open = is_open; fits_visible = f; agrees = agrees_from profile S v at p a f h }, λ may. facts_hold profile.marks S v at p a may.agrees)
 
 -- a spool permits a session exactly if each answer fits and all that the answers say holds of it
 pub permits_by_facts : (profile : Profile) (S : Spool) (v : Visible) (at : Position) (ps : List Asked) (answers : List Response)
-    → RunsAt profile S v at ps answers ↔ (FitsAll profile v ps answers × AllByRecursion (Holds S)
-    (facts_from profile.marks v at ps answers))
+    → RunsAt profile S v at ps answers ↔ (FitsAll profile v ps answers × AllByRecursion (Holds S) (facts_from profile.marks v at ps answers))
 permits_by_facts profile S v at (p ∷ ps) (a ∷ more) =
     let rest = permits_by_facts profile S (visible_after v p a) (position_after at p a) ps more in
     grind (arith, rest, facts_hold, agrees_from, all_both, all_front, all_back)

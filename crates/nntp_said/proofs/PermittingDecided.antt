@@ -65,8 +65,7 @@ module _ {K : Type 0} {R : K → K → Ordering} (o : IsTotalOrder R) (exact : C
 
 -- the listed keys are those that have the property: the keys of the map that pass the test
 dec_same_keys : {K X : Type 0} {R : K → K → Ordering} (o : IsTotalOrder R) (same : IsAntisymmetric R)
-    (exact : CmpEqualImpliesEq R) (m : FinMap R X) (P : K → Type 0) → ((q : K) → Dec (P q)) → (ks : List K)
-    → Dec ((q : K) → Contains ks q ↔ (IsSome (get m q) × P q))
+    (exact : CmpEqualImpliesEq R) (m : FinMap R X) (P : K → Type 0) → ((q : K) → Dec (P q)) → (ks : List K) → Dec ((q : K) → Contains ks q ↔ (IsSome (get m q) × P q))
 dec_same_keys o same exact m P d ks =
     dec_by
     (λ h q. (λ c. from_test (dec_both (dec_true (is_some (get m q))) (d q)) (h.0 q c), λ i. from_test (dec_to (d q) (among o exact ks q)) (h.1 q i.0) i.1))

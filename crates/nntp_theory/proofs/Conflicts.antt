@@ -1,8 +1,7 @@
 -- With which earlier answers a bad answer conflicts.
-use Rattle.std.proofs.Common.{append-nil, map, length-append, ◌≡◌, ℕ, zero, suc, ◌+◌, ◌<◌, ◌≤◌, ◌^◌, ◌⊎◌, ◌↔◌, List, [], ◌∷◌, ◌++◌, length, Option, option_map}
-use Rattle.std.proofs.{Common.{Some, inl, inr, refl, sym, ap, subst, ◌∙◌, arith}, lemmas.{Grind.{flat_map-append}, Bool.{cases_lt, cases_eq, true≢false}}}
-use Rattle.std.{proofs.lemmas.{Bool.{not-true}, List.{length-map}}, specs.{Prelude.{Contains}, List.{AllByRecursion, flat_map}, Cmp.{nat_cmp_total}}}
-use Rattle.std.specs.FinMap.{len-entries}
+use Rattle.std.{specs.{Prelude.{Contains}, FinMap.{len-entries}, Cmp.{nat_cmp_total}, List.{AllByRecursion, flat_map}}, proofs.lemmas.Grind.{flat_map-append}}
+use Rattle.std.proofs.{lemmas.{Bool.{cases_lt, cases_eq, true≢false, not-true}, List.{length-map}}, Common.{append-nil, map, length-append, ◌≡◌, ℕ, zero, suc}}
+use Rattle.std.proofs.Common.{◌+◌, ◌<◌, ◌≤◌, ◌^◌, ◌⊎◌, ◌↔◌, List, [], ◌∷◌, ◌++◌, length, Option, option_map, Some, inl, inr, refl, sym, ap, subst, ◌∙◌, arith}
 use Rattle.nntp_said.specs.{declared.position.Position.{Position, TheVariants.{Nowhere}}, Asks.{position_after}, Facts.{Fact, Holds, facts_of, facts_from}}
 use Rattle.nntp_said.specs.{Facts.{group_of}, Inner.Facts.{FitsAll}}
 use Rattle.nntp_theory.specs.{Classes.{visible_from, position_from, asked_next}, Inner.{Permits.{SomePermits}, Given.{size}, Together.{Together}}}
@@ -30,8 +29,7 @@ there_said how a v e = same_selected how v (record start.visible { selected = a.
 
 -- what an answer says fits
 pub told_fitting : (profile : Profile) (a : Placed) → FitsThere profile a → AllByRecursion (IsFitting profile) (told profile a)
-told_fitting profile a f =
-    grind (arith, all_both, group_fitting, there_said profile.marks a f.0 f.1, answer_fitting profile f.0 a.position a.asked a.response f.2)
+told_fitting profile a f = grind (arith, all_both, group_fitting, there_said profile.marks a f.0 f.1, answer_fitting profile f.0 a.position a.asked a.response f.2)
 
 -- and is placed among all facts that it is among
 pub told_placed : (profile : Profile) (all : List Fact) (a : Placed) → AllByRecursion (Among all) (told profile a) → AllByRecursion (IsPlaced Lenient all) (told profile a)
@@ -52,8 +50,7 @@ pub each_told : (profile : Profile) (facts : List Fact) (P : Fact → Type 0) �
 each_told profile facts P t h = grind (arith, all_from, all_at)
 
 -- they fit, and are placed
-pub told_fit : (profile : Profile) (facts : List Fact) → AreTold profile facts
-    → AllByRecursion (IsFitting profile) facts × AllByRecursion (IsPlaced Lenient facts) facts
+pub told_fit : (profile : Profile) (facts : List Fact) → AreTold profile facts → AllByRecursion (IsFitting profile) facts × AllByRecursion (IsPlaced Lenient facts) facts
 told_fit profile facts t = search (arith, each_told, told_fitting, told_placed)
 
 -- some spool has them exactly if they stand together
@@ -115,8 +112,7 @@ pub fewer : (profile : Profile) (facts more : List Fact) → ((fact : Fact) → 
 fewer profile facts more sub h = (h.0, h.1, all_from (Holds h.0) facts (λ fact i. all_at (Holds h.0) fact more h.2 (sub fact i)))
 
 -- parts at fewer places, behind the same
-fewer_told : (own : List Fact) (at : ℕ → List Fact) (xs ys : List ℕ) (fact : Fact) → ((k : ℕ) → In k xs → In k ys)
-    → In fact (own ++ flat_map at xs) → In fact (own ++ flat_map at ys)
+fewer_told : (own : List Fact) (at : ℕ → List Fact) (xs ys : List ℕ) (fact : Fact) → ((k : ℕ) → In k xs → In k ys) → In fact (own ++ flat_map at xs) → In fact (own ++ flat_map at ys)
 fewer_told own at xs ys fact sub i = grind (arith, in_cases fact own (flat_map at xs) i, in_front, in_back, from_flat at fact xs, to_flat, sub)
 
 -- ---- finding a core
@@ -145,8 +141,7 @@ lower Stand bound low [] l f = tt
 lower Stand bound low (k ∷ places) l f = (let b = f.0 in omega arith, f.1, f.2)
 
 -- one of those that are found: those before it are below it, and it stands with those behind it and all below it
-split : (Stand : List ℕ → Type 0) (bound : ℕ) (front back : List ℕ) (k : ℕ) → AreFound Stand bound (front ++ k ∷ back)
-    → AllByRecursion (λ j. j < k) front × (bound ≤ k) × Stand (below k ++ back)
+split : (Stand : List ℕ → Type 0) (bound : ℕ) (front back : List ℕ) (k : ℕ) → AreFound Stand bound (front ++ k ∷ back) → AllByRecursion (λ j. j < k) front × (bound ≤ k) × Stand (below k ++ back)
 split Stand bound [] back k f = (tt, f.0, f.1)
 split Stand bound (j ∷ front) back k f = grind (arith, split Stand (j + 1) front back k f.2)
 
@@ -216,17 +211,13 @@ one_behind limit (suc p) one le = in_map suc p (below limit) (in_below p limit (
 
 -- that there is such a group says no more of a spool that has it
 pub group_holds : (profile : Profile) (S : Spool) (name : Name) → IsSpool profile.limit S → IsGroup S name → AllByRecursion (Holds S) (a_group profile name)
-group_holds profile S name spool group =
-    grind (arith, keys_among nat_cmp_total (numbers S name) (map suc (below profile.limit)), spool.numbers_in_limit name, one_behind, len-entries, length-below)
+group_holds profile S name spool group = grind (arith, keys_among nat_cmp_total (numbers S name) (map suc (below profile.limit)), spool.numbers_in_limit name, one_behind, len-entries, length-below)
 
 -- what is told of a session holds where all that it says does
-told_holds : (profile : Profile) (S : Spool) (all : List Fact) → IsSpool profile.limit S → AllByRecursion (Holds S) all
-    → (v : Visible) (at : Position) (ps : List Asked) (answers : List Response)
-    → AllByRecursion (Holds S) (facts_from profile.marks v at ps answers)
-    → AllByRecursion (IsPlaced profile.marks all) (facts_from profile.marks v at ps answers)
+told_holds : (profile : Profile) (S : Spool) (all : List Fact) → IsSpool profile.limit S → AllByRecursion (Holds S) all → (v : Visible) (at : Position) (ps : List Asked) (answers : List Response)
+    → AllByRecursion (Holds S) (facts_from profile.marks v at ps answers) → AllByRecursion (IsPlaced profile.marks all) (facts_from profile.marks v at ps answers)
     → AllByRecursion (Holds S) (flat_map (told profile) (placed_from v at ps answers))
-told_holds profile S all spool holds v at (q ∷ ps) (a ∷ more) h p =
-    grind (arith, told_holds profile S all spool holds (visible_after v q a) (position_after at q a) ps more, group_holds, all_at)
+told_holds profile S all spool holds v at (q ∷ ps) (a ∷ more) h p = grind (arith, told_holds profile S all spool holds (visible_after v q a) (position_after at q a) ps more, group_holds, all_at)
 told_holds profile S all spool holds v at ps answers h p = tt
 
 -- a session that fits is permitted exactly if some spool has what is told of it
@@ -245,8 +236,7 @@ in_places profile (b ∷ answers) a (inl e) = (0, omega arith, ap (told profile)
 in_places profile (b ∷ answers) a (inr i) = let r = in_places profile answers a i in (suc r.0, (let l = r.1 in omega arith), r.2)
 
 -- what is told at all places is told of all answers
-pub all_places : (profile : Profile) (S : Spool) (answers : List Placed)
-    → AllByRecursion (Holds S) (flat_map (told_at profile answers) (below (length answers)))
+pub all_places : (profile : Profile) (S : Spool) (answers : List Placed) → AllByRecursion (Holds S) (flat_map (told_at profile answers) (below (length answers)))
     → AllByRecursion (Holds S) (flat_map (told profile) answers)
 all_places profile S answers h = all_parts (Holds S) (told profile) answers (λ a i.
     let p = in_places profile answers a i in
@@ -254,8 +244,7 @@ all_places profile S answers h = all_parts (Holds S) (told profile) answers (λ 
 
 -- a contradiction conflicts with the answers before it
 pub contradicts : (profile : Profile) (ps : List Asked) (answers : List Response) (asked : Asked) (response : Response) → asked_next ps answers ≡ Some asked
-    → FitsAll profile start.visible ps (answers ++ response ∷ [])
-    → (SomePermits profile ps (answers ++ response ∷ []) → ⊥)
+    → FitsAll profile start.visible ps (answers ++ response ∷ []) → (SomePermits profile ps (answers ++ response ∷ []) → ⊥)
     → SomeHas profile (told_with profile (record { selected = (visible_from start.visible ps answers).selected; position = position_from Nowhere ps answers; asked = asked; response = response })
     (placed_from start.visible Nowhere ps answers) (below (length (placed_from start.visible Nowhere ps answers)))) → ⊥
 contradicts profile ps answers asked response comes fits none (S, spool, holds) = let v = visible_from start.visible ps answers in

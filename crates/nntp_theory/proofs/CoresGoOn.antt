@@ -67,8 +67,7 @@ module _ (profile : Profile) (bad : Placed) (answers more : List Placed) where
   core_goes_on core some is = grind (arith, core_still, end_still)
 
   all_of : (rest : Option ℕ) (places : List ℕ) → MatchOption rest ⊤ (λ bound. 0 < length places)
-      → MatchOption rest (IsCore profile bad answers places) (λ bound. IsEndOfCore profile bad answers bound places)
-      → AreThere answers (option_map_or (λ bound. below bound ++ places) rest places)
+      → MatchOption rest (IsCore profile bad answers places) (λ bound. IsEndOfCore profile bad answers bound places) → AreThere answers (option_map_or (λ bound. below bound ++ places) rest places)
   all_of None places some core = core.there
   all_of (Some bound) places some end = all_there bound places some end
 

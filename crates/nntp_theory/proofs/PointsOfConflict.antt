@@ -13,9 +13,8 @@ use Rattle.std.proofs.Common.{◌≡◌, ℕ, ◌+◌, ◌<◌, ◌^◌, ◌⊎�
 use Rattle.std.{proofs.{Common.{arith, Bool}, lemmas.Bool.{true≢false, cases_Bool, cases_eq, eqb-true, false_from_ne_true, cases_lt}}, specs.Prelude.{IsFalse}}
 use Rattle.std.specs.{Prelude.{IfSome, not}, List.{AllByRecursion, list_any, flat_map}, Cmp.Lexicographic.{same_text}}
 use Rattle.nntp_wire.specs.{declared.marks.Marks.{Marks, TheVariants.{Lenient}}, Listing.{OverviewValue, Fields}}
-use Rattle.nntp_article.specs.{Article.{Parts.{Id}, Fields.{Word, words_in}}, declared.article.field.Field.{Field, TheVariants.{Subject, From, Date}}}
-use Rattle.nntp_article.specs.{declared.{article.field.Field.TheVariants.{References}, session.profile.Profile.{Profile}}, Session.Spool.{Name, Numbers}}
-use Rattle.nntp_article.specs.Session.{Spool.{numbers}, Machine.{is_same}}
+use Rattle.nntp_article.specs.{Article.{Fields.{Word, words_in}, Parts.{Id}}, Session.{Machine.{is_same}, Spool.{Name, Numbers, numbers}}}
+use Rattle.nntp_article.specs.declared.{article.field.Field.{Field, TheVariants.{Subject, From, Date, References}}, session.profile.Profile.{Profile}}
 use Rattle.nntp_said.{proofs.FiniteMapsDecided.{Dec, dec_if_some, dec_some, dec_texts, dec_lists, dec_all}, specs.{Asks.{Ask}, Facts.{Fact, IdAt, TextIs}}}
 use Rattle.nntp_said.specs.Facts.{FieldsAre, OverviewsAre}
 
@@ -119,8 +118,7 @@ module _ (facts : List Fact) where
   IsFirst f fact = IfSome (f fact) (λ x. first_given f facts ≡ Some x)
 
   -- what is given for each key is given first, or something is given twice
-  each_given : {A K : Type 0} (keys : Fact → List K) (f : K → Fact → Option A) → ((x y : A) → Dec (x ≡ y))
-      → ((k : K) (fact : Fact) (x : A) → f k fact ≡ Some x → In k (keys fact))
+  each_given : {A K : Type 0} (keys : Fact → List K) (f : K → Fact → Option A) → ((x y : A) → Dec (x ≡ y)) → ((k : K) (fact : Fact) (x : A) → f k fact ≡ Some x → In k (keys fact))
       → (C : Type 0) → ((k : K) → (GiveOne (f k) facts → ⊥) → C) → C ⊎ ((k : K) → GiveOne (f k) facts)
   each_given {A} {K} keys f d keyed C point = each_key (flat_map keys facts) C (λ k. GiveOne (f k) facts)
       (λ k. each (In k (flat_map keys facts)) (IsFirst (f k)) facts (λ fact i. grind (arith, to_flat keys fact k facts i, keyed k fact)))

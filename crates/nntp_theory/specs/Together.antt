@@ -3,9 +3,8 @@ use Rattle.std.specs.Prelude.{◌≡◌, ℕ, ◌<◌, ◌≤◌, Bool, true, fa
 use Rattle.std.specs.{List.{AllByRecursion, list_any, list_all}, Option.{option_map_or}, FinMap.{len}}
 use Rattle.nntp_wire.specs.{Decided.{matches_name}, Listing.{OverviewValue}}
 use Rattle.nntp_article.specs.{Article.Parts.{Id}, Session.{Spool.{Name, Numbers}, Machine.{is_in_range, is_same}}}
-use Rattle.nntp_said.specs.Asks.{Ask, Estimates, ListsIn, StandsAt, StandsNowhere, StepsUp, StepsDown, IsTop, IsBottom}
-use Rattle.nntp_said.specs.{declared.position.Position.TheVariants.{Nowhere, Known}, Facts.{Fact, ThereIsNo, IdAt, TextIs, NoArticle, FieldsAre, OverviewsAre}}
-use Rattle.nntp_said.specs.Facts.{GroupsAre}
+use Rattle.nntp_said.specs.{Asks.{Ask, Estimates, ListsIn, StandsAt, StandsNowhere, StepsUp, StepsDown, IsTop, IsBottom}, Facts.{Fact, ThereIsNo, IdAt, TextIs}}
+use Rattle.nntp_said.specs.{Facts.{NoArticle, FieldsAre, OverviewsAre, GroupsAre}, declared.position.Position.TheVariants.{Nowhere, Known}}
 use Rattle.nntp_theory.specs.{Given.{first_given, has_overview_of}, declared.demand.Demand.{Demand, TheVariants.{NoDemand, NotEmpty, OnlyOne, SecondIs}}}
 use Rattle.nntp_theory.specs.declared.demand.Demand.TheVariants.{Impossible}
 

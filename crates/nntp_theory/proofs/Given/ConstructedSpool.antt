@@ -1,10 +1,9 @@
 -- A construction of the spool that is given.
-use Rattle.std.proofs.Common.{◌≡◌, ℕ, ◌+◌, ◌<◌, ◌≤◌, ◌↔◌, ◌⊎◌, true, cond, eqb, IsTrue, List, [], ◌∷◌, ◌++◌, map, length, Option, None, Some, is_some, IsSome}
-use Rattle.std.proofs.{Common.{inl, inr, refl, sym, ap, subst, ◌∙◌, arith, length-append}, lemmas.Bool.{cases_lt, true≢false, false_from_ne_true}}
-use Rattle.std.{proofs.lemmas.Map.Steps.{le-length_from_below}, specs.{Prelude.{unwrap_or, option_to_list}, List.{list_any, flat_map}, Ordering.{nat_cmp}}}
-use Rattle.std.specs.{Cmp.{nat_cmp_total, IsTotalOrder, Lexicographic.{slice_cmp, same_text, nat_list_cmp_total}}, FinMap.{FinMap, get, empty, keys, entries}}
-use Rattle.std.specs.FinMap.{from_sorted, entries-from_sorted, nat_cmp-IsAntisymmetric, slice_cmp-IsAntisymmetric, IsAntisymmetric}
-use Rattle.std.specs.declared.cmp.Ordering.{Ordering}
+use Rattle.std.proofs.{lemmas.{Map.Steps.{le-length_from_below}, Bool.{cases_lt, true≢false, false_from_ne_true}}, Common.{◌≡◌, ℕ, ◌+◌, ◌<◌, ◌≤◌, ◌↔◌, ◌⊎◌}}
+use Rattle.std.proofs.Common.{true, cond, eqb, IsTrue, List, [], ◌∷◌, ◌++◌, map, length, Option, None, Some, is_some, IsSome, inl, inr, refl, sym, ap, subst}
+use Rattle.std.{proofs.Common.{◌∙◌, arith, length-append}, specs.{declared.cmp.Ordering.{Ordering}, Prelude.{unwrap_or, option_to_list}, Ordering.{nat_cmp}}}
+use Rattle.std.specs.{List.{list_any, flat_map}, Cmp.{nat_cmp_total, IsTotalOrder, Lexicographic.{slice_cmp, same_text, nat_list_cmp_total}}, FinMap.{FinMap}}
+use Rattle.std.specs.FinMap.{get, empty, keys, entries, from_sorted, entries-from_sorted, nat_cmp-IsAntisymmetric, slice_cmp-IsAntisymmetric, IsAntisymmetric}
 use Rattle.nntp_article.specs.{Session.{Spool.{Spool, Text, Numbers, IsNumber, IsGroup, numbers, Name}, Machine.{is_same}}, Article.Parts.{Id}}
 use Rattle.nntp_article.specs.Article.Fields.{made_head}
 use Rattle.nntp_said.specs.Facts.{Fact, TextIs, FieldsAre}
@@ -224,8 +223,7 @@ module _ (limit : ℕ) (B : ℕ) (facts : List Fact) where
     not_all_used done few all = grind (arith, le-length_from_below (done ++ mentioned facts) B all, length-append)
 
     -- the next number isn't mentioned, and those before it are
-    invents : (k : ℕ) (done : List ℕ) → Used k done → length (mentioned facts) + length done < B
-        → IsFirstFree (λ i. is_mentioned facts (invented i)) k (next k) × Used (next k + 1) (next k ∷ done)
+    invents : (k : ℕ) (done : List ℕ) → Used k done → length (mentioned facts) + length done < B → IsFirstFree (λ i. is_mentioned facts (invented i)) k (next k) × Used (next k + 1) (next k ∷ done)
     invents k done used few = by (free (λ j. is_mentioned facts (invented j)) B k) refl
       where
         by : (o : Option ℕ) → free (λ j. is_mentioned facts (invented j)) B k ≡ o
@@ -241,8 +239,7 @@ module _ (limit : ℕ) (B : ℕ) (facts : List Fact) where
     Goes k rest = (done : List ℕ) → Used k done → length (mentioned facts) + length done + length rest < B → AreInvented facts k rest
 
     -- those of a group are, if those behind them are
-    ids_invented : (name : Name) (ns : List ℕ) (k : ℕ) (rest : List Id) → Goes (after_ids name k ns) rest
-        → Goes k (unshown_in facts name (numbered_ids name k ns) ++ rest)
+    ids_invented : (name : Name) (ns : List ℕ) (k : ℕ) (rest : List Id) → Goes (after_ids name k ns) rest → Goes k (unshown_in facts name (numbered_ids name k ns) ++ rest)
     ids_invented name [] k rest then = then
     ids_invented name (n ∷ ns) k rest then = by (id_shown facts name n) (λ k. ids_invented name ns k rest) then
       where

@@ -52,8 +52,7 @@ holds_or_ends Q zero base decided = inl base
 holds_or_ends Q (suc m) base decided = grind (arith, holds_or_ends Q m base (λ n le. decided n (omega arith)), decided (suc m) (omega arith))
 
 -- some spool permits the session, or an answer is bad
-pub permitted_or_bad : (profile : Profile) (ps : List Asked) (answers : List Response)
-    → size (facts_of_session profile.marks ps answers) < 2 ^ 210 → SomePermits profile ps answers
+pub permitted_or_bad : (profile : Profile) (ps : List Asked) (answers : List Response) → size (facts_of_session profile.marks ps answers) < 2 ^ 210 → SomePermits profile ps answers
     ⊎ ((k : ℕ) × IsFirstUnpermitted profile ps answers k)
 permitted_or_bad profile ps answers small = subst
     (λ all. SomePermits profile ps all ⊎ ((k : ℕ) × IsFirstUnpermitted profile ps answers k)) (take-length answers)
@@ -62,8 +61,7 @@ permitted_or_bad profile ps answers small = subst
 
 -- and never both
 pub never_both : (profile : Profile) (ps : List Asked) (answers : List Response) (k : ℕ) → SomePermits profile ps answers → IsFirstUnpermitted profile ps answers k → ⊥
-never_both profile ps answers k h bad =
-    bad.2 (fewer_permitted profile ps answers (k + 1) (length answers) (omega arith) (subst (λ all. SomePermits profile ps all) (sym (take-length answers)) h))
+never_both profile ps answers k h bad = bad.2 (fewer_permitted profile ps answers (k + 1) (length answers) (omega arith) (subst (λ all. SomePermits profile ps all) (sym (take-length answers)) h))
 
 -- one answer is bad at most
 pub one_bad : (profile : Profile) (ps : List Asked) (answers : List Response) (k j : ℕ) → IsFirstUnpermitted profile ps answers k → IsFirstUnpermitted profile ps answers j → k ≡ j

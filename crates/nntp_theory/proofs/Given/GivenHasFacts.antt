@@ -30,8 +30,7 @@ given_has profile how G facts fitting placed together small given =
     (given_is_spool profile (10 ^ 64) G facts s, all_hold profile (10 ^ 64) G facts s)
 
 -- a spool that has facts has what they show, and as many numbers as are given
-pub least_of_facts : (profile : Profile) (S G : Spool) (facts : List Fact) → IsSpool profile.limit S
-    → AllByRecursion (Holds S) facts → IsGiven facts G → HasAtLeast facts G S
+pub least_of_facts : (profile : Profile) (S G : Spool) (facts : List Fact) → IsSpool profile.limit S → AllByRecursion (Holds S) facts → IsGiven facts G → HasAtLeast facts G S
 least_of_facts profile S G facts spool holds given =
     let met : (name : Name) → AllByRecursion (Meets (numbers S name)) (asks_of name facts) = λ name. met_by_facts S name facts holds in
     record {

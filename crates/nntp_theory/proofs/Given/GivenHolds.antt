@@ -3,22 +3,20 @@ use Rattle.std.proofs.Common.{◌≡◌, ℕ, ◌+◌, ◌<◌, ◌⊎◌, true,
 use Rattle.std.proofs.{Common.{◌∙◌, arith}, lemmas.{Bool.{true≢false, false_from_ne_true, eqb-true}, List.Elements.{All-from_recursion}}}
 use Rattle.std.specs.{Prelude.{IsFalse, IfSome, IsSome, unwrap_or}, List.{AllByRecursion, list_any}, FinMap.{get, empty, entries, get-entries, get-empty}}
 use Rattle.std.specs.FinMap.{nat_cmp-IsAntisymmetric, slice_cmp-IsAntisymmetric}
-use Rattle.nntp_article.specs.{Article.{Parts.{head_part, body_part, is_empty, Id, Line}, Fields.{fields_of_head}}, Session.Spool.{Spool, Text, Numbers}}
-use Rattle.nntp_article.specs.Session.{Spool.{IsNumber, IsGroup, numbers, text_of, Lists, Name}, Machine.{overview_numbers, head_fits, active_fits}}
-use Rattle.nntp_article.specs.{Session.Machine.{ActivesAgree, HasOverview}, Inner.Fields.{AreWords}, declared.session.profile.Profile.{Profile}}
-use Rattle.nntp_article.proofs.ArticleLemmas.FieldLemmas.{made_tells}
+use Rattle.nntp_article.specs.{declared.session.profile.Profile.{Profile}, Article.{Fields.{fields_of_head}, Parts.{head_part, body_part, is_empty, Id, Line}}}
+use Rattle.nntp_article.specs.Session.{Machine.{overview_numbers, head_fits, active_fits, ActivesAgree, HasOverview}, Spool.{Spool, Text, Numbers, IsNumber}}
+use Rattle.nntp_article.{specs.{Session.Spool.{IsGroup, numbers, text_of, Lists, Name}, Inner.Fields.{AreWords}}, proofs.ArticleLemmas.FieldLemmas.{made_tells}}
 use Rattle.nntp_wire.specs.{Listing.{Fields, ActiveValue, OverviewValue}, declared.{range.Range.{Range}, command.What.{What}, marks.Marks.{Marks}}}
 use Rattle.nntp_wire.{specs.{Name.{IsMessageId}, Wildmat.{MatchesName}}, proofs.OptionLemmas.{none_of, some_is}}
 use Rattle.nntp_said.specs.{Asks.{Meets, Bounds}, Facts.{Fact, Holds, ThereIs, ThereIsNo, Asks, IdAt, TextIs, NoArticle, FieldsAre, OverviewsAre, GroupsAre}}
-use Rattle.nntp_theory.specs.Given.{asks_in, asks_of, shows_group, id_in, id_shown, first_given, mentions, is_mentioned, gives_article, head_in}
-use Rattle.nntp_theory.specs.{Given.{fields_of_overview, fields_in, body_in, invented, unshown_in, unshown_ids, IsGiven}, Inner.Together.{IsProperOverview}}
-use Rattle.nntp_theory.specs.{Inner.Together.{IsWellFormed, TellsOwn, AgreesWithItself, Together}, Together.{denies_group, number_in, shows_article}}
-use Rattle.nntp_theory.{specs.Together.{denies_article, GiveOne}, proofs.Members.{In, all_at, all_part, all_from, any_in, found_in, in_map, from_map}}
-use Rattle.nntp_theory.proofs.{Members.{contains_in, in_contains, first_found}, GivenNumbers.{MetNumbersStand.{not_number}, GivenNumbersMeet.{given_meet}}}
-use Rattle.nntp_theory.proofs.Together.{ListedOverviews.{overview_at}, FactsOfASpoolStand.{same_itself, in_listed, matching}}
-use Rattle.nntp_theory.proofs.{Session.{NumbersOfShownGroups.{IsSelectable, Placed}, FittingFacts.{IsFitting}}, Ids.InventedIds.{invented_number}}
+use Rattle.nntp_theory.proofs.{GivenNumbers.{GivenNumbersMeet.{given_meet}, MetNumbersStand.{not_number}}, Ids.InventedIds.{invented_number}}
 use Rattle.nntp_theory.proofs.Ids.NumbersOfInventedIds.{Numbered, numbered, of_numbered, part_numbered, unshown_there, unshown_apart, mentioned}
-use Rattle.nntp_theory.proofs.Maps.{entry_in}
+use Rattle.nntp_theory.proofs.{Maps.{entry_in}, Members.{In, all_at, all_part, all_from, any_in, found_in, in_map, from_map, contains_in, in_contains}}
+use Rattle.nntp_theory.proofs.{Members.{first_found}, Session.{FittingFacts.{IsFitting}, NumbersOfShownGroups.{IsSelectable, Placed}}}
+use Rattle.nntp_theory.{proofs.Together.{FactsOfASpoolStand.{same_itself, in_listed, matching}, ListedOverviews.{overview_at}}, specs.Given.{asks_in, asks_of}}
+use Rattle.nntp_theory.specs.Given.{shows_group, id_in, id_shown, first_given, mentions, is_mentioned, gives_article, head_in, fields_of_overview, fields_in}
+use Rattle.nntp_theory.specs.{Given.{body_in, invented, unshown_in, unshown_ids, IsGiven}, Inner.Together.{IsProperOverview, IsWellFormed, TellsOwn}}
+use Rattle.nntp_theory.specs.{Inner.Together.{AgreesWithItself, Together}, Together.{denies_group, number_in, shows_article, denies_article, GiveOne}}
 
 -- an id at a number is one of the entries
 pub entry_of_number : (N : Numbers) (n : ℕ) (id : Id) → get N n ≡ Some id → In (n, id) (entries N)
@@ -98,8 +96,7 @@ module _ (profile : Profile) (B : ℕ) (G : Spool) (facts : List Fact) (s : Sett
 
   -- an id that a fact shows to have an article isn't denied
   not_denied : (id : Id) (fact : Fact) → In fact facts → shows_article id fact ≡ true → In (NoArticle id) facts → ⊥
-  not_denied id fact i t j =
-      true≢false (sym (any_in (denies_article id) (NoArticle id) facts j (same_itself id)) ∙ s.together.articles id (any_in (shows_article id) fact facts i t))
+  not_denied id fact i t j = true≢false (sym (any_in (denies_article id) (NoArticle id) facts j (same_itself id)) ∙ s.together.articles id (any_in (shows_article id) fact facts i t))
 
   -- an article of G whose head is sent has that head
   head_is : (id : Id) (u : Text) (lines : List Line) (fact : Fact) → In fact facts → get G.articles id ≡ Some u → head_in id fact ≡ Some lines → u.head ≡ lines
@@ -111,8 +108,7 @@ module _ (profile : Profile) (B : ℕ) (G : Spool) (facts : List Fact) (s : Sett
 
   -- what was sent of an article is what G has of it
   text_is : (what : What) (id : Id) (lines : Option (List Line)) (u : Text) → In (TextIs what id lines) facts → head_fits what id lines ≡ true → get G.articles id ≡ Some u → text_of what u ≡ lines
-  text_is what id (Some ls) u i f at =
-      grind (arith, head_is id u ls, head_is id u (head_part ls), body_is id u ls, body_is id u (body_part ls), same_itself, parts_joined)
+  text_is what id (Some ls) u i f at = grind (arith, head_is id u ls, head_is id u (head_part ls), body_is id u ls, body_is id u (body_part ls), same_itself, parts_joined)
   text_is what id None u i f at = grind arith
 
   -- a group of G isn't denied

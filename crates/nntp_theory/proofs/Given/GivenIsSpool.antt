@@ -9,10 +9,9 @@ use Rattle.std.specs.{Prelude.{unwrap_or, nat_le, nat_lt}, List.{AllByRecursion,
 use Rattle.std.{specs.Cmp.Lexicographic.{same_text}, proofs.Common.{◌≡◌, ℕ, ◌≤◌, true, IsTrue, List, ◌∷◌, ◌++◌, Option, None, Some, is_some, IsSome, inl, inr}}
 use Rattle.std.proofs.{Common.{refl, sym, ap, subst, arith, ◌&&◌, [], length, append-nil}, lemmas.Bool.{true≢false, and_parts, or_cases, cases_eq, and_from}}
 use Rattle.std.proofs.lemmas.List.Elements.{All-from_recursion}
-use Rattle.nntp_article.specs.Article.{Parts.{is_head, said_id, head_part, body_part, Id, Line, skip_last_blanks}, Fields.{made_head}}
-use Rattle.nntp_article.specs.{Inner.Fields.{AreWords}, Session.{Spool.{Spool, Text, IsNumber, numbers, IsSpool, Name, is_line}, Machine.{is_same}}}
-use Rattle.nntp_article.{specs.{Session.Machine.{says_own_id}, declared.session.profile.Profile.{Profile}}, proofs.ArticleLemmas.FieldLemmas.{made_is_head}}
-use Rattle.nntp_article.proofs.ArticleLemmas.FieldLemmas.{made_says, field_lines_are_lines}
+use Rattle.nntp_article.specs.{Article.{Fields.{made_head}, Parts.{is_head, said_id, head_part, body_part, Id, Line, skip_last_blanks}}, Session.Spool.{Spool}}
+use Rattle.nntp_article.specs.{Session.{Spool.{Text, IsNumber, numbers, IsSpool, Name, is_line}, Machine.{is_same, says_own_id}}, Inner.Fields.{AreWords}}
+use Rattle.nntp_article.{specs.declared.session.profile.Profile.{Profile}, proofs.ArticleLemmas.FieldLemmas.{made_is_head, made_says, field_lines_are_lines}}
 use Rattle.nntp_wire.{specs.{Listing.{Fields}, Name.{IsMessageId}, Decided.{is_id_octet, begins_id}, Octets.{is_clean}}, proofs.DecidedLemmas.{message_id-iff}}
 
 -- ---- a head that says an id, and what is told of four headers

@@ -2,19 +2,17 @@
 use Rattle.std.{proofs.Common.{◌<◌, ◌^◌, ◌⊎◌, ◌↔◌, List, [], ◌∷◌, inl, inr, arith, append-nil}, specs.List.{AllByRecursion}}
 use Rattle.nntp_article.specs.{Session.{Spool.{Spool, IsSpool}, Machine.{start}}, declared.session.profile.Profile.{Profile}}
 use Rattle.nntp_said.{proofs.{FiniteMapsDecided.{Dec, dec_both}, PermittingDecided.{dec_run}}, specs.{Facts.{Fact, Holds}, Inner.Facts.{FitsAll}}}
-use Rattle.nntp_theory.specs.{Given.{IsGiven, HasAtLeast, facts_of_session}, Inner.{Given.{size}, Permits.{SomePermits}, Together.{Together}}}
-use Rattle.nntp_theory.{specs.{Inner.Answered.{FitEach}, Answered.{Answered, PermitsEach, SomePermitsEach, facts_of_all}}, proofs.Members.{all_from, all_both}}
-use Rattle.nntp_theory.proofs.{Members.{all_front, all_back}, Session.{FittingFacts.{IsFitting, from_fitting}, NumbersOfShownGroups.{Among, Placed}}}
-use Rattle.nntp_theory.proofs.{Session.NumbersOfShownGroups.{placed_among, session_placed}, Together.FactsOfASpoolStand.{stand}}
-use Rattle.nntp_theory.proofs.Given.{GivenHasFacts.{given_of_facts, given_has, least_of_facts}, GivenPermits.{said, permits}, ConstructedSpool.{made}}
-use Rattle.nntp_theory.proofs.Given.SpoolsDecided.{dec_spool}
+use Rattle.nntp_theory.proofs.Given.{ConstructedSpool.{made}, GivenHasFacts.{given_of_facts, given_has, least_of_facts}, GivenPermits.{said, permits}}
+use Rattle.nntp_theory.proofs.{Given.SpoolsDecided.{dec_spool}, Members.{all_from, all_both, all_front, all_back}, Session.FittingFacts.{IsFitting}}
+use Rattle.nntp_theory.proofs.Session.{FittingFacts.{from_fitting}, NumbersOfShownGroups.{Among, Placed, placed_among, session_placed}}
+use Rattle.nntp_theory.{proofs.Together.FactsOfASpoolStand.{stand}, specs.{Answered.{Answered, PermitsEach, SomePermitsEach, facts_of_all}, Given.{IsGiven}}}
+use Rattle.nntp_theory.specs.{Given.{HasAtLeast, facts_of_session}, Inner.{Answered.{FitEach}, Given.{size}, Permits.{SomePermits}, Together.{Together}}}
 use Rattle.nntp_wire.specs.Answer.{Asked, Response}
 
 -- ---- a spool permits sessions exactly if they fit and it has their facts
 
 -- what permitted sessions say holds
-pub said_each : (profile : Profile) (S : Spool) (sessions : List Answered) → PermitsEach profile S sessions
-    → FitEach profile sessions × AllByRecursion (Holds S) (facts_of_all profile.marks sessions)
+pub said_each : (profile : Profile) (S : Spool) (sessions : List Answered) → PermitsEach profile S sessions → FitEach profile sessions × AllByRecursion (Holds S) (facts_of_all profile.marks sessions)
 said_each profile S [] h = (tt, tt)
 said_each profile S (s ∷ more) h = grind (arith, said, all_both, said_each profile S more h.1)
 

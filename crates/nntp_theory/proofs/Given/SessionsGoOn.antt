@@ -38,8 +38,7 @@ module _ (profile : Profile) (earlier : List Answered) (ps : List Asked) (answer
   said_next = grind (arith, facts_behind, facts_grow, append_assoc)
 
   -- behind sessions that some spool permits, some spool permits it exactly if it fits its session and what it says joins what all said
-  pub permitted_more_behind : size (facts_of_all profile.marks (earlier ++ next ∷ [])) < 2 ^ 210 → SomePermitsEach profile (earlier ++ past ∷ [])
-      → SomePermitsEach profile (earlier ++ next ∷ [])
+  pub permitted_more_behind : size (facts_of_all profile.marks (earlier ++ next ∷ [])) < 2 ^ 210 → SomePermitsEach profile (earlier ++ past ∷ []) → SomePermitsEach profile (earlier ++ next ∷ [])
       ↔ (((visible_from start.visible ps answers).closed ≡ false) × IsTrue (fits profile (visible_from start.visible ps answers) asked response) × Join all new)
   permitted_more_behind small h =
       let before = stand_each profile h.0 (earlier ++ past ∷ []) h.1 h.2 in
@@ -61,8 +60,7 @@ module _ (profile : Profile) (earlier : List Answered) (ps : List Asked) (answer
 
 -- behind answers of one session that some spool permits, some spool permits one more exactly if it fits and what it says joins
 pub permitted_more : (profile : Profile) (ps : List Asked) (answers : List Response) (asked : Asked) (response : Response) → asked_next ps answers ≡ Some asked
-    → size (facts_of_session profile.marks ps (answers ++ response ∷ [])) < 2 ^ 210 → SomePermits profile ps answers
-    → SomePermits profile ps (answers ++ response ∷ [])
+    → size (facts_of_session profile.marks ps (answers ++ response ∷ [])) < 2 ^ 210 → SomePermits profile ps answers → SomePermits profile ps (answers ++ response ∷ [])
     ↔ (((visible_from start.visible ps answers).closed ≡ false) × IsTrue (fits profile (visible_from start.visible ps answers) asked response)
     × Join (facts_of_session profile.marks ps answers) (facts_of profile.marks (visible_from start.visible ps answers) (position_from Nowhere ps answers) asked response))
 permitted_more profile ps answers asked response comes small h =

@@ -26,8 +26,7 @@ dec_demand N d = grind (arith, firsts N)
 module _ (asks : List Ask) (N : Numbers) (given : HasGivenNumbers asks N) where
   -- a known number is denied, or none is
   pub denied_or_not : ((n : ℕ) × IsTrue (is_known asks n) × IsTrue (is_denied asks n)) ⊎ ((n : ℕ) → IsTrue (is_known asks n) → IsFalse (is_denied asks n))
-  denied_or_not =
-      grind (arith, cases_Bool (list_all (λ n. not (is_denied asks n)) (keys N)), passes, nat_cmp_total, nat_cmp-IsAntisymmetric, contains_key-keys, fails)
+  denied_or_not = grind (arith, cases_Bool (list_all (λ n. not (is_denied asks n)) (keys N)), passes, nat_cmp_total, nat_cmp-IsAntisymmetric, contains_key-keys, fails)
 
   -- the given numbers are more than is estimated, or they aren't
   pub too_many_or_not : AreTooMany asks ⊎ ((M : Numbers) → HasGivenNumbers asks M → AllByRecursion (IsFewFor M) asks)

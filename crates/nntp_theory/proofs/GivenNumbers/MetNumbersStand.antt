@@ -93,8 +93,7 @@ key_is N n i = grind (arith, contains_key-keys, any_in, (eq_by_cmp_equiv nat_cmp
 
 -- to put a number in the place of another leaves how many there are
 len_replaced : (G : Numbers) (d c : ℕ) → IsNumber G d → (IsNumber G c → c ≡ d) → len (insert (remove G d) c []) ≡ len G
-len_replaced G d c there only =
-    grind (arith, get-remove nat_cmp_total G d c, cases_eq (len G) 0, empty_of_len G, get-empty, len-insert nat_cmp_total (remove G d) c [], len-remove nat_cmp_total G d)
+len_replaced G d c there only = grind (arith, get-remove nat_cmp_total G d c, cases_eq (len G) 0, empty_of_len G, get-empty, len-insert nat_cmp_total (remove G d) c [], len-remove nat_cmp_total G d)
 
 -- ---- numbers that are known
 
@@ -108,8 +107,7 @@ some_there N (ListsIn r (m ∷ ns)) h t = (m, shown_is_number N (ListsIn r (m �
 some_there N ask h t = elim (firsts N) [ Empty e none ↦ absurd (grind (arith, none)) | Begins c e here all ↦ (c, here) ]
 
 -- each number is known, or one of them is the one more
-pub known_or_more : (asks : List Ask) (G : Numbers) → HasGivenNumbers asks G
-    → ((n : ℕ) → IsNumber G n → IsTrue (is_known asks n)) ⊎ ((e : ℕ) × IsNumber G e × IsOneMore asks e)
+pub known_or_more : (asks : List Ask) (G : Numbers) → HasGivenNumbers asks G → ((n : ℕ) → IsNumber G n → IsTrue (is_known asks n)) ⊎ ((e : ℕ) × IsNumber G e × IsOneMore asks e)
 known_or_more asks G given =
     let unknown = λ (n : ℕ). not (is_known asks n) in
     grind (arith, cases_Bool (list_any unknown (keys G)), any_in unknown, found_in unknown, key_in G, key_is G, given, not-true, true≢false)
@@ -121,8 +119,7 @@ module _ (asks : List Ask) (N : Numbers) (met : AllByRecursion (Meets N) asks) (
   known_in_N n s = grind (arith, or_cases, shown_are_numbers, and_parts, found_in, some_there, all_at)
 
   free_in_N : (n : ℕ) → IsNumber N n → IsFalse (is_denied asks n)
-  free_in_N n i =
-      grind (arith, cases_Bool (is_denied asks n), found_in, all_at, nat_tests, and_parts, true≢false, finds, not-true, eqb-true, firsts, ltb-true)
+  free_in_N n i = grind (arith, cases_Bool (is_denied asks n), found_in, all_at, nat_tests, and_parts, true≢false, finds, not-true, eqb-true, firsts, ltb-true)
 
   -- the demand wants a number that is known
   abbrev is_wanted : ℕ → Bool

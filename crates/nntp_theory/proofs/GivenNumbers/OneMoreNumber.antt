@@ -2,9 +2,8 @@
 use Rattle.std.{proofs.Common.{◌≡◌, ℕ, ◌≤◌, Bool, cond, IsTrue, List, Option, None, Some, inl, refl, sym, subst, arith, [], ◌∷◌}, specs.List.{list_any}}
 use Rattle.std.specs.List.{flat_map}
 use Rattle.nntp_said.specs.Asks.{Ask}
-use Rattle.nntp_theory.specs.{Given.{is_known, is_denied, demand, wants, IsOneMore}, Inner.OneMore.{free, if_wanted}}
-use Rattle.nntp_theory.proofs.{GivenNumbers.FirstFreeNumber.{free_is, free_none}, Members.{In, found_in, to_flat, from_flat}, Ids.SmallGivenSpool.{named_by}}
-use Rattle.nntp_theory.proofs.Ids.SmallGivenSpool.{known_named}
+use Rattle.nntp_theory.proofs.{GivenNumbers.FirstFreeNumber.{free_is, free_none}, Ids.SmallGivenSpool.{named_by, known_named}, Members.{In, found_in, to_flat}}
+use Rattle.nntp_theory.{proofs.Members.{from_flat}, specs.{Given.{is_known, is_denied, demand, wants, IsOneMore}, Inner.OneMore.{free, if_wanted}}}
 
 -- ---- the numbers that are known
 

@@ -1,8 +1,7 @@
 -- Invented ids: they are message ids, and differ from one another.
-use Rattle.std.proofs.Common.{◌≡◌, ℕ, ◌+◌, ◌-◌, ◌<◌, ◌≤◌, ◌^◌, true, List, [], ◌∷◌, ◌++◌, length, take, drop, refl, arith, length-append}
-use Rattle.std.proofs.{Math.Seq.{take-append_seam}, lemmas.{Bool.{and_from, le-leb}, List.Folds.{list_all-append}, Fmt.{decimal_is_IsNumeral_wide}}}
-use Rattle.std.{proofs.lemmas.{Fmt.{length-decimal-le_wide}, Str.Parse.{digit_from_value}}, specs.{Prelude.{codes, decimal}, List.{list_all}}}
-use Rattle.std.specs.Str.Parse.{AllDigits, digits_value}
+use Rattle.std.{specs.{Str.Parse.{AllDigits, digits_value}, Prelude.{codes, decimal}, List.{list_all}}, proofs.lemmas.List.Folds.{list_all-append}}
+use Rattle.std.proofs.{lemmas.{Str.Parse.{digit_from_value}, Bool.{and_from, le-leb}, Fmt.{decimal_is_IsNumeral_wide, length-decimal-le_wide}}, Common.{◌≡◌, ℕ}}
+use Rattle.std.proofs.{Common.{◌+◌, ◌-◌, ◌<◌, ◌≤◌, ◌^◌, true, List, [], ◌∷◌, ◌++◌, length, take, drop, refl, arith, length-append}, Math.Seq.{take-append_seam}}
 use Rattle.nntp_theory.specs.Given.{invented}
 use Rattle.nntp_article.specs.Article.Parts.{Id}
 use Rattle.nntp_wire.{specs.{Decided.{is_id_octet, ends_id}, Name.{IsMessageId}}, proofs.DecidedLemmas.{message_id-iff}}

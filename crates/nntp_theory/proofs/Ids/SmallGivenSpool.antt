@@ -83,8 +83,7 @@ no_number name (line ∷ lines) = grind (arith, no_number name lines)
 none_left : (g : Name) (ask : Ask) (name : Name) (names : List Name) → is_same g name ≡ true → AllByRecursion (λ other. eq_by_cmp (slice_cmp nat_cmp) name other ≡ false) names
     → length (flat_map (λ n. flat_map named_by (cond (is_same g n) (ask ∷ []) [])) names) ≡ 0
 none_left g ask name [] same apart = refl
-none_left g ask name (other ∷ names) same apart =
-    grind (arith, same_text g name (sym same), is_eq-slice_cmp name other, none_left g ask name names same apart.1)
+none_left g ask name (other ∷ names) same apart = grind (arith, same_text g name (sym same), is_eq-slice_cmp name other, none_left g ask name names same apart.1)
 
 -- what an ask shows of several groups is no more than its size
 ask_few : (g : Name) (ask : Ask) (names : List Name) → IsDistinct (eq_by_cmp (slice_cmp nat_cmp)) names
@@ -140,8 +139,7 @@ unshown_few facts name (e ∷ es) = grind (arith, unshown_few facts name es)
 
 -- the ids for which none is shown are few
 pub unshown_ids_few : (facts : List Fact) (G : Spool) → ((name : Name) → IsGroup G name → IsTrue (is_shown_group facts name))
-    → ((name : Name) → IsGroup G name → HasGivenNumbers (asks_of name facts) (numbers G name))
-    → length (unshown_ids facts G) ≤ size facts + size facts
+    → ((name : Name) → IsGroup G name → HasGivenNumbers (asks_of name facts) (numbers G name)) → length (unshown_ids facts G) ≤ size facts + size facts
 unshown_ids_few facts G groups given =
     let each : (g : Name × Numbers) → In g (entries G.groups) → length (unshown_in facts g.0 (entries g.1)) ≤ 1 + length (shown_numbers g.0 facts) = λ g i.
     grind (arith, in_get nat_list_cmp_total (slice_cmp-IsAntisymmetric nat_cmp-IsAntisymmetric) G.groups g.0 g.1 i, given g.0, unshown_few facts g.0 (entries g.1), given_few g.0 facts g.1) in

@@ -13,8 +13,7 @@ use Rattle.nntp_wire.specs.Session.{ClientStream}
 
 module _ (profile : Profile) (client : ClientStream) (server : List ℕ) where
   pub first_bad : (pairs : List Paired) (answer : Judged) (more : List Judged) (ending : Ending) (class : Class)
-      → IsReading profile client server (map Accepted pairs ++ answer ∷ more) ending → class_behind profile pairs answer ≡ Some class
-      → IsOutcome profile client server (No (length pairs) class)
+      → IsReading profile client server (map Accepted pairs ++ answer ∷ more) ending → class_behind profile pairs answer ≡ Some class → IsOutcome profile client server (No (length pairs) class)
   first_bad pairs (Accepted pair) more ending class reading e = cc
   first_bad pairs (Refused pair) more ending class reading e =
       let r = accepted_first (ArePermitted profile) [] (streams client server) reading.left pairs (Refused pair ∷ more) (none_accepted profile) reading.judged in

@@ -57,10 +57,8 @@ module _ (Stand : List Paired → Type 0) where
   one_judged past a b c (Accepted x) (Refused y) (n, h) (m, none) = absurd (none (subst (λ pair. Stand (past ++ pair ∷ [])) (one-next a b c x y n m).0 h))
   one_judged past a b c (Refused x) (Accepted y) (n, none) (m, h) = absurd (none (subst (λ pair. Stand (past ++ pair ∷ [])) (sym (one-next a b c x y n m).0) h))
   one_judged past a b c (Unspelled i place initial block) (Unspelled j also other next) (at, passed) (to, second) = grind (arith, one-passed a b c place also initial other block next passed second)
-  one_judged past a b c x (Unspelled i place initial block) h (at, passed) =
-      absurd (next-no-end (bad PairMalformed) a b _ h.0 (passed-ends a c place initial block passed))
-  one_judged past a b c (Unspelled i place initial block) y (at, passed) k =
-      absurd (next-no-end (bad PairMalformed) a c _ k.0 (passed-ends a b place initial block passed))
+  one_judged past a b c x (Unspelled i place initial block) h (at, passed) = absurd (next-no-end (bad PairMalformed) a b _ h.0 (passed-ends a c place initial block passed))
+  one_judged past a b c (Unspelled i place initial block) y (at, passed) k = absurd (next-no-end (bad PairMalformed) a c _ k.0 (passed-ends a b place initial block passed))
 
   -- ---- several answers
 
@@ -84,8 +82,7 @@ module _ (Stand : List Paired → Type 0) where
   pub accepted_weight : (past : List Paired) (a b : Unpaired) (answers : List Judged)
       → AreJudged Stand past a answers b → weight (responses_of (all_accepted past answers)) + length b.server ≤ weight (responses_of past) + length a.server
   accepted_weight past a b [] same = let e = ap (λ (u : Unpaired). length u.server) same in omega (arith, e)
-  accepted_weight past a b (Accepted pair ∷ answers) (m, (next, h), more) =
-      omega (arith, accepted_weight (past ++ pair ∷ []) m b answers more, weight_next past a m pair next)
+  accepted_weight past a b (Accepted pair ∷ answers) (m, (next, h), more) = omega (arith, accepted_weight (past ++ pair ∷ []) m b answers more, weight_next past a m pair next)
   accepted_weight past a b (answer ∷ answers) (m, first, more) = omega (arith, accepted_weight past m b answers more, judged_shorter past a m answer first)
 
   -- so those of both streams weigh no more than the server's octets
@@ -112,8 +109,7 @@ module _ (Stand : List Paired → Type 0) where
   pub accepted_first : (past : List Paired) (a c : Unpaired) (pairs : List Paired) (more : List Judged) → Stand past
       → AreJudged Stand past a (map Accepted pairs ++ more) c → AcceptedFirst past a pairs more c
   accepted_first past a c [] more stand judged = search rules
-  accepted_first past a c (pair ∷ pairs) more stand (m, (next, h), judged) =
-      search (rules, append_assoc, accepted_first (past ++ pair ∷ []) m c pairs more h judged)
+  accepted_first past a c (pair ∷ pairs) more stand (m, (next, h), judged) = search (rules, append_assoc, accepted_first (past ++ pair ∷ []) m c pairs more h judged)
 
   -- the pairing ends as the reading does
   pub all_paired : (client : ClientStream) (server : List ℕ) (pairs : List Paired) (ending : Ending) → Stand [] → IsReadingBy Stand client server (map Accepted pairs) ending

@@ -12,8 +12,7 @@ module _ (Stand : List Paired → Type 0) where
   -- ---- one at most
 
   -- answers up to an end are determined
-  one_run : (past : List Paired) (a b c : Unpaired) (answers others : List Judged) (ending other : Ending)
-      → AreJudged Stand past a answers b → Ends b ending → ending ≢ bad PairMalformed
+  one_run : (past : List Paired) (a b c : Unpaired) (answers others : List Judged) (ending other : Ending) → AreJudged Stand past a answers b → Ends b ending → ending ≢ bad PairMalformed
       → AreJudged Stand past a others c → Ends c other → other ≢ bad PairMalformed → (answers ≡ others) × (b ≡ c)
   one_run past a b c [] [] ending other p ends passed q also too = (refl, sym p ∙ q)
   one_run past a b c (x ∷ answers) (y ∷ others) ending other (m, first, p) ends passed (k, second, q) also too =

@@ -48,15 +48,12 @@ answer_placed profile all v at p a f stands _ = grind (arith, and_parts, or_case
 
 -- the group that is selected afterwards is there
 pub still_stands : (profile : Profile) (all : List Fact) (v : Visible) (at : Position) (p : Asked) (a : Response)
-    → HasNoted profile.marks all v → IsTrue (fits profile v p a) → AllByRecursion (Among all) (facts_of profile.marks v at p a)
-    → HasNoted profile.marks all (visible_after v p a)
+    → HasNoted profile.marks all v → IsTrue (fits profile v p a) → AllByRecursion (Among all) (facts_of profile.marks v at p a) → HasNoted profile.marks all (visible_after v p a)
 still_stands profile all v at p a h i j = grind arith
 
 -- the same of all that a session says, from any state on
-all_placed : (profile : Profile) (all : List Fact) (v : Visible) (at : Position) (ps : List Asked) (answers : List Response)
-    → HasNoted profile.marks all v → FitsAll profile v ps answers
-    → AllByRecursion (Among all) (facts_from profile.marks v at ps answers)
-    → AllByRecursion (Placed profile.marks all) (facts_from profile.marks v at ps answers)
+all_placed : (profile : Profile) (all : List Fact) (v : Visible) (at : Position) (ps : List Asked) (answers : List Response) → HasNoted profile.marks all v → FitsAll profile v ps answers
+    → AllByRecursion (Among all) (facts_from profile.marks v at ps answers) → AllByRecursion (Placed profile.marks all) (facts_from profile.marks v at ps answers)
 all_placed profile all v at (p ∷ ps) (a ∷ more) stands f h =
     let first = answer_placed profile all v at p a f.1 stands in
     let later = all_placed profile all (visible_after v p a) (position_after at p a) ps more in
@@ -69,6 +66,5 @@ pub placed_among : (profile : Profile) (all : List Fact) (ps : List Asked) (answ
 placed_among profile all ps answers f h = all_placed profile all start.visible Nowhere ps answers (λ name e. cc) f h
 
 pub session_placed : (profile : Profile) (ps : List Asked) (answers : List Response) → FitsAll profile start.visible ps answers
-    → AllByRecursion (Placed profile.marks (facts_of_session profile.marks ps answers))
-    (facts_of_session profile.marks ps answers)
+    → AllByRecursion (Placed profile.marks (facts_of_session profile.marks ps answers)) (facts_of_session profile.marks ps answers)
 session_placed profile ps answers f = search (arith, placed_among, all_from)

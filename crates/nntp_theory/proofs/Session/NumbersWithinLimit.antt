@@ -41,8 +41,7 @@ module _ (profile : Profile) (facts : List Fact) (how : Marks) (fitting : AllByR
 
   -- and so is one of all
   pub end_in_limit : (name : Name) (n count : ℕ) → IsTrue (list_any (λ ask. is_end ask n) (asks_of name facts))
-      → ((ask : Ask) → In ask (asks_of name facts) → IsTrue (is_within (estimate_in ask) count)) → 1 ≤ count
-      → IsFalse (is_denied (asks_of name facts) n) → (1 ≤ n) × (n ≤ profile.limit)
+      → ((ask : Ask) → In ask (asks_of name facts) → IsTrue (is_within (estimate_in ask) count)) → 1 ≤ count → IsFalse (is_denied (asks_of name facts) n) → (1 ≤ n) × (n ≤ profile.limit)
   end_in_limit name n count t few some free =
       let f = found_in (λ ask. is_end ask n) (asks_of name facts) t in
       grind (arith, from_flat (asks_in name) f.0 facts f.1, fits, few f.0 f.1, any_in (λ ask. denies ask n) f.0 (asks_of name facts) f.1, from_flat)

@@ -13,8 +13,7 @@ use Rattle.nntp_pair.{specs.Pairing.{Paired, Unpaired, AreNext, responses_of, as
 -- what it says stands behind what those before say
 pub facts_grow : (how : Marks) (v : Visible) (at : Position) (ps : List Asked) (answers : List Response) (asked : Asked) (response : Response) → asked_next ps answers ≡ Some asked
     → facts_from how v at ps (answers ++ response ∷ []) ≡ facts_from how v at ps answers ++ facts_of how (visible_from v ps answers) (position_from at ps answers) asked response
-facts_grow how v at (p ∷ ps) (a ∷ more) asked response e =
-    grind (arith, append_assoc, facts_grow how (visible_after v p a) (position_after at p a) ps more asked response e)
+facts_grow how v at (p ∷ ps) (a ∷ more) asked response e = grind (arith, append_assoc, facts_grow how (visible_after v p a) (position_after at p a) ps more asked response e)
 facts_grow how v at (p ∷ (q ∷ ps)) [] asked response e = grind (arith, append-nil)
 facts_grow how v at ps answers asked response e = grind (arith, append-nil)
 

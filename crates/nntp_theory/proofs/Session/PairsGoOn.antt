@@ -23,8 +23,7 @@ Runs profile S s = Run profile S start s.prompts s.answers
 
 -- some spool permits one prompt and its answer more exactly if it may follow
 pub permitted_next : (profile : Profile) (earlier : List Answered) (ps : List Asked) (answers : List Response) (asked : Asked) (response : Response) → length ps ≡ length answers
-    → size (facts_of_all profile.marks (earlier ++ of_these (ps ++ asked ∷ []) (answers ++ response ∷ []) ∷ [])) < 2 ^ 210
-    → SomePermitsEach profile (earlier ++ of_these ps answers ∷ [])
+    → size (facts_of_all profile.marks (earlier ++ of_these (ps ++ asked ∷ []) (answers ++ response ∷ []) ∷ [])) < 2 ^ 210 → SomePermitsEach profile (earlier ++ of_these ps answers ∷ [])
     → SomePermitsEach profile (earlier ++ of_these (ps ++ asked ∷ []) (answers ++ response ∷ []) ∷ [])
     ↔ MayFollow profile (visible_from start.visible ps answers) (position_from Nowhere ps answers) (facts_of_all profile.marks earlier ++ facts_of_session profile.marks ps answers) asked response
 permitted_next profile earlier ps answers asked response e small h =
@@ -37,8 +36,7 @@ permitted_next profile earlier ps answers asked response e small h =
 pub facts_next : (how : Marks) (ps : List Asked) (answers : List Response) (asked : Asked) (response : Response) → length ps ≡ length answers
     → facts_of_session how (ps ++ asked ∷ []) (answers ++ response ∷ []) ≡ facts_of_session how ps answers ++ facts_of how
     (visible_from start.visible ps answers) (position_from Nowhere ps answers) asked response
-facts_next how ps answers asked response e =
-    grind (arith, facts_grow how start.visible Nowhere (ps ++ asked ∷ []) answers asked response, next_behind, facts_longer, visible_longer, position_longer)
+facts_next how ps answers asked response e = grind (arith, facts_grow how start.visible Nowhere (ps ++ asked ∷ []) answers asked response, next_behind, facts_longer, visible_longer, position_longer)
 
 -- what is visible then
 pub visible_next : (ps : List Asked) (answers : List Response) (asked : Asked) (response : Response) → length ps ≡ length answers

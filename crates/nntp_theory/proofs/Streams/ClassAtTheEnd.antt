@@ -58,8 +58,7 @@ has_class profile client server pairs left class paired h =
     record { before = pairs_before client server pairs left paired; is_class = grind (arith, pairs_close, paired_up start.visible (streams client server) left pairs refl paired) }
 
 pub end_has_class : (profile : Profile) (client : ClientStream) (server : List ℕ) (pairs : List Paired) (left : Unpaired) (class : PairClass) → AreNext (streams client server) pairs left
-    → IsBad class left
-    → HasClass profile client server (length pairs) (class_of class)
+    → IsBad class left → HasClass profile client server (length pairs) (class_of class)
 end_has_class profile client server pairs left class paired h = has_class profile client server pairs left (class_of class) paired (grind arith)
 
 -- who permits the responses of the pairs explains them

@@ -81,8 +81,7 @@ first_explained profile S client server n m rest le x = grind (arith, first_spel
 module _ (P : Spool → Type 0) (profile : Profile) (client : ClientStream) (server : List ℕ) where
   -- one answer is bad at most
   pub bad_once : (k j : ℕ) → BadAmong P profile client server k → BadAmong P profile client server j → k ≡ j
-  bad_once k j (x, none) (y, none') =
-      grind (arith, first_explained profile y.0 client server (k + 1) j y.1, first_explained profile x.0 client server (j + 1) k x.1)
+  bad_once k j (x, none) (y, none') = grind (arith, first_explained profile y.0 client server (k + 1) j y.1, first_explained profile x.0 client server (j + 1) k x.1)
 
   -- where one of them explains all, no answer is bad
   pub explained_not_bad_among : (S : Spool) (n k : ℕ) → P S → Explains profile S client server n → BadAmong P profile client server k → ⊥

@@ -20,23 +20,19 @@ run_open profile S s ps answers asked a e r = cc
 
 -- and fits the visible state
 pub run_fits : (profile : Profile) (S : Spool) (s : State) (ps : List Asked) (answers : List Response) (asked : Asked)
-    (a : Response) → asked_next ps answers ≡ Some asked → Run profile S s ps (answers ++ a ∷ [])
-    → IsTrue (fits profile (visible_from s.visible ps answers) asked a)
+    (a : Response) → asked_next ps answers ≡ Some asked → Run profile S s ps (answers ++ a ∷ []) → IsTrue (fits profile (visible_from s.visible ps answers) asked a)
 run_fits profile S s (p ∷ ps) (x ∷ answers) asked a e (new, permits, rest) = grind (arith, run_fits profile S new ps answers asked a e rest)
 run_fits profile S s ps answers asked a e r = cc
 
-spelled_snoc : (ps : List Asked) (answers : List Response) (octets b : List ℕ) (asked : Asked) (a : Response)
-    → Spelled ps answers octets → asked_next ps answers ≡ Some asked → Spells asked a b
+spelled_snoc : (ps : List Asked) (answers : List Response) (octets b : List ℕ) (asked : Asked) (a : Response) → Spelled ps answers octets → asked_next ps answers ≡ Some asked → Spells asked a b
     → Spelled ps (answers ++ a ∷ []) (octets ++ b)
-spelled_snoc (p ∷ ps) (x ∷ answers) octets b asked a (c, rest, s, tail, whole) e t =
-    (c, rest ++ b, s, spelled_snoc ps answers rest b asked a tail e t, ap (λ o. o ++ b) whole ∙ append_assoc c rest b)
+spelled_snoc (p ∷ ps) (x ∷ answers) octets b asked a (c, rest, s, tail, whole) e t = (c, rest ++ b, s, spelled_snoc ps answers rest b asked a tail e t, ap (λ o. o ++ b) whole ∙ append_assoc c rest b)
 spelled_snoc ps answers octets b asked a s e t = grind (arith, append-nil)
 
 -- two readings of octets begin with the same answer, and the same octets are left behind it
 pub same_first : (p : Asked) (x y : Response) (b d s t rest more sp tp : List ℕ)
     → Spells p x b → Spells p y d → sp ≡ b ++ s → tp ≡ d ++ t → sp ++ rest ≡ tp ++ more → (x ≡ y) × (b ≡ d) × (s ++ rest ≡ t ++ more)
-same_first p x y b d s t rest more sp tp first second whole whole' e =
-    grind (arith, append_assoc, one-spelling p x y b d (s ++ rest) (t ++ more) first second, append_cancel_left)
+same_first p x y b d s t rest more sp tp first second whole whole' e = grind (arith, append_assoc, one-spelling p x y b d (s ++ rest) (t ++ more) first second, append_cancel_left)
 
 -- of a reading that is one answer longer, the answers before are the same
 pub record OneMore (ps : List Asked) (answers others : List Response) (rest more : List ℕ) : Type 0 where
@@ -49,8 +45,7 @@ pub record OneMore (ps : List Asked) (answers others : List Response) (rest more
   pub whole : rest ≡ front ++ more
 
 pub one_more : (ps : List Asked) (answers others : List Response) (sp tp rest more : List ℕ) → Spelled ps answers sp
-    → Spelled ps others tp → sp ++ rest ≡ tp ++ more → length others ≡ length answers + 1
-    → OneMore ps answers others rest more
+    → Spelled ps others tp → sp ++ rest ≡ tp ++ more → length others ≡ length answers + 1 → OneMore ps answers others rest more
 one_more [] answers (y ∷ others) sp tp rest more s t e count = absurd t
 one_more (p ∷ ps) [] (y ∷ []) sp tp rest more s (b, tail, t, nothing, whole) e count = grind (arith, append-nil)
 one_more (p ∷ ps) (x ∷ answers) (y ∷ others) sp tp rest more (b, tail, s, ss, whole) (d, tail', t, ts, whole') e count =

@@ -2,18 +2,16 @@
 use Rattle.std.{specs.Prelude.{⊤}, proofs.Common.{◌≡◌, ℕ, ◌<◌, ◌^◌, ◌↔◌, false, IsTrue, List, [], ◌∷◌, ◌++◌, length, inl, inr, refl, sym, ap, subst, ◌∙◌}}
 use Rattle.std.proofs.{Common.{arith, length-append}, lemmas.{Bool.{true≢false}, List.{map-append}}}
 use Rattle.nntp_wire.specs.Session.{prompts_of, ClientStream}
-use Rattle.nntp_pair.specs.Pairing.{Paired, Unpaired, IsNext, AreNext, end, bad, IsPairing, responses_of, asked_of, asked_at, streams}
-use Rattle.nntp_pair.{specs.{declared.class.{PairClass.{PairClass}, Class.TheVariants.{OutOfPlace}}, Classes.{class_of}}, proofs.PairingLemmas.{one-run}}
-use Rattle.nntp_pair.proofs.PairingLemmas.{AreNext-push}
+use Rattle.nntp_pair.specs.{declared.class.{Class.TheVariants.{OutOfPlace}, PairClass.{PairClass}}, Classes.{class_of}, Pairing.{Paired, Unpaired, IsNext}}
+use Rattle.nntp_pair.{specs.Pairing.{AreNext, end, bad, IsPairing, responses_of, asked_of, asked_at, streams}, proofs.PairingLemmas.{one-run, AreNext-push}}
 use Rattle.nntp_article.specs.{declared.session.profile.Profile.{Profile}, Session.{Spool.{Spool, IsSpool}, Machine.{Run, start, fits, Visible}}}
 use Rattle.nntp_article.specs.Session.Explains.{Explains, BadAmong}
-use Rattle.nntp_theory.specs.{Given.{IsGiven, facts_of_session}, Inner.{Given.{size}, Permits.{SomePermits}, Outcome.{is_yes}}, Classes.{HasClass, class_by}}
-use Rattle.nntp_theory.{specs.{Classes.{visible_from}, Outcome.{Outcome, Yes, No, IsOutcome, IsLeastExplanation}}, proofs.Streams.OneClass.{before_bad}}
-use Rattle.nntp_theory.proofs.Streams.{OneClass.{class_there, one_class}, ExplainedPairs.{by_pairs, by_all_pairs}, ExplainedOrBad.{explained_or_bad}}
-use Rattle.nntp_theory.proofs.Streams.{ExplainedOrBad.{explained_not_bad, bad_once}, PairedStreams.{explained_end, bad_end, bad_answer, answer_has_class}}
-use Rattle.nntp_theory.proofs.{Streams.PairedStreams.{unfitting}, Given.{SessionsByFacts.{given_exists}, OneGivenSpool.{given_once}, GivenPermits.{stands}}}
-use Rattle.nntp_theory.proofs.{Given.GivenPermits.{given_permits, given_is_least}, Session.OneMoreAnswer.{size_by_octets, facts_by_pairs, pairs_run}}
-use Rattle.nntp_theory.proofs.Session.{OneMoreAnswer.{pairs_permitted, prompts_of_pairs, as_few}, LaterPrompts.{visible_longer}}
+use Rattle.nntp_theory.proofs.Given.{GivenPermits.{stands, given_permits, given_is_least}, SessionsByFacts.{given_exists}, OneGivenSpool.{given_once}}
+use Rattle.nntp_theory.proofs.Streams.{OneClass.{before_bad, class_there, one_class}, ExplainedOrBad.{explained_or_bad, explained_not_bad, bad_once}}
+use Rattle.nntp_theory.proofs.Streams.{PairedStreams.{explained_end, bad_end, bad_answer, answer_has_class, unfitting}, ExplainedPairs.{by_pairs, by_all_pairs}}
+use Rattle.nntp_theory.proofs.Session.OneMoreAnswer.{size_by_octets, facts_by_pairs, pairs_run, pairs_permitted, prompts_of_pairs, as_few}
+use Rattle.nntp_theory.{proofs.Session.LaterPrompts.{visible_longer}, specs.{Inner.{Permits.{SomePermits}, Outcome.{is_yes}, Given.{size}}, Outcome.{Outcome}}}
+use Rattle.nntp_theory.specs.{Outcome.{Yes, No, IsOutcome, IsLeastExplanation}, Given.{IsGiven, facts_of_session}, Classes.{HasClass, class_by, visible_from}}
 
 -- ---- one outcome
 
@@ -46,8 +44,7 @@ module _ (profile : Profile) (client : ClientStream) (server : List ℕ) where
   -- two streams have one outcome at most
   pub one_outcome : (h k : Outcome) → IsOutcome profile client server h → IsOutcome profile client server k → h ≡ k
   one_outcome (Yes S n) (Yes T m) x y = grind (arith, same_answers profile S T client server n m x.explains y.explains, given_once)
-  one_outcome (No k c) (No j d) x y =
-      grind (arith, bad_once (λ S. ⊤) profile client server k j x.0 y.0, one_class profile client server j c d)
+  one_outcome (No k c) (No j d) x y = grind (arith, bad_once (λ S. ⊤) profile client server k j x.0 y.0, one_class profile client server j c d)
   one_outcome h k x y = search (arith, explained_not_bad)
 
   -- and they have one
@@ -61,19 +58,15 @@ module _ (profile : Profile) (client : ClientStream) (server : List ℕ) where
   ]
 
   -- it is a yes exactly if some spool explains the streams
-  pub yes_explained : (h : Outcome) → IsOutcome profile client server h
-      → IsTrue (is_yes h) ↔ ((S : Spool) × (n : ℕ) × Explains profile S client server n)
+  pub yes_explained : (h : Outcome) → IsOutcome profile client server h → IsTrue (is_yes h) ↔ ((S : Spool) × (n : ℕ) × Explains profile S client server n)
   yes_explained (Yes S n) x = (λ t. (S, n, x.explains), λ e. refl)
   yes_explained (No k class) x = (λ t. absurd (true≢false (sym t)), λ e. absurd (explained_not_bad profile e.0 client server e.1 k e.2 x.0))
 
   -- ---- the ways to it
 
   -- at the end of the server's octets
-  pub outcome_at_end : (pairs : List Paired) (unanswered : ℕ) (G : Spool)
-      → size (facts_of_session profile.marks (asked_of pairs) (responses_of pairs)) < 2 ^ 210
-      → IsPairing client server pairs (end unanswered)
-      → SomePermits profile (asked_of pairs) (responses_of pairs)
-      → IsGiven (facts_of_session profile.marks (asked_of pairs) (responses_of pairs)) G
+  pub outcome_at_end : (pairs : List Paired) (unanswered : ℕ) (G : Spool) → size (facts_of_session profile.marks (asked_of pairs) (responses_of pairs)) < 2 ^ 210
+      → IsPairing client server pairs (end unanswered) → SomePermits profile (asked_of pairs) (responses_of pairs) → IsGiven (facts_of_session profile.marks (asked_of pairs) (responses_of pairs)) G
       → IsOutcome profile client server (Yes G (length pairs))
   outcome_at_end pairs unanswered G small pairing permitted given =
       let p = (pairs_permitted profile client server pairs pairing.left pairing.paired).1 permitted in

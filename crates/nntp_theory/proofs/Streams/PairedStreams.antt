@@ -5,9 +5,8 @@ use Rattle.nntp_pair.specs.Pairing.{Paired, Unpaired, IsNext, AreNext, end, bad,
 use Rattle.nntp_pair.{specs.{declared.class.PairClass.{PairClass}, Classes.{class_of}}, proofs.SpelledLemmas.{places-prompts, pairs-spelled}}
 use Rattle.nntp_article.specs.Session.{Spool.{Spool, IsSpool}, Machine.{Run, start, fits}, Explains.{Explains, ExplainsFirst, BadAmong}}
 use Rattle.nntp_article.specs.declared.session.profile.Profile.{Profile}
-use Rattle.nntp_theory.{specs.{Inner.Permits.{SomePermits}, Classes.{visible_from, asked_next, HasClass, class_by}}, proofs.Streams.OneClass.{one_more}}
-use Rattle.nntp_theory.proofs.Streams.{OneClass.{run_fits, contradicted}, ClassAtTheEnd.{first_asked, paired_up, count, has_class, end_has_class}}
-use Rattle.nntp_theory.proofs.Streams.ClassAtTheEnd.{explained_pairs}
+use Rattle.nntp_theory.proofs.Streams.{ClassAtTheEnd.{first_asked, paired_up, count, has_class, end_has_class, explained_pairs}, OneClass.{one_more, run_fits}}
+use Rattle.nntp_theory.{proofs.Streams.OneClass.{contradicted}, specs.{Classes.{visible_from, asked_next, HasClass, class_by}, Inner.Permits.{SomePermits}}}
 
 -- where the pairing comes to its end, who permits its responses explains both streams
 pub explained_end : (profile : Profile) (S : Spool) (client : ClientStream) (server : List ℕ) (pairs : List Paired) (unanswered : ℕ) → IsPairing client server pairs (end unanswered)
@@ -42,8 +41,7 @@ module _ (profile : Profile) (client : ClientStream) (server : List ℕ) (pairs 
   asked_is = grind (arith, paired_up start.visible (streams client server) before pairs refl paired, places-prompts, first_asked)
 
   -- an answer that doesn't fit is permitted by no spool
-  pub unfitting : fits profile (visible_from start.visible (prompts_of client) (responses_of pairs))
-      (asked_at pair.place) pair.response ≡ false
+  pub unfitting : fits profile (visible_from start.visible (prompts_of client) (responses_of pairs)) (asked_at pair.place) pair.response ≡ false
       → SomePermits profile (prompts_of client) (responses_of pairs ++ pair.response ∷ []) → ⊥
   unfitting e (S, spool, run) = true≢false (sym (run_fits profile S start (prompts_of client) (responses_of pairs) (asked_at pair.place) pair.response asked_is run) ∙ e)
 
@@ -57,8 +55,7 @@ module _ (profile : Profile) (client : ClientStream) (server : List ℕ) (pairs 
 
   -- the answer is bad among the spools with P, if none of them permits it behind those that one of them permits
   pub bad_answer : (P : Spool → Type 0) (S : Spool) → IsSpool profile.limit S → P S → Run profile S start (prompts_of client) (responses_of pairs)
-      → ((T : Spool) → IsSpool profile.limit T → P T → Run profile T start (prompts_of client) (responses_of pairs ++ pair.response ∷ []) → ⊥)
-      → BadAmong P profile client server (length pairs)
+      → ((T : Spool) → IsSpool profile.limit T → P T → Run profile T start (prompts_of client) (responses_of pairs ++ pair.response ∷ []) → ⊥) → BadAmong P profile client server (length pairs)
   bad_answer P S spool p run none =
       let x = explained_pairs profile S client server pairs before paired spool run in
       ((S, before.server, p, x, λ e. grind arith), λ T q x. none T x.1.is_spool q (permitted T x))

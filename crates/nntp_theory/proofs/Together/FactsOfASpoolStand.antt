@@ -188,8 +188,7 @@ module _ (limit : ℕ) (S : Spool) (facts : List Fact) (spool : IsSpool limit S)
   -- lines that are sent of an article are lines
   sent_lines : (what : What) (id : Id) (t : Text) (lines : Option (List Line)) → get S.articles id ≡ Some t
       → text_of what t ≡ lines → IfSome lines (λ lines. AllByRecursion (λ line. IsTrue (is_line line)) lines)
-  sent_lines what id t lines e same =
-      grind (arith, recursion_from_All (λ line. IsTrue (is_line line)) (t.head ++ t.body) (spool.heads id t e).1, all_front, all_back, all_both)
+  sent_lines what id t lines e same = grind (arith, recursion_from_All (λ line. IsTrue (is_line line)) (t.head ++ t.body) (spool.heads id t e).1, all_front, all_back, all_both)
 
   -- the id and the words of an overview are S's
   proper : (o : OverviewValue) → HasOverview S o → IsProperOverview o

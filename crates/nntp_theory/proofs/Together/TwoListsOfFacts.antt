@@ -22,8 +22,7 @@ Apart shows denies facts = IsTrue (list_any shows facts) → IsFalse (list_any d
 
 -- nothing is in both lists, if nothing is in either, or in one and in the other
 pub apart_both : (shows denies : Fact → Bool) (facts more : List Fact) → Apart shows denies facts → Apart shows denies more
-    → (IsTrue (list_any shows more) → IsFalse (list_any denies facts)) → (IsTrue (list_any denies more) → IsFalse (list_any shows facts))
-    → Apart shows denies (facts ++ more)
+    → (IsTrue (list_any shows more) → IsFalse (list_any denies facts)) → (IsTrue (list_any denies more) → IsFalse (list_any shows facts)) → Apart shows denies (facts ++ more)
 apart_both shows denies facts more before within shown denied s = grind (arith, false_from_ne_true, or_cases, list_any-append, true≢false)
 
 -- and back

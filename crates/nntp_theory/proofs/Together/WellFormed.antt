@@ -1,9 +1,8 @@
 -- What octets spell is well formed.
-use Rattle.nntp_wire.specs.{declared.marks.Marks.{Marks}, Octets.{crlf}, Inner.Octets.{are_octets}, Name.{IsGroupName, IsMessageId}, Block.{stuffed, sent}}
-use Rattle.nntp_wire.specs.{Block.{AreClean}, Listing.{active_groups, overviews_of}, Answer.{Asked, Response, group_is, numbers_are, sends, active_are, plain}}
-use Rattle.nntp_wire.specs.Answer.{Spells, SaysByLines, SaysGroup, SaysNumbers, SaysArticle, SaysActive, SaysOverviews, SaysIds, SaysCapabilities, SaysCode}
-use Rattle.nntp_wire.{specs.Answer.{overviews_are}, proofs.{AnswerLemmas.{says-ways}, OctetLemmas.{octets-parts}, ListingLemmas.{active_groups-named}}}
-use Rattle.nntp_wire.proofs.ListingLemmas.{overviews_of-named}
+use Rattle.nntp_wire.proofs.{AnswerLemmas.{says-ways}, ListingLemmas.{active_groups-named, overviews_of-named}, OctetLemmas.{octets-parts}}
+use Rattle.nntp_wire.specs.Answer.{Asked, Response, group_is, numbers_are, sends, active_are, plain, Spells, SaysByLines, SaysGroup, SaysNumbers, SaysArticle}
+use Rattle.nntp_wire.specs.{Answer.{SaysActive, SaysOverviews, SaysIds, SaysCapabilities, SaysCode, overviews_are}, Octets.{crlf}, declared.marks.Marks.{Marks}}
+use Rattle.nntp_wire.specs.{Inner.Octets.{are_octets}, Listing.{active_groups, overviews_of}, Name.{IsGroupName, IsMessageId}, Block.{stuffed, sent, AreClean}}
 use Rattle.std.{proofs.Common.{◌≡◌, ℕ, true, IsTrue, List, [], ◌∷◌, ◌++◌, ◌⊎◌, Option, arith}, specs.{Prelude.{IfSome, ⊤}, List.{AllByRecursion}}}
 use Rattle.nntp_article.specs.{Session.{Spool.{is_line}, Machine.{Visible}}, declared.session.profile.Profile.{Profile}}
 use Rattle.nntp_article.proofs.ArticleLemmas.WordsOfLines.{overview_has_words}
@@ -26,12 +25,8 @@ IsProper (plain code) = ⊤
 
 -- so are those of one that octets and a block say, in whatever way
 said_proper : (code : ℕ) (bytes : List ℕ) (block : Option (List (List ℕ))) (response : Response) → IfSome block (λ lines. AllByRecursion (λ line. IsTrue (is_line line)) lines)
-    → SaysGroup bytes response ⊎ (SaysByLines (SaysNumbers bytes) block response
-    ⊎ (SaysArticle code bytes block response
-    ⊎ (SaysByLines SaysActive block response
-    ⊎ (SaysByLines SaysOverviews block response ⊎ (SaysByLines SaysIds block response
-    ⊎ (SaysByLines (SaysCapabilities code) block response ⊎ SaysCode code response))))))
-    → IsProper response
+    → SaysGroup bytes response ⊎ (SaysByLines (SaysNumbers bytes) block response ⊎ (SaysArticle code bytes block response ⊎ (SaysByLines SaysActive block response
+    ⊎ (SaysByLines SaysOverviews block response ⊎ (SaysByLines SaysIds block response ⊎ (SaysByLines (SaysCapabilities code) block response ⊎ SaysCode code response)))))) → IsProper response
 said_proper code bytes block response lines h = grind (arith, active_groups-named, all_from, all_at, overviews_of-named, overview_has_words)
 
 -- and of one that they spell
