@@ -59,7 +59,7 @@ each_passes test (k ∷ ks) all n t = grind (arith, and_parts, or_cases, eqb-tru
 -- and back
 pub all_pass : (test : ℕ → Bool) (ks : List ℕ) → ((n : ℕ) → is_one_of ks n ≡ true → test n ≡ true) → list_all test ks ≡ true
 all_pass test [] each = refl
-all_pass test (k ∷ ks) each = grind (arith, each k, nat_tests, all_pass test ks (λ n t. each n (or_right (n == k) (is_one_of ks n) t)))
+all_pass test (k ∷ ks) each = grind (arith, each k, nat_tests, all_pass test ks)
 
 module _ (shown : List ℕ) (denied : List (ℕ × ℕ)) (p : Said) where
   -- what isn't denied after it is open

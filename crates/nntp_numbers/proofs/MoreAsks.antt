@@ -80,7 +80,7 @@ module _ (s : Summary) (p : Said) (asks more : List Ask) (sum : IsSummary s asks
 
   -- what is known then is known by the hull
   hull_grows : (n : ℕ) → known_after s p n ≡ is_known_by (asks ++ more) n
-  hull_grows n = grind (arith, some_grows, shown_grows, ends_append)
+  hull_grows n = grind (arith, some_grows, shown_grows n, ends_append)
 
   module _ (bounded : AreBounded (asks ++ more)) where
     -- what is said agrees, and the strict marks are open

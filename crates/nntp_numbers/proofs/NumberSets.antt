@@ -70,8 +70,7 @@ module _ (ks : List ℕ) (n : ℕ) (after : List ℕ) where
 
   -- it is found too
   found : (o : Option Ends) → AreWithin o ks → (k : Option ℕ) → brought_between o n ≡ k → Bring k ks after → (m : ℕ) → has (numbers_in (with_one o n) after) m ≡ (has (numbers_in o ks) m || n == m)
-  found (Some e) are k t same m = grind (arith, are, t, list_any-append, nat_tests)
-  found o are k t more m = grind (arith, are, list_any-append, nat_tests)
+  found o are k t same m = grind (arith, list_any-append, nat_tests)
 
 module _ (o : Option Ends) (ks ns : List ℕ) (n : ℕ) (are : AreBetween o ks) (after : List ℕ) (k : Option ℕ) (brought : k ≡ brought_between o n) (bring : Bring k ks after)
     (ends : Option Ends) (joined : ends ≡ with_one o n) where
@@ -110,7 +109,7 @@ module _ (e : Ends) (ks ns : List ℕ) (is : Keeps e ks ns) where
 
   pub second_is : (s : ℕ) (copied : Option ℕ) (first : Option (Bor ℕ)) → s ≡ unwrap_or copied e.high → copied ≡ option_copied first → (0 < length ks → IsTrue (is_some first))
       → IfSome first (λ s. has ks s.now ≡ true) → IfSome first (λ s. (n : ℕ) → has ks n ≡ true → is_gt (nat_cmp s.now n) ≡ false) → IsSecond s
-  second_is s copied first is_so same some here least = subst IsSecond (sym (is_so ∙ ap (λ o. unwrap_or o e.high) same)) (grind (arith, le_from_not_gt, high_in, there_is))
+  second_is s copied first is_so same some here least = grind (arith, le_from_not_gt, high_in, there_is)
 
   module _ (s : ℕ) (second : IsSecond s) (k : ℕ) (below : e.low < k) where
     pub several_below : e.low < s → s < k → PassSoMany (λ n. has ns n && nat_lt n k) Several

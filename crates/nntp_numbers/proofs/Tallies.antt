@@ -50,11 +50,6 @@ or_assoc a b c = grind arith
 one_more_listed : (xs : List ℕ) (i : ℕ) → i < length xs → (n : ℕ) → (is_one_of (take i xs) n || get_or xs i 0 == n) ≡ is_one_of (take (i + 1) xs) n
 one_more_listed xs i l n = grind (arith, list_any_more (λ m. n == m) xs i 0 l, nat_tests)
 
--- the one at i is shown too
-pub shown_next : (before now after : ℕ → Bool) (xs : List ℕ) (i : ℕ) → i < length xs
-    → ((n : ℕ) → now n ≡ (before n || is_one_of (take i xs) n)) → ((n : ℕ) → after n ≡ (now n || get_or xs i 0 == n)) → (n : ℕ) → after n ≡ (before n || is_one_of (take (i + 1) xs) n)
-shown_next before now after xs i l is more n = grind (arith, or_assoc, one_more_listed)
-
 module _ (ns : List ℕ) (d : Demand) where
   -- before the first number of a list
   pub tally_start : (w : HowMany) → IsStrictlySortedBy nat_cmp ns → PassSoMany (λ n. has ns n && wants d n) w → IsTally (λ n. has ns n || is_one_of [] n) d w (length ns)

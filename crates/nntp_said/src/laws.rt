@@ -15,8 +15,7 @@ pub fn current_article_is_read_off()
 /// A spool permits a session exactly if each answer fits and all that the answers say holds of it.
 #[tactic(auto, using(crate::proofs::FactsHold::permits_by_facts))]
 pub fn permitted_by_facts()
-    ensures { (profile : Profile) (S : Spool) (prompts : List Asked) (answers : List Response)
-        → RunsAt profile S start.visible Nowhere prompts answers
+    ensures { (profile : Profile) (S : Spool) (prompts : List Asked) (answers : List Response) → RunsAt profile S start.visible Nowhere prompts answers
         ↔ (FitsAll profile start.visible prompts answers × AllByRecursion (Holds S) (facts_from profile.marks start.visible Nowhere prompts answers)) }
 {}
 

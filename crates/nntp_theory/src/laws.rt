@@ -23,8 +23,7 @@ pub mod sessions;
 /// The given numbers of a group meet what is asked of them, if a spool's numbers do.
 pub fn given_numbers_meet_what_is_asked()
     ensures { (limit : ℕ) (S : Spool) (facts : List Fact) (name : Name) (G : Numbers)
-        → IsSpool limit S → AllByRecursion (Holds S) facts → HasGivenNumbers (asks_of name facts) G
-        → AllByRecursion (Meets G) (asks_of name facts) }
+        → IsSpool limit S → AllByRecursion (Holds S) facts → HasGivenNumbers (asks_of name facts) G → AllByRecursion (Meets G) (asks_of name facts) }
 {}
 
 /// The given numbers of a group are those that are known and, if there is one, the one more number.
@@ -76,12 +75,10 @@ pub fn size_is_bounded_by_octets()
 /// if it fitted before and left the connection open, and the answer fits the state that it left.
 pub fn answers_add_up()
     ensures facts { (how : Marks) (v : Visible) (at : Position) (prompts : List Asked) (answers : List Response) (asked : Asked) (response : Response)
-        → asked_next prompts answers ≡ Some asked
-        → facts_from how v at prompts (answers ++ response ∷ []) ≡ facts_from how v at prompts answers ++ facts_of how
+        → asked_next prompts answers ≡ Some asked → facts_from how v at prompts (answers ++ response ∷ []) ≡ facts_from how v at prompts answers ++ facts_of how
         (visible_from v prompts answers) (position_from at prompts answers) asked response }
     ensures fitting { (profile : Profile) (v : Visible) (prompts : List Asked) (answers : List Response) (asked : Asked) (response : Response)
-        → asked_next prompts answers ≡ Some asked
-        → FitsAll profile v prompts (answers ++ response ∷ [])
+        → asked_next prompts answers ≡ Some asked → FitsAll profile v prompts (answers ++ response ∷ [])
         ↔ (FitsAll profile v prompts answers × ((visible_from v prompts answers).closed ≡ false)
         × IsTrue (fits profile (visible_from v prompts answers) asked response)) }
     ensures visible { (v : Visible) (prompts : List Asked) (answers : List Response) (asked : Asked) (response : Response)
@@ -168,8 +165,7 @@ pub fn next_answer_is_permitted_where_it_joins()
     ensures within { (how : Marks) (v : Visible) (at : Position) (asked : Asked) (response : Response) → AgreeWithin (facts_of how v at asked response) }
     ensures answer { (profile : Profile) (prompts : List Asked) (answers : List Response) (asked : Asked) (response : Response)
         → asked_next prompts answers ≡ Some asked → size (facts_of_session profile.marks prompts (answers ++ response ∷ [])) < 2 ^ 210
-        → SomePermits profile prompts answers
-        → SomePermits profile prompts (answers ++ response ∷ [])
+        → SomePermits profile prompts answers → SomePermits profile prompts (answers ++ response ∷ [])
         ↔ (((visible_from start.visible prompts answers).closed ≡ false) × IsTrue (fits profile (visible_from start.visible prompts answers) asked response)
         × Join (facts_of_session profile.marks prompts answers) (facts_of profile.marks (visible_from start.visible prompts answers)
         (position_from Nowhere prompts answers) asked response)) }
@@ -206,18 +202,15 @@ pub fn streams_are_explained_or_bad()
 /// A bad answer has one class.
 pub fn bad_answer_has_one_class()
     ensures { (profile : Profile) (client : ClientStream) (server : List ℕ) (k : ℕ) → Bad profile client server k
-        → (class : Class) × HasClass profile client server k class
-        × ((other : Class) → HasClass profile client server k other → other ≡ class) }
+        → (class : Class) × HasClass profile client server k class × ((other : Class) → HasClass profile client server k other → other ≡ class) }
 {}
 
 /// A bad answer whose frame is whole, or that comes after the connection was closed, is bad of the
 /// same class whatever octets follow.
 pub fn settled_answer_stays_bad()
     ensures { (profile : Profile) (client : ClientStream) (server more_client more_server : List ℕ) (k : ℕ) (class : Class)
-        → HasClass profile client server k class → IsSettled client server k class
-        → Bad profile client server k
-        → Bad profile (further client more_client) (server ++ more_server) k
-        × HasClass profile (further client more_client) (server ++ more_server) k class }
+        → HasClass profile client server k class → IsSettled client server k class → Bad profile client server k
+        → Bad profile (further client more_client) (server ++ more_server) k × HasClass profile (further client more_client) (server ++ more_server) k class }
 {}
 
 /// Where the pairing of two streams ends at octets, these have the class of that end, which is
@@ -225,8 +218,7 @@ pub fn settled_answer_stays_bad()
 #[tactic(auto, using(crate::proofs::Streams::ClassAtTheEnd::end_has_class, crate::proofs::Streams::ClassAtTheEnd::settled_lasts))]
 pub fn pairing_ends_in_class()
     ensures class { (profile : Profile) (client : ClientStream) (server : List ℕ) (pairs : List Paired) (left : Unpaired) (class : PairClass)
-        → AreNext (streams client server) pairs left → IsBad class left
-        → HasClass profile client server (length pairs) (class_of class) }
+        → AreNext (streams client server) pairs left → IsBad class left → HasClass profile client server (length pairs) (class_of class) }
     ensures settled { (client : ClientStream) (server : List ℕ) (pairs : List Paired) (left : Unpaired) (class : PairClass)
         → AreNext (streams client server) pairs left → IsSettled client server (length pairs) (class_of class) ↔ IsLasting class left }
 {}
@@ -251,13 +243,10 @@ pub fn pairing_to_octets_is_bad()
 /// is out of place where it doesn't fit the visible state, and else a contradiction.
 pub fn unpermitted_response_is_bad()
     ensures bad { (profile : Profile) (client : ClientStream) (server : List ℕ) (pairs : List Paired) (pair : Paired) (before after : Unpaired)
-        → AreNext (streams client server) pairs before → IsNext before pair after
-        → SomePermits profile (prompts_of client) (responses_of pairs)
-        → (SomePermits profile (prompts_of client) (responses_of pairs ++ pair.response ∷ []) → ⊥)
-        → Bad profile client server (length pairs) }
+        → AreNext (streams client server) pairs before → IsNext before pair after → SomePermits profile (prompts_of client) (responses_of pairs)
+        → (SomePermits profile (prompts_of client) (responses_of pairs ++ pair.response ∷ []) → ⊥) → Bad profile client server (length pairs) }
     ensures class { (profile : Profile) (client : ClientStream) (server : List ℕ) (pairs : List Paired) (pair : Paired) (before after : Unpaired)
-        → AreNext (streams client server) pairs before → IsNext before pair after
-        → HasClass profile client server (length pairs) (class_by
+        → AreNext (streams client server) pairs before → IsNext before pair after → HasClass profile client server (length pairs) (class_by
         (fits profile (visible_from start.visible (prompts_of client) (responses_of pairs)) (asked_at pair.place) pair.response)) }
     ensures unfitting { (profile : Profile) (client : ClientStream) (server : List ℕ) (pairs : List Paired) (pair : Paired) (before after : Unpaired)
         → AreNext (streams client server) pairs before → IsNext before pair after
@@ -313,14 +302,12 @@ pub fn outcome_at_octets()
 /// are.
 pub fn outcome_at_a_response()
     ensures unpermitted { (profile : Profile) (client : ClientStream) (server : List ℕ) (pairs : List Paired) (pair : Paired) (before after : Unpaired)
-        → AreNext (streams client server) pairs before → IsNext before pair after
-        → SomePermits profile (asked_of pairs) (responses_of pairs)
+        → AreNext (streams client server) pairs before → IsNext before pair after → SomePermits profile (asked_of pairs) (responses_of pairs)
         → (SomePermits profile (asked_of (pairs ++ pair ∷ [])) (responses_of (pairs ++ pair ∷ [])) → ⊥)
         → IsOutcome profile client server (No (length pairs) (class_by
         (fits profile (visible_from start.visible (asked_of pairs) (responses_of pairs)) (asked_at pair.place) pair.response))) }
     ensures unfitting { (profile : Profile) (client : ClientStream) (server : List ℕ) (pairs : List Paired) (pair : Paired) (before after : Unpaired)
-        → AreNext (streams client server) pairs before → IsNext before pair after
-        → SomePermits profile (asked_of pairs) (responses_of pairs)
+        → AreNext (streams client server) pairs before → IsNext before pair after → SomePermits profile (asked_of pairs) (responses_of pairs)
         → fits profile (visible_from start.visible (asked_of pairs) (responses_of pairs)) (asked_at pair.place) pair.response ≡ false
         → IsOutcome profile client server (No (length pairs) OutOfPlace) }
 {}
@@ -337,8 +324,7 @@ pub fn answers_stand_together_where_a_spool_has_them()
     ensures all { (profile : Profile) (answers : List Placed) → AllByRecursion (FitsThere profile) answers → size (flat_map (told profile) answers) < 2 ^ 210
         → SomeHas profile (flat_map (told profile) answers) ↔ Together (flat_map (told profile) answers) }
     ensures some { (profile : Profile) (bad : Placed) (answers : List Placed) (places : List ℕ) → FitsThere profile bad
-        → AllByRecursion (FitsThere profile) answers
-        → size (told_with profile bad answers places) < 2 ^ 210
+        → AllByRecursion (FitsThere profile) answers → size (told_with profile bad answers places) < 2 ^ 210
         → SomeHas profile (told_with profile bad answers places) ↔ Together (told_with profile bad answers places) }
     ensures fitting { (profile : Profile) (v : Visible) (at : Position) (prompts : List Asked) (answers : List Response)
         → FitsAll profile v prompts answers → AllByRecursion (FitsThere profile) (placed_from v at prompts answers) }
@@ -377,8 +363,7 @@ pub fn contradiction_conflicts_with_those_before()
         → SomePermits profile prompts answers ↔ SomeHas profile (flat_map (told profile) (placed_from start.visible Nowhere prompts answers)) }
     ensures bad { (profile : Profile) (prompts : List Asked) (answers : List Response) (asked : Asked) (response : Response)
         → asked_next prompts answers ≡ Some asked → FitsAll profile start.visible prompts (answers ++ response ∷ [])
-        → (SomePermits profile prompts (answers ++ response ∷ []) → ⊥)
-        → SomeHas profile (told_with profile (record {
+        → (SomePermits profile prompts (answers ++ response ∷ []) → ⊥) → SomeHas profile (told_with profile (record {
           selected = (visible_from start.visible prompts answers).selected;
           position = position_from Nowhere prompts answers;
           asked = asked;

@@ -44,8 +44,7 @@ impl<A: Allocator> Numbers<A> {
 
     /// Tells whether the given numbers are more than is estimated, where no known number is denied.
     pub fn are_too_many(&self) -> bool
-        ensures { (asks : List Ask) → IsSummary self.now asks → AreBounded asks → AreApart asks
-            → IsTrue result ↔ AreTooMany asks }
+        ensures { (asks : List Ask) → IsSummary self.now asks → AreBounded asks → AreApart asks → IsTrue result ↔ AreTooMany asks }
     {
         let tally = self.tally();
         let more = if self.has_one_more(tally.found) { 1 } else { 0 };
@@ -64,8 +63,7 @@ impl<A: Allocator> Numbers<A> {
     /// Tells whether a number is given beside those that are known, of which the demand wants so
     /// many.
     fn has_one_more(&self, found: HowMany) -> bool
-        ensures { (asks : List Ask) → IsSummary self.now asks → AreBounded asks
-            → PassSoMany (λ n. is_known asks n && wants (demand asks) n) found
+        ensures { (asks : List Ask) → IsSummary self.now asks → AreBounded asks → PassSoMany (λ n. is_known asks n && wants (demand asks) n) found
             → IsTrue result ↔ ((n : ℕ) × IsOneMore asks n) }
     {
         matches!(found, HowMany::Absent) && self.one_more().is_some()

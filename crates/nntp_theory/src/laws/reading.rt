@@ -30,8 +30,7 @@ pub fn first_bad_answer_is_the_outcome()
 /// streams.
 pub fn reading_without_bad_answers_is_explained()
     ensures { (profile : Profile) (client : ClientStream) (server : List ℕ) (answers : List Judged) (ending : Ending)
-        → IsReading profile client server answers ending
-        → ((answers ≡ map Accepted (accepted_of answers)) × (unanswered : ℕ) × (ending ≡ end unanswered))
+        → IsReading profile client server answers ending → ((answers ≡ map Accepted (accepted_of answers)) × (unanswered : ℕ) × (ending ≡ end unanswered))
         ↔ ((S : Spool) × (n : ℕ) × Explains profile S client server n) }
 {}
 
