@@ -26,10 +26,7 @@ pub record GivesId (here : Name) (id : Option (ℕ × Id)) (more : List Fact) : 
 
 -- it joins exactly if its number may have it
 pub gives_joins : (facts more : List Fact) (here : Name) (id : Option (ℕ × Id)) → GivesId here id more → JoinIds facts more ↔ MayShow (told facts here) id
-gives_joins facts more here None is = (
-  λ j. tt,
-  λ _. record { ids = λ name n. grind (arith, is.ids name n); ids_once = λ name i. grind (arith, is.places name i) },
-)
+gives_joins facts more here None is = (λ j. tt, λ _. record { ids = λ name n. grind (arith, is.ids name n); ids_once = λ name i. grind (arith, is.places name i) })
 gives_joins facts more here (Some e) is = (
   λ j. (
     grind (arith, j.ids here e.0, is.ids here e.0, same_itself here, eq-eqb e.0 e.0 refl),

@@ -27,20 +27,13 @@ ids_grown : (t : Told) (ids : FinMap nat_cmp Id) (places : FinMap (slice_cmp nat
     → ((n : ℕ) → get ids n ≡ t.ids n) → ((i : Id) → get places i ≡ t.places i) → MayShow t id
     → ((n : ℕ) → get (ids_with ids id) n ≡ option_or (t.ids n) (id_of id n)) × ((i : Id) → get (places_with places id) i ≡ option_or (t.places i) (place_of id i))
 ids_grown t ids places None had was free = (λ n. had n ∙ sym (or_none (t.ids n)), λ i. was i ∙ sym (or_none (t.places i)))
-ids_grown t ids places (Some e) had was free = (
-  λ m. grind (arith, get-insert nat_cmp_total ids e.0 e.1 m, flip_number m e.0, had m, eqb-true e.0 m, free.0),
-  λ i. grind (arith, get-insert nat_list_cmp_total places e.1 e.0 i, flip_text i e.1, was i, same_text e.1 i, free.1),
-)
+ids_grown t ids places (Some e) had was free =
+    grind (arith, get-insert nat_cmp_total ids e.0 e.1, flip_number, had, eqb-true, get-insert nat_list_cmp_total places e.1 e.0, flip_text, was, same_text)
 
 -- what was kept of the group, if anything was
 was_kept : (t : Told) (o : Option KeptGroup) (asks : List Ask) → MatchOption o (IsUntold t) (IsKeptGroup t) → (t.is_shown ≡ false → AreBounded asks)
     → AreBounded (t.asks ++ asks) × ((n : ℕ) → get (option_map_or (λ g. g.ids) o empty) n ≡ t.ids n) × ((i : Id) → get (option_map_or (λ g. g.places) o empty) i ≡ t.places i)
-was_kept t (Some g) asks was bounded = (bounded_more t.asks asks was.bounded, was.ids, was.places)
-was_kept t None asks was bounded = (
-  subst (λ asked. AreBounded (asked ++ asks)) (sym was.no_asks) (bounded was.not_shown),
-  λ n. get-empty nat_cmp n ∙ sym (was.no_ids n),
-  λ i. get-empty (slice_cmp nat_cmp) i ∙ sym (was.no_places i),
-)
+was_kept t o asks was bounded = grind (arith, bounded_more, get-empty)
 
 -- more is said of a group, whether it was kept or not
 pub part_kept : (before after : Name → Told) (groups : Groups) (name : Name) (o : Option KeptGroup) (h : KeptGroup) (asks : List Ask) (id : Option (ℕ × Id)) → AreKept before groups

@@ -76,11 +76,8 @@ module _ (facts : List Fact) (s : Saying) (asks : List Ask) (no_list : s.groups 
   -- what is asked, and the ids at numbers, are those of the group
   pub group_is : (g : OfGroup) → s.group ≡ Some g → AskOf g.name (asks ++ asked_id g.id) (facts_in s asks) × GivesId g.name g.id (facts_in s asks)
   group_is g is = (
-    λ name. asks_of_group s asks no_list name ∙ ap (λ g. asks_of name (group_facts g asks)) is ∙ group_asks name g asks,
-    record {
-      ids = λ name n. grind (arith, given_append, is, (group_gives g asks).ids name n);
-      places = λ name id. grind (arith, given_append, is, (group_gives g asks).places name id);
-    },
+    λ name. grind (arith, asks_of_group s asks no_list name, group_asks name g asks, is),
+    record { ids = λ name n. grind (arith, given_append, is, (group_gives g asks).ids name n); places = λ name id. grind (arith, given_append, is, (group_gives g asks).places name id) },
   )
 
   -- or there are none

@@ -25,10 +25,8 @@ impl<A: Allocator> Kept<A> {
         if let Some(list) = &told.saying.overviews {
             return self.other_listed_id(group.name, list.block);
         }
-        match group.id {
-            None => None,
-            Some(at) => self.other_id_at(group.name, at.number, at.id),
-        }
+        let at = group.id?;
+        self.other_id_at(group.name, at.number, at.id)
     }
 
     /// Returns the first number of an overview at which another id is kept.
@@ -64,10 +62,8 @@ impl<A: Allocator> Kept<A> {
         if let Some(list) = &told.saying.overviews {
             return self.other_listed_place(group.name, list.block);
         }
-        match group.id {
-            None => None,
-            Some(at) => self.other_place_of(group.name, at.number, at.id),
-        }
+        let at = group.id?;
+        self.other_place_of(group.name, at.number, at.id)
     }
 
     /// Returns the first id of an overview that is kept at another number.
