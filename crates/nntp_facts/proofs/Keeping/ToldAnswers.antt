@@ -1,11 +1,11 @@
 -- Noting what answers say by themselves.
-use Rattle.nntp_facts.proofs.Base.{arith, zero, suc, ◌+◌, ◌^◌, ◌<◌, ◌≤◌, ◌≡◌, ℕ, Bool, true, false, IsTrue, Option, None, Some, sym, ap, subst, ◌∙◌, List, []}
-use Rattle.nntp_facts.proofs.Base.{◌∷◌, ◌++◌, length, length-append, append-nil, append_assoc, or_left, flat_map-append, IfSome, unwrap_or, option_map}
-use Rattle.nntp_facts.proofs.Base.{slice_get, AllByRecursion, option_map_or, Asked, Response, lines_in, Name, Visible, start, fits, Profile, numbers_of}
-use Rattle.nntp_facts.proofs.Base.{Position, Fact, Holds, here, facts_of, group_of, is_shown_group, size, Together, Join, IsWellFormed, FitsThere, Placed, said}
-use Rattle.nntp_facts.proofs.Base.{the_group, SomeHas, told_with, any_back, all_front, size-append, together_more, same_itself, Kept, IsKept, Saying, OfGroup}
-use Rattle.nntp_facts.{proofs.{Base.{Tells, ◌↔◌}, Keeping.NotedExchange.{Adds}}, specs.Inner.Saying.{TellsHere, IsShownThen, IsSelectedShown, TellsThere}}
-use Rattle.nntp_facts.specs.Inner.{Saying.{there_facts}, Kept.{AreAdded}, Told.{AreTold, AreToldWith, PlacesTold}}
+use Rattle.nntp_facts.proofs.Base.{arith, Marks, zero, suc, ◌+◌, ◌^◌, ◌<◌, ◌≤◌, ◌≡◌, ℕ, Bool, true, false, IsTrue, Option, None, Some, sym, ap, subst, ◌∙◌}
+use Rattle.nntp_facts.proofs.Base.{List, [], ◌∷◌, ◌++◌, length, length-append, append-nil, append_assoc, or_left, flat_map-append, IfSome, unwrap_or}
+use Rattle.nntp_facts.proofs.Base.{option_map, slice_get, AllByRecursion, option_map_or, Asked, Response, lines_in, Name, Visible, start, fits, Profile}
+use Rattle.nntp_facts.proofs.Base.{numbers_of, Position, Fact, Holds, here, facts_of, group_of, is_shown_group, size, Together, Join, IsWellFormed, FitsThere}
+use Rattle.nntp_facts.proofs.Base.{Placed, said, the_group, SomeHas, told_with, any_back, all_front, size-append, together_more, same_itself, Kept, IsKept}
+use Rattle.nntp_facts.{proofs.{Base.{Saying, OfGroup, Tells, ◌↔◌}, Keeping.NotedExchange.{Adds}}, specs.Inner.Saying.{TellsHere, IsShownThen, IsSelectedShown}}
+use Rattle.nntp_facts.specs.Inner.{Saying.{TellsThere, there_facts}, Kept.{AreAdded}, Told.{AreTold, AreToldWith, PlacesTold}}
 use Rattle.std.proofs.{Common.{◌*◌}, Math.Path.{ap₂}}
 use Rattle.nntp_theory.proofs.{Together.{FactsOfASpoolStand.{stand}, FactsJoin.{answer_agrees}}, Ids.SizeOfASession.{answer_size}}
 use Rattle.nntp_theory.{proofs.Session.GroupOfAnAnswer.{same_selected}, specs.{Conflict.{told, told_at}, Inner.Together.{AgreeWithin}}}
@@ -59,13 +59,13 @@ module _ (selected : Option Name) (s : Saying) (more : List Fact) (t : TellsTher
 
 -- ---- an answer
 
--- what it says, behind the selected group
-pub there_told : (profile : Profile) (a : Placed) (asked : Asked) (response : Response) (at : Position) (name : Name) (numbers : List ℕ) (s : Saying)
+-- what it says where marks are read so, behind the selected group
+pub there_told : (profile : Profile) (a : Placed) (asked : Asked) (response : Response) (at : Position) (name : Name) (numbers : List ℕ) (s : Saying) (how : Marks) → profile.marks ≡ how
     → FitsThere profile a → asked ≡ a.asked → response ≡ a.response → at ≡ a.position → name ≡ unwrap_or a.selected [] → numbers ≡ numbers_of response
     → ((other : Profile) (v : Visible) (all : List Fact) → IsTrue (fits other v asked response) → IsSelectedShown v all → name ≡ here v → numbers ≡ numbers_of response
-    → TellsHere name all s (facts_of profile.marks v at asked response))
+    → TellsHere name all s (facts_of how v at asked response))
     → TellsThere a.selected s (said profile.marks a)
-there_told profile a asked response at name numbers s (v, e, f) to by stands named listed tells all shown =
+there_told profile a asked response at name numbers s how marks (v, e, f) to by stands named listed tells all shown =
     let fitting : IsTrue (fits profile v asked response) = ap₂ (λ asked response. fits profile v asked response) to by ∙ f in
     let t = tells profile v all fitting (subst (λ o. IfSome o (λ name. is_shown_group all name ≡ true)) (sym e) shown) (named ∙ sym (ap (λ o. unwrap_or o []) e)) listed in
     grind (arith, same_selected)

@@ -1,14 +1,13 @@
 -- What an answer tells by itself, the group of which it speaks, and what its facts say, read off what is looked at.
 use Rattle.nntp_facts.proofs.Base.{◌≡◌, ℕ, true, false, ◌||◌, ◌&&◌, not, cond, List, [], ◌∷◌, ◌++◌, Option, None, Some, refl, sym, ap, subst, ◌∙◌, append-nil}
-use Rattle.nntp_facts.proofs.Base.{arith, list_any-append, or_left, IfSome, option_map, IsTrue, unwrap_or, list_any, AllByRecursion, option_map_or, ActiveValue}
-use Rattle.nntp_facts.proofs.Base.{Marks, Lenient, matches_name, IsGroupName, Asked, Response, Id, Name, is_same, Visible, fits, Profile, numbers_of, Estimates}
-use Rattle.nntp_facts.proofs.Base.{Fact, GroupsAre, here, facts_of, group_of, Position, asks_of, shows_group, is_shown_group, first_given, id_in, denies_group}
-use Rattle.nntp_facts.proofs.Base.{number_in, said_of, IsWellFormed, FitsThere, widest, the_group, Placed, said, asks_append, same_itself, in_front, in_back}
-use Rattle.nntp_facts.proofs.{Base.{all_at, all_both, Saying, asked_id, facts_in, MayList, is_listed, or-false}, Keeping.PartsJoin.{no_group_is}}
-use Rattle.nntp_facts.proofs.Keeping.OverviewsTold.{plain_told, plain_alone, shown_by_told, denied_by_told, said_by_told, asks_by_told, ids_by_told}
-use Rattle.nntp_facts.proofs.Keeping.{OverviewsTold.{places_by_told}, ToldAnswers.{there_told, group_said, none_said, selected_spoken}}
-use Rattle.nntp_facts.specs.Inner.{Saying.{TellsHere, IsSelectedShown, facts_told, IsAlone, TellsThere}, Points.{Statement, TellsAlone, shows_name}}
-use Rattle.nntp_facts.specs.Inner.Points.{denies_name, id_told, place_told, said_by, bounds_of}
+use Rattle.nntp_facts.proofs.Base.{arith, list_any-append, or_left, IfSome, option_map, unwrap_or, list_any, AllByRecursion, option_map_or, ActiveValue}
+use Rattle.nntp_facts.proofs.Base.{Lenient, matches_name, IsGroupName, Id, Name, is_same, Profile, Estimates, Fact, GroupsAre, group_of, asks_of, shows_group}
+use Rattle.nntp_facts.proofs.Base.{is_shown_group, first_given, id_in, denies_group, number_in, said_of, IsWellFormed, widest, the_group, Placed, said}
+use Rattle.nntp_facts.proofs.Base.{asks_append, same_itself, in_front, in_back, all_at, all_both, Saying, asked_id, facts_in, MayList, is_listed, or-false}
+use Rattle.nntp_facts.proofs.Keeping.{PartsJoin.{no_group_is}, OverviewsTold.{plain_told, plain_alone, shown_by_told, denied_by_told, said_by_told}}
+use Rattle.nntp_facts.proofs.Keeping.{OverviewsTold.{asks_by_told, ids_by_told, places_by_told}, ToldAnswers.{group_said, none_said, selected_spoken}}
+use Rattle.nntp_facts.specs.Inner.{Saying.{TellsHere, facts_told, IsAlone, TellsThere}, Points.{Statement, TellsAlone, shows_name, denies_name, id_told}}
+use Rattle.nntp_facts.specs.Inner.Points.{place_told, said_by, bounds_of}
 use Rattle.nntp_theory.{specs.Conflict.{told}, proofs.Together.FactsJoin.{answer_agrees}}
 
 -- ---- what it tells
@@ -31,16 +30,6 @@ module _ (profile : Profile) (a : Placed) (s : Saying) (t : TellsThere a.selecte
   pub told_alone : (group : Option Name) → group ≡ group_of (said profile.marks a) → AllByRecursion IsWellFormed (said profile.marks a) → IfSome a.selected IsGroupName
       → TellsAlone profile (record { group = group; saying = s }) (told profile a)
   told_alone group is formed name = grind (arith, h, all_both, group_formed profile a.selected s (said profile.marks a) t, answer_agrees)
-
--- what it says tells its facts, where marks are read so
-pub there_told_so : (profile : Profile) (a : Placed) (asked : Asked) (response : Response) (at : Position) (name : Name) (numbers : List ℕ) (s : Saying) (how : Marks) → profile.marks ≡ how
-    → FitsThere profile a → asked ≡ a.asked → response ≡ a.response → at ≡ a.position → name ≡ unwrap_or a.selected [] → numbers ≡ numbers_of response
-    → ((other : Profile) (v : Visible) (all : List Fact) → IsTrue (fits other v asked response) → IsSelectedShown v all → name ≡ here v → numbers ≡ numbers_of response
-    → TellsHere name all s (facts_of how v at asked response))
-    → TellsThere a.selected s (said profile.marks a)
-there_told_so profile a asked response at name numbers s how marks fit to by stands named listed tells =
-    there_told profile a asked response at name numbers s fit to by stands named listed
-    (λ other v all f shown is lists. subst (λ how. TellsHere name all s (facts_of how v at asked response)) (sym marks) (tells other v all f shown is lists))
 
 -- ---- what is read off it
 

@@ -8,7 +8,7 @@ returns-then-not-branch g c facts kept together fit =
     let a = stands_of c.args.answer.now in
     let saying = saying_of c.of-saying.result in
     let own = said profile.marks a in
-    let there = there_told profile a _ _ _ _ _ saying fit c.prompt.ensures c.answer-response.ensures.value c.position.ensures
+    let there = there_told profile a _ _ _ _ _ saying _ refl fit c.prompt.ensures c.answer-response.ensures.value c.position.ensures
     c.selected_name.ensures.value (c.numbers.ensures ∙ ap (λ (l : Lists). l.numbers) c.in_ok-listed.ensures) c.of-saying.ensures.tells in
     let group = c.in_ok-tell_group.ensures profile facts own refl kept together (subst (λ o. TellsThere o saying own) (sym c.selected.ensures) there) in
     group_refused profile a facts together c.tell_group.new.self (subst (AreAdded facts (the_group profile (group_of own)) _ _) c.if-not-branch.true group).0
@@ -19,7 +19,7 @@ returns g c = if_ok c.note.result (λ does adds facts kept together fit.
     let a = stands_of c.args.answer.now in
     let saying = saying_of c.of-saying.result in
     let own = said profile.marks a in
-    let there = there_told profile a _ _ _ _ _ saying fit c.prompt.ensures c.answer-response.ensures.value c.position.ensures
+    let there = there_told profile a _ _ _ _ _ saying _ refl fit c.prompt.ensures c.answer-response.ensures.value c.position.ensures
     c.selected_name.ensures.value (c.numbers.ensures ∙ ap (λ (l : Lists). l.numbers) c.in_ok-listed.ensures) c.of-saying.ensures.tells in
     let group = subst (λ does. AreAdded facts (the_group profile (group_of own)) c.args.self.now c.tell_group.new.self does) c.if-not-branch.false
     (c.in_ok-tell_group.ensures profile facts own refl kept together (subst (λ o. TellsThere o saying own) (sym c.selected.ensures) there)) in
