@@ -4,11 +4,9 @@ use Rattle.nntp_facts.proofs.Keeping.{FactsOfParts.{denied_group}, SaidOfArticle
 use Rattle.nntp_facts.proofs.kept.Kept.note_parts.Goals as goal
 
 pub returns-then-not-at_all : goal.returns-then-not-at_all
-returns-then-not-at_all g c no_list plain facts more kept together formed t = (
-  λ j. true≢false (sym ((c.groups_join-joins.ensures.at_all facts t.asks kept together t.may).1 ((joins facts more (saying_of c.args.saying.now) no_list plain t together formed).0 j).0)
-      ∙ sym c.at_all.ensures ∙ c.if-not-at_all.true),
-  refl,
-)
+returns-then-not-at_all g c no_list plain facts more kept together formed t =
+    let all = joins facts more (saying_of c.args.saying.now) no_list plain t together formed in
+    (λ j. true≢false (sym ((c.groups_join-joins.ensures.at_all facts t.asks kept together t.may).1 (all.0 j).0) ∙ sym c.at_all.ensures ∙ c.if-not-at_all.true), refl)
 
 pub returns-then-not-at_all-2 : goal.returns-then-not-at_all-2
 returns-then-not-at_all-2 g c no_list plain facts more kept together formed t =
