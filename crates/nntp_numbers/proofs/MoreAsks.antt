@@ -85,25 +85,20 @@ module _ (s : Summary) (p : Said) (asks more : List Ask) (sum : IsSummary s asks
   module _ (bounded : AreBounded (asks ++ more)) where
     -- what is said agrees, and the strict marks are open
     module _ (stand : AsksStand asks) (agrees : AgreesWith s.shown s.denied p) (open_ends : AreOpen s.denied p (ends_after s p)) where
-      -- so nothing that is known then is denied
-      free_known : (n : ℕ) → known_after s p n ≡ true → (n < 2 ^ 64) × (denied_after s.denied p n ≡ false)
-      free_known n t = grind (arith, or_cases, nat_tests, shown_known, says.regular.high)
-
       apart_by : (n : ℕ) → IsTrue (is_known_by (asks ++ more) n) → IsFalse (is_denied (asks ++ more) n)
-      apart_by n t = let f = free_known n (hull_grows n ∙ t) in sym (denied_grows n f.0) ∙ f.1
-
-      known_grows : (n : ℕ) → known_after s p n ≡ is_known (asks ++ more) n
-      known_grows n = hull_grows n ∙ sym (apart_by_hull (asks ++ more) apart_by n)
+      apart_by n t = grind (arith, or_cases, nat_tests, shown_known, says.regular.high, hull_grows n, denied_grows n)
 
       -- all stands together with the asks exactly if the test passes
       settles : (d : Demand) (w : HowMany) (f : Option ℕ) (c : ℕ) (e : Option ℕ) → LooksAfter s p d w f c e → IsTrue (is_settled d w f c e) ↔ AsksStand (asks ++ more)
-      settles d w f c e l = settled (asks ++ more) d w f c e (record {
-        demanded = l.demanded ∙ demand_grows;
-        found = subst {A = ℕ → Bool} (λ known. PassSoMany (λ n. known n && wants d n) w) (λ i n. known_grows n i) l.tally.found;
-        free = free_of_all denied_grows bounded f l.free;
-        count = subst {A = ℕ → Bool} (λ known. AreCounted known c) (λ i n. known_grows n i) l.tally.count;
-        estimate = grind (arith, l.estimate, sum.estimate, says.estimating, list_all-append);
-      }) (grind (arith, all_both, are_possible)) (grind (arith, apart_by, apart_by_hull (asks ++ more) apart_by))
+      settles d w f c e l =
+          let known_grows : (n : ℕ) → known_after s p n ≡ is_known (asks ++ more) n = λ n. hull_grows n ∙ sym (apart_by_hull (asks ++ more) apart_by n) in
+          settled (asks ++ more) d w f c e (record {
+            demanded = l.demanded ∙ demand_grows;
+            found = subst {A = ℕ → Bool} (λ known. PassSoMany (λ n. known n && wants d n) w) (λ i n. known_grows n i) l.tally.found;
+            free = free_of_all denied_grows bounded f l.free;
+            count = subst {A = ℕ → Bool} (λ known. AreCounted known c) (λ i n. known_grows n i) l.tally.count;
+            estimate = grind (arith, l.estimate, sum.estimate, says.estimating, list_all-append);
+          }) (grind (arith, all_both, are_possible)) (grind (arith, apart_by, apart_by_hull (asks ++ more) apart_by))
 
     -- and back
     module _ (grown : AsksStand (asks ++ more)) where

@@ -46,10 +46,6 @@ tally_there p m d w c there t = same_tally p (λ n. p n || m == n) (λ n. grind 
 pub or_assoc : (a b c : Bool) → ((a || b) || c) ≡ (a || (b || c))
 or_assoc a b c = grind arith
 
--- the numbers up to the one at i
-one_more_listed : (xs : List ℕ) (i : ℕ) → i < length xs → (n : ℕ) → (is_one_of (take i xs) n || get_or xs i 0 == n) ≡ is_one_of (take (i + 1) xs) n
-one_more_listed xs i l n = grind (arith, list_any_more (λ m. n == m) xs i 0 l, nat_tests)
-
 module _ (ns : List ℕ) (d : Demand) where
   -- before the first number of a list
   pub tally_start : (w : HowMany) → IsStrictlySortedBy nat_cmp ns → PassSoMany (λ n. has ns n && wants d n) w → IsTally (λ n. has ns n || is_one_of [] n) d w (length ns)
@@ -58,7 +54,7 @@ module _ (ns : List ℕ) (d : Demand) where
   -- behind the number at i
   pub tally_step : (xs : List ℕ) (i : ℕ) (w : HowMany) (c : ℕ) → i < length xs → IsTally (λ n. (has ns n || is_one_of (take i xs) n) || get_or xs i 0 == n) d w c
       → IsTally (λ n. has ns n || is_one_of (take (i + 1) xs) n) d w c
-  tally_step xs i w c l t = same_tally _ _ (λ n. grind (arith, one_more_listed xs i l n)) d w c t
+  tally_step xs i w c l t = same_tally _ _ (λ n. grind (arith, list_any_more (λ m. n == m) xs i 0 l, nat_tests)) d w c t
 
   -- behind all of them
   pub tally_end : (xs : List ℕ) (i : ℕ) (w : HowMany) (c : ℕ) → i ≡ length xs → IsTally (λ n. has ns n || is_one_of (take i xs) n) d w c → IsTally (λ n. has ns n || is_one_of xs n) d w c

@@ -1,11 +1,10 @@
 -- A spool permits a session exactly if each answer fits and all that the answers say holds of it.
-use Rattle.nntp_wire.specs.{declared.marks.Marks.{Marks}, Answer.{Asked, Response, to, plain}, Command.{Request}}
-use Rattle.std.proofs.{Common.{◌≡◌, ℕ, false, ◌↔◌, IsTrue, List, [], ◌∷◌, ◌++◌, arith}, lemmas.Bool.{and_parts, or_cases, eqb-true, true≢false}}
+use Rattle.nntp_wire.specs.{declared.marks.Marks.{Marks}, Answer.{Asked, Response, to, plain}}
+use Rattle.std.proofs.{Common.{◌≡◌, false, ◌↔◌, IsTrue, List, [], ◌∷◌, ◌++◌, arith}, lemmas.Bool.{and_parts, or_cases, eqb-true, true≢false}}
 use Rattle.std.{proofs.lemmas.Bool.Decides.{nat_tests}, specs.List.{AllByRecursion}}
-use Rattle.nntp_article.specs.Session.{Spool.{Spool}, Machine.{Visible, Agrees, MayAnswer, visible_after, CodeAgrees, code_fits, fits}}
-use Rattle.nntp_article.specs.declared.session.profile.Profile.{Profile}
+use Rattle.nntp_article.specs.{Session.{Spool.{Spool}, Machine.{Visible, Agrees, MayAnswer, visible_after, fits}}, declared.session.profile.Profile.{Profile}}
 use Rattle.nntp_said.{proofs.Rows.{none_cases}, specs.{Inner.{Asks.{state_at, RunsAt}, Facts.{FitsAll}}, Asks.{position_after}}}
-use Rattle.nntp_said.specs.{declared.position.Position.{Position}, Facts.{Holds, facts_of, facts_of_code, facts_from}}
+use Rattle.nntp_said.specs.{declared.position.Position.{Position}, Facts.{Holds, facts_of, facts_from}}
 
 -- what holds of each element of two lists
 pub all_both : {A : Type 0} (P : A → Type 0) (xs ys : List A) → AllByRecursion P xs → AllByRecursion P ys → AllByRecursion P (xs ++ ys)
@@ -22,28 +21,17 @@ pub all_back : {A : Type 0} (P : A → Type 0) (xs ys : List A) → AllByRecursi
 all_back P [] ys h = h
 all_back P (x ∷ xs) ys h = all_back P xs ys h.1
 
--- ---- codes, a row each
-
-code_holds : (how : Marks) (S : Spool) (v : Visible) (at : Position) (command : Request) (code : ℕ)
-    → Agrees how S (state_at S v at) (to command) (plain code) → AllByRecursion (Holds S) (facts_of_code v at command code)
-code_holds how S v at command code h = grind (arith, eqb-true, none_cases)
-
--- the condition of a code that fits
-row_from : (S : Spool) (v : Visible) (at : Position) (command : Request) (code : ℕ) → IsTrue (code_fits v command code)
-    → AllByRecursion (Holds S) (facts_of_code v at command code) → CodeAgrees S (state_at S v at) command code
-row_from S v at command code f h = grind (arith, and_parts, or_cases, eqb-true, none_cases, nat_tests, true≢false)
-
 -- ---- what an answer says
 
 -- from that it agrees
 facts_hold : (how : Marks) (S : Spool) (v : Visible) (at : Position) (p : Asked) (a : Response) → Agrees how S (state_at S v at) p a → AllByRecursion (Holds S) (facts_of how v at p a)
-facts_hold how S v at (to command) (plain code) h = code_holds how S v at command code h
+facts_hold how S v at (to command) (plain code) h = grind (arith, eqb-true, none_cases)
 facts_hold how S v at p a h = grind arith
 
 -- and back, where it fits
 agrees_from : (profile : Profile) (S : Spool) (v : Visible) (at : Position) (p : Asked) (a : Response) → IsTrue (fits profile v p a) → AllByRecursion (Holds S) (facts_of profile.marks v at p a)
     → Agrees profile.marks S (state_at S v at) p a
-agrees_from profile S v at (to command) (plain code) f h = grind (arith, row_from S v at command code, or_cases)
+agrees_from profile S v at (to command) (plain code) f h = grind (arith, and_parts, or_cases, eqb-true, none_cases, nat_tests, true≢false)
 agrees_from profile S v at p a f h = grind arith
 
 -- an answer that fits, where the connection is open, is permitted exactly if what it says holds

@@ -7,11 +7,10 @@ use Rattle.std.specs.{Prelude.{IfSome, Contains, option_map, MatchOption}, List.
 use Rattle.std.specs.{Cmp.{eq_by_cmp_equiv, Lexicographic.{nat_list_cmp_total}}, FinMap.{FinMap, get, len, IsAntisymmetric, nat_cmp-IsAntisymmetric}}
 use Rattle.std.specs.{FinMap.{slice_cmp-IsAntisymmetric}, declared.cmp.Ordering.{Ordering}}
 use Rattle.nntp_article.specs.Session.Spool.{Spool, Numbers, IsNumber, numbers, IsNextAbove, IsNextBelow, NoneAbove, NoneBelow, Lists, IsInRange, text_of}
-use Rattle.nntp_article.specs.Session.Machine.{HasOverview, overview_numbers, Visible, State, Bound, ActivesAgree, Run, fits, visible_after}
+use Rattle.nntp_article.specs.Session.Machine.{HasOverview, overview_numbers, Visible, State, ActivesAgree, Run, fits, visible_after}
 use Rattle.nntp_article.specs.{declared.session.profile.Profile.{Profile}, Article.Fields.{fields_of_head}}
-use Rattle.nntp_wire.specs.{Listing.{Fields, ActiveValue, OverviewValue}, Answer.{Asked, Response}, declared.water_marks.WaterMarks.{WaterMarks}}
-use Rattle.nntp_wire.specs.{declared.{marks.Marks.{Marks}, range.Range.{Range}}, Wildmat.{MatchesName}, Decided.{matches_name}}
-use Rattle.nntp_wire.proofs.{DecidedLemmas.{matches_name-iff}, OptionLemmas.{none_of}}
+use Rattle.nntp_wire.specs.{Listing.{Fields, ActiveValue, OverviewValue}, Answer.{Asked, Response}, declared.range.Range.{Range}, Wildmat.{MatchesName}}
+use Rattle.nntp_wire.{specs.Decided.{matches_name}, proofs.{DecidedLemmas.{matches_name-iff}, OptionLemmas.{none_of}}}
 use Rattle.nntp_said.specs.Asks.{Ask, Meets, Bounds, Estimates, ListsIn, Has, Lacks, StandsAt, StandsNowhere, StepsUp, StepsDown, IsTop, IsBottom, current_in}
 use Rattle.nntp_said.specs.{declared.position.Position.{Position, TheVariants.{Nowhere, Known}}, Inner.{Asks.{state_at}, Facts.{FitsAll}}, Facts.{Fact}}
 use Rattle.nntp_said.specs.Facts.{ThereIs, ThereIsNo, Asks, IdAt, TextIs, NoArticle, FieldsAre, OverviewsAre, GroupsAre, Holds, facts_from}
@@ -29,9 +28,6 @@ dec_none_below N c = grind (arith, nat_tests, none_of, each_number N (λ m. nat_
 
 dec_between : (N : Numbers) (low high : ℕ) → Dec ((n : ℕ) → IsNumber N n → (low ≤ n) × (n ≤ high))
 dec_between N low high = grind (arith, nat_tests, and_parts, and_from, each_number N (λ n. nat_le low n && nat_le n high))
-
-dec_bound : (marks : Marks) (N : Numbers) (m : WaterMarks) → Dec (Bound marks N m)
-dec_bound marks N m = grind (arith, dec_between N m.low m.high, dec_le (len N) m.estimate, and_parts, and_from, each_number N (λ n. is_some (get N m.low) && is_some (get N m.high)))
 
 dec_next_above : (N : Numbers) (c n : ℕ) → Dec (IsNextAbove N c n)
 dec_next_above N c n = grind (arith, nat_tests, or_cases, or_left, or_right, dec_true (is_some (get N n)), cases_lt, each_number N (λ m. nat_le m c || nat_le n m))
@@ -89,7 +85,7 @@ dec_actives S p lines =
 
 -- whether numbers meet what is asked of them
 dec_meets : (N : Numbers) (ask : Ask) → Dec (Meets N ask)
-dec_meets N (Estimates how m) = dec_bound how N m
+dec_meets N (Estimates how m) = grind (arith, dec_between N m.low m.high, dec_le (len N) m.estimate, and_parts, and_from, each_number N (λ n. is_some (get N m.low) && is_some (get N m.high)))
 dec_meets N (Bounds low high) = dec_between N low high
 dec_meets N (ListsIn r ns) = dec_listing N r ns
 dec_meets N (Has n) = dec_true (is_some (get N n))

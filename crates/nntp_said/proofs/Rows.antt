@@ -6,10 +6,10 @@ use Rattle.nntp_article.specs.Session.Machine.{head_fits, active_fits, names_dif
 use Rattle.nntp_article.specs.declared.session.profile.Profile.{Profile}
 use Rattle.nntp_said.specs.Asks.{Estimates, ListsIn, Lacks, StandsAt, StandsNowhere, StepsUp, StepsDown, IsTop, IsBottom}
 use Rattle.nntp_said.specs.{declared.position.Position.{Position}, Facts.{Fact, ThereIs, ThereIsNo, Asks, IdAt, TextIs, NoArticle, FieldsAre, OverviewsAre}}
-use Rattle.nntp_said.specs.Facts.{GroupsAre, here, facts_of_code, facts_of}
+use Rattle.nntp_said.specs.Facts.{GroupsAre, here, facts_of}
 use Rattle.nntp_wire.specs.{Listing.{OverviewValue, listed_numbers, active_groups, overviews_of}, Answer.{Asked, Response, Success, to, group_is, numbers_are}}
-use Rattle.nntp_wire.specs.{Answer.{sends, active_are, overviews_are, plain}, Command.{Request, over}, declared.command.OverviewKeyword.{OverviewKeyword}}
-use Rattle.nntp_wire.specs.declared.{command.What.{What}, range.Range.{Range}, water_marks.WaterMarks.{WaterMarks}}
+use Rattle.nntp_wire.specs.{Answer.{sends, active_are, overviews_are, plain}, Command.{over}, declared.command.{OverviewKeyword.{OverviewKeyword}, What.{What}}}
+use Rattle.nntp_wire.specs.declared.{range.Range.{Range}, water_marks.WaterMarks.{WaterMarks}}
 
 -- of the codes that tell that a range has no article
 pub none_cases : (keyword : OverviewKeyword) (code : ℕ) → IsTrue (is_one_of (none_in_range keyword) code) → IsTrue (code == 420) ⊎ IsTrue (code == 423)
@@ -62,14 +62,8 @@ module _ (profile : Profile) (v : Visible) (at : Position) where
   abbrev RowOf : Asked → Response → List Fact → Type 0
   RowOf p a facts = Row profile v at (IsTrue (fits profile v p a)) a facts
 
-  -- ---- codes
-
-  code_row : (command : Request) (code : ℕ) → RowOf (to command) (plain code) (facts_of_code v at command code)
-  code_row command code = grind (arith, eqb-true, nothing, no_group, no_article, nowhere, top, bottom, none_within, lacks, and_parts, or_cases, none_cases, true≢false)
-
-  -- ---- each answer
-
+  -- each answer has a row
   pub row : (p : Asked) (a : Response) → RowOf p a (facts_of profile.marks v at p a)
-  row (to command) (plain code) = code_row command code
+  row (to command) (plain code) = grind (arith, eqb-true, nothing, no_group, no_article, nowhere, top, bottom, none_within, lacks, and_parts, or_cases, none_cases, true≢false)
   row (to (over keyword which)) (overviews_are lines) = grind (arith, nothing, within, overview, overview_at, overview_here, and_parts, or_cases, eqb-true, true≢false)
   row p a = grind (arith, nothing, marks, listing, up, down, active, text, text_at, text_here, and_parts, or_cases, eqb-true, true≢false)

@@ -1,18 +1,18 @@
 -- With which earlier answers a bad answer conflicts.
 use Rattle.std.{specs.{Prelude.{Contains}, FinMap.{len-entries}, Cmp.{nat_cmp_total}, List.{AllByRecursion, flat_map}}, proofs.lemmas.Grind.{flat_map-append}}
 use Rattle.std.proofs.{lemmas.{Bool.{cases_lt, cases_eq, true≢false, not-true}, List.{length-map}}, Common.{append-nil, map, length-append, ◌≡◌, ℕ, zero, suc}}
-use Rattle.std.proofs.Common.{◌+◌, ◌<◌, ◌≤◌, ◌^◌, ◌⊎◌, ◌↔◌, List, [], ◌∷◌, ◌++◌, length, Option, option_map, Some, inl, inr, refl, sym, ap, subst, ◌∙◌, arith}
+use Rattle.std.proofs.Common.{◌+◌, ◌<◌, ◌≤◌, ◌^◌, ◌⊎◌, ◌↔◌, List, [], ◌∷◌, ◌++◌, length, Option, Some, inl, inr, refl, sym, ap, subst, ◌∙◌, arith}
 use Rattle.nntp_said.specs.{declared.position.Position.{Position, TheVariants.{Nowhere}}, Asks.{position_after}, Facts.{Fact, Holds, facts_of, facts_from}}
 use Rattle.nntp_said.specs.{Facts.{group_of}, Inner.Facts.{FitsAll}}
 use Rattle.nntp_theory.specs.{Classes.{visible_from, position_from, asked_next}, Inner.{Permits.{SomePermits}, Given.{size}, Together.{Together}}}
 use Rattle.nntp_theory.specs.{Inner.Conflict.{FitsThere, AreFound, IsPartOfCore}, Given.{fields_in}, Conflict.{Placed, placed_from, said as said_there}}
 use Rattle.nntp_theory.specs.Conflict.{a_group, the_group, with_group, told, SomeHas, told_at, told_with, below, IsCore, Point, Step, Group, Number, Count}
-use Rattle.nntp_theory.specs.{Conflict.{First, IdOf, PlaceOf, Article, HeadOf, BodyOf, FieldOf, ConflictAt, AreAmong, IsEndOfCore}, Together.{GiveOne}}
-use Rattle.nntp_theory.proofs.{PointsByRank.{each}, Maps.{keys_among}, Given.{GivenPermits.{said, permits}, GivenHasFacts.{given_of_facts, given_has}}}
-use Rattle.nntp_theory.proofs.{Given.GivenHolds.{one_given}, Session.{OneMoreAnswer.{facts_grow}, NumbersOfShownGroups.{Placed as IsPlaced, Among}}}
-use Rattle.nntp_theory.proofs.Session.{NumbersOfShownGroups.{session_placed}, GroupOfAnAnswer.{same_selected}, FittingFacts.{IsFitting, answer_fitting}}
-use Rattle.nntp_theory.proofs.Members.{In, all_at, all_from, all_both, all_front, all_back, in_front, in_back, in_cases, in_map, found_in, to_flat, from_flat}
-use Rattle.nntp_theory.proofs.{Members.{contains_in, in_contains, all_part, all_parts, part_first}, Together.FactsOfASpoolStand.{stand}}
+use Rattle.nntp_theory.{specs.Conflict.{First, IdOf, PlaceOf, Article, HeadOf, BodyOf, FieldOf, ConflictAt, AreAmong, IsEndOfCore}, proofs.PointsByRank.{each}}
+use Rattle.nntp_theory.proofs.{Maps.{keys_among}, Given.{GivenPermits.{said, permits}, GivenHasFacts.{given_of_facts, given_has}, GivenHolds.{one_given}}}
+use Rattle.nntp_theory.proofs.Session.{OneMoreAnswer.{facts_grow}, NumbersOfShownGroups.{Placed as IsPlaced, Among, session_placed}}
+use Rattle.nntp_theory.proofs.{Session.{GroupOfAnAnswer.{same_selected}, FittingFacts.{IsFitting, answer_fitting}}, Members.{In, all_at, all_from, all_both}}
+use Rattle.nntp_theory.proofs.Members.{all_front, all_back, in_front, in_back, in_cases, in_map, found_in, to_flat, from_flat, contains_in, in_contains}
+use Rattle.nntp_theory.proofs.{Members.{all_part, all_parts, part_first}, Together.FactsOfASpoolStand.{stand}}
 use Rattle.nntp_wire.specs.{Answer.{Asked, Response}, declared.marks.Marks.{Marks, TheVariants.{Lenient}}}
 use Rattle.nntp_article.specs.Session.{Spool.{Spool, IsSpool, IsGroup, numbers, Name}, Machine.{Visible, visible_after, start, fits}}
 use Rattle.nntp_article.specs.{Article.Fields.{words_in}, declared.session.profile.Profile.{Profile}}
@@ -257,10 +257,6 @@ contradicts profile ps answers asked response comes fits none (S, spool, holds) 
 
 -- ---- where facts conflict
 
--- where one thing is given, so is each part of it
-part_given : {A C : Type 0} (part : A → C) (f : Fact → Option A) (facts : List Fact) → GiveOne f facts → GiveOne (λ fact. option_map part (f fact)) facts
-part_given part f facts one = all_from _ facts (λ fact i. grind (arith, part_first part f facts, one_given f facts one fact i))
-
 -- what conflicts somewhere doesn't stand together
 pub at_point : (facts : List Fact) (point : Point) → ConflictAt facts point → Together facts → ⊥
 at_point facts (Step name) h t = grind (arith, found_in, true≢false, all_at, t.numbers name, not-true)
@@ -273,4 +269,5 @@ at_point facts (PlaceOf name id) h t = h (t.ids_once name id)
 at_point facts (Article id) h t = true≢false (sym h.1 ∙ t.articles id h.0)
 at_point facts (HeadOf id) h t = h (t.heads id)
 at_point facts (BodyOf id) h t = h (t.bodies id)
-at_point facts (FieldOf id field) h t = h (part_given (λ fields. words_in fields field) (fields_in id) facts (t.fields id))
+at_point facts (FieldOf id field) h t =
+    h (all_from _ facts (λ fact i. grind (arith, part_first (λ fields. words_in fields field) (fields_in id) facts, one_given (fields_in id) facts (t.fields id) fact i)))

@@ -1,6 +1,6 @@
 -- The numbers of a group are within the limit.
 use Rattle.std.proofs.{lemmas.Bool.{true≢false, and_parts, or_right, eqb-true, leb-true, lt-ltb, cases_lt}, Common.{◌≡◌, ℕ, ◌≤◌, ◌<◌, true, cond, IsTrue, List}}
-use Rattle.std.{proofs.Common.{[], ◌∷◌, inl, inr, sym, ◌∙◌, arith}, specs.{Prelude.{IsFalse, nat_le}, List.{AllByRecursion, list_any}}}
+use Rattle.std.{proofs.Common.{[], ◌∷◌, inl, inr, sym, ◌∙◌, arith}, specs.{Prelude.{IsFalse}, List.{AllByRecursion, list_any}}}
 use Rattle.nntp_theory.specs.{Inner.Estimates.{estimate_in, is_within}, Given.{is_shown_group, asks_in, asks_of, shows, denies, is_shown, is_denied}}
 use Rattle.nntp_theory.{specs.Given.{shows_group, is_end}, proofs.Members.{In, all_at, any_in, found_in, to_flat, from_flat}}
 use Rattle.nntp_theory.proofs.Session.{NumbersOfShownGroups.{Placed}, FittingFacts.{IsFitting}}
@@ -35,10 +35,6 @@ module _ (profile : Profile) (facts : List Fact) (how : Marks) (fitting : AllByR
   num_of : (name : Name) (ask : Ask) (n : ℕ) → IsFitting profile (Asks name ask) → shows ask n ≡ true → IsTrue (is_article_number profile.limit n)
   num_of name ask n h t = grind (arith, found_in, eqb-true, all_at)
 
-  -- a number that is shown is one
-  shown_num : (name : Name) (n : ℕ) → IsTrue (is_shown (asks_of name facts) n) → IsTrue (is_article_number profile.limit n)
-  shown_num name n t = grind (arith, found_in, from_flat (asks_in name), fits, num_of name, from_flat, true≢false, num_of)
-
   -- and so is one of all
   pub end_in_limit : (name : Name) (n count : ℕ) → IsTrue (list_any (λ ask. is_end ask n) (asks_of name facts))
       → ((ask : Ask) → In ask (asks_of name facts) → IsTrue (is_within (estimate_in ask) count)) → 1 ≤ count → IsFalse (is_denied (asks_of name facts) n) → (1 ≤ n) × (n ≤ profile.limit)
@@ -52,4 +48,4 @@ module _ (profile : Profile) (facts : List Fact) (how : Marks) (fitting : AllByR
 
   -- and so is one that is shown
   pub shown_in_limit : (name : Name) (n : ℕ) → IsTrue (is_shown (asks_of name facts) n) → (1 ≤ n) × (n ≤ profile.limit)
-  shown_in_limit name n t = let num = and_parts (nat_le 1 n) _ (shown_num name n t) in (leb-true 1 n num.0, leb-true n profile.limit num.1)
+  shown_in_limit name n t = grind (arith, found_in, from_flat (asks_in name), fits, num_of name, from_flat, true≢false, num_of, and_parts, leb-true)
