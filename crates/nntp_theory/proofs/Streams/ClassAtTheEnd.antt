@@ -37,8 +37,7 @@ pairs_before client server pairs left paired = grind (arith, pairs-spelled, coun
 -- and leave the connection open or closed, as these do
 pub pairs_close : (client : ClientStream) (server : List ℕ) (pairs : List Paired) (left : Unpaired) → AreNext (streams client server) pairs left
     → left.is_closed ≡ (visible_from start.visible (prompts_of client) (responses_of pairs)).closed
-pairs_close client server pairs left paired =
-    (paired_up start.visible (streams client server) left pairs refl paired).closed ∙ ap (λ ps. (visible_from start.visible ps (responses_of pairs)).closed) (places-prompts client)
+pairs_close client server pairs left paired = grind (arith, paired_up start.visible (streams client server) left pairs, places-prompts client)
 
 -- so the octets that they leave are settled where the end of a pairing there stays
 pub settled_lasts : (client : ClientStream) (server : List ℕ) (pairs : List Paired) (left : Unpaired) (class : PairClass) → AreNext (streams client server) pairs left
