@@ -4,9 +4,8 @@ use Rattle.std.{proofs.lemmas.Bool.{true≢false, Decides.{nat_tests}}, specs.Li
 use Rattle.nntp_article.specs.{Article.Parts.{Id}, Session.{Spool.{Name}, Machine.{Visible, fits, marks_fit, is_ascending, is_article_number, is_in_range}}}
 use Rattle.nntp_article.specs.Session.Machine.{head_fits, active_fits, names_differ, is_one_of, none_in_range, overview_numbers, overview_ids, all_differ, only}
 use Rattle.nntp_article.specs.declared.session.profile.Profile.{Profile}
-use Rattle.nntp_said.specs.Asks.{Estimates, ListsIn, Lacks, StandsAt, StandsNowhere, StepsUp, StepsDown, IsTop, IsBottom}
-use Rattle.nntp_said.specs.{declared.position.Position.{Position}, Facts.{Fact, ThereIs, ThereIsNo, Asks, IdAt, TextIs, NoArticle, FieldsAre, OverviewsAre}}
-use Rattle.nntp_said.specs.Facts.{GroupsAre, here, facts_of}
+use Rattle.nntp_said.specs.{Asks.{Estimates, ListsIn, Lacks, StandsAt, StandsNowhere, StepsUp, StepsDown, IsTop, IsBottom}, Facts.{Fact, ThereIs, ThereIsNo}}
+use Rattle.nntp_said.specs.{Facts.{Asks, IdAt, TextIs, NoArticle, FieldsAre, OverviewsAre, GroupsAre, here, facts_of}, declared.position.Position.{Position}}
 use Rattle.nntp_wire.specs.{Listing.{OverviewValue, listed_numbers, active_groups, overviews_of}, Answer.{Asked, Response, Success, to, group_is, numbers_are}}
 use Rattle.nntp_wire.specs.{Answer.{sends, active_are, overviews_are, plain}, Command.{over}, declared.command.{OverviewKeyword.{OverviewKeyword}, What.{What}}}
 use Rattle.nntp_wire.specs.declared.{range.Range.{Range}, water_marks.WaterMarks.{WaterMarks}}

@@ -1,12 +1,12 @@
 -- What the visible condition says of the facts of an answer.
 use Rattle.std.proofs.{Common.{◌≡◌, ℕ, IsTrue, List, ◌∷◌, arith, ◌≤◌}, lemmas.Bool.{and_parts, or_cases, eqb-true, true≢false, Decides.{nat_tests}}}
 use Rattle.std.specs.{Prelude.{⊤}, List.{AllByRecursion}}
-use Rattle.nntp_article.specs.Session.Machine.{Visible, visible_after, fits, is_article_number, head_fits, active_fits, overview_numbers, all_differ}
-use Rattle.nntp_article.specs.{Session.Machine.{overview_ids}, declared.session.profile.Profile.{Profile}}
-use Rattle.nntp_wire.specs.{Answer.{Asked, Response, to, plain, overviews_are}, declared.range.Range.{Range}, Command.{over, in_range}, Listing.{overviews_of}}
+use Rattle.nntp_article.specs.Session.Machine.{Visible, visible_after, fits, is_article_number, head_fits, active_fits, overview_numbers}
+use Rattle.nntp_article.specs.declared.session.profile.Profile.{Profile}
+use Rattle.nntp_wire.specs.{Answer.{Asked, Response, to, plain, overviews_are}, declared.range.Range.{Range}, Command.{over, in_range}}
 use Rattle.nntp_said.specs.{Asks.{position_after, Estimates, ListsIn, Has, StandsAt, StepsUp, StepsDown}, declared.position.Position.{Position}, Facts.{Fact}}
 use Rattle.nntp_said.specs.{Facts.{Asks, IdAt, TextIs, FieldsAre, OverviewsAre, GroupsAre, facts_of, facts_from, here}, Inner.Facts.{FitsAll}}
-use Rattle.nntp_said.proofs.Rows.{AreListed, marks}
+use Rattle.nntp_said.proofs.Rows.{AreListed}
 use Rattle.nntp_theory.{specs.Inner.Together.{AgreesWithItself}, proofs.{Members.{all_both, all_from, each_of}, Together.ListedOverviews.{apart_agree}}}
 use Rattle.nntp_theory.proofs.Together.ListedOverviews.{alone_agrees}
 
@@ -32,10 +32,7 @@ listed_fitting profile range ns f = grind (arith, all_from, and_parts, each_of)
 -- what an answer that fits says
 pub answer_fitting : (profile : Profile) (v : Visible) (at : Position) (p : Asked) (a : Response) → IsTrue (fits profile v p a) → AllByRecursion (IsFitting profile) (facts_of profile.marks v at p a)
 answer_fitting profile v at (to command) (plain code) f = grind arith
-answer_fitting profile v at (to (over keyword (in_range range))) (overviews_are lines) f =
-    let os = overviews_of lines in
-    let listed : AreListed profile range (overview_numbers os) × IsTrue (all_differ (overview_ids os)) = grind (arith, and_parts) in
-    ((listed_fitting profile range (overview_numbers os) listed.0, apart_agree (here v) range os listed.0.0 listed.1), tt)
+answer_fitting profile v at (to (over keyword (in_range range))) (overviews_are lines) f = search (arith, and_parts, listed_fitting profile range, apart_agree (here v) range)
 answer_fitting profile v at p a f = grind (arith, and_parts, or_cases, eqb-true, true≢false, listed_fitting, all_from, each_of, nat_tests, alone_agrees)
 
 -- what answers that fit say, from any state on

@@ -1,7 +1,7 @@
 -- Prompts behind those that are answered: they change nothing.
 use Rattle.nntp_wire.specs.{declared.marks.Marks.{Marks}, Command.{request_as}, Lines.{lines_of_stream}, Answer.{Asked, Response, greeting, to}}
 use Rattle.nntp_wire.{specs.Session.{prompts_of, Spelled, ClientStream, further}, proofs.StreamLemmas.{lines-joined}}
-use Rattle.std.proofs.{Common.{◌≡◌, ◌↔◌, ℕ, ◌+◌, ◌≤◌, List, [], ◌∷◌, ◌++◌, length, map, Some, refl, ap, ◌∙◌, arith}, lemmas.List.{map-append}}
+use Rattle.std.proofs.{Common.{◌≡◌, ◌↔◌, ℕ, ◌≤◌, List, [], ◌∷◌, ◌++◌, length, map, Some, refl, ap, ◌∙◌, arith}, lemmas.List.{map-append}}
 use Rattle.nntp_article.specs.{declared.session.profile.Profile.{Profile}, Session.{Spool.{Spool}, Machine.{Visible, State, Run, start, visible_after}}}
 use Rattle.nntp_said.specs.{Asks.{position_after}, declared.position.Position.{Position}, Facts.{facts_of, facts_from}}
 use Rattle.nntp_theory.specs.{Classes.{visible_from, position_from, asked_next}, Inner.Permits.{SomePermits}}

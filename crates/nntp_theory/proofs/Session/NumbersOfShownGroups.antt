@@ -5,7 +5,7 @@ use Rattle.std.{proofs.{Common.{◌≡◌, IsTrue, List, [], ◌∷◌, Some, is
 use Rattle.std.specs.List.{AllByRecursion}
 use Rattle.nntp_article.specs.{Session.{Spool.{Name}, Machine.{Visible, visible_after, start, fits}}, declared.session.profile.Profile.{Profile}}
 use Rattle.nntp_said.specs.{Asks.{position_after, Estimates}, declared.position.Position.{Position, TheVariants.{Nowhere}}, Facts.{Fact, ThereIs, Asks, IdAt}}
-use Rattle.nntp_said.{specs.{Facts.{OverviewsAre, here, facts_of, facts_from}, Inner.Facts.{FitsAll}}, proofs.Rows.{marks, none_cases}}
+use Rattle.nntp_said.{specs.{Facts.{OverviewsAre, here, facts_of, facts_from}, Inner.Facts.{FitsAll}}, proofs.Rows.{none_cases}}
 use Rattle.nntp_theory.{specs.Given.{facts_of_session}, proofs.Members.{In, all_both, all_front, all_back, all_from}}
 
 -- a 211 said that there is such a group, with its marks, which are read so
@@ -55,9 +55,7 @@ still_stands profile all v at p a h i j = grind arith
 all_placed : (profile : Profile) (all : List Fact) (v : Visible) (at : Position) (ps : List Asked) (answers : List Response) → HasNoted profile.marks all v → FitsAll profile v ps answers
     → AllByRecursion (Among all) (facts_from profile.marks v at ps answers) → AllByRecursion (Placed profile.marks all) (facts_from profile.marks v at ps answers)
 all_placed profile all v at (p ∷ ps) (a ∷ more) stands f h =
-    let first = answer_placed profile all v at p a f.1 stands in
-    let later = all_placed profile all (visible_after v p a) (position_after at p a) ps more in
-    grind (arith, all_front, all_back, all_both, first, still_stands profile all v at p a stands f.1, later)
+    search (arith, answer_placed, all_placed profile all (visible_after v p a) (position_after at p a) ps more, all_front, all_back, all_both, still_stands)
 all_placed profile all v at ps answers stands f h = tt
 
 -- in a session that fits, what is said of numbers is said of groups that a 211 selected, whatever else is said

@@ -1,5 +1,5 @@
 -- Where the pairing of two streams ends at octets, they have the class of that end.
-use Rattle.std.proofs.{Common.{◌≡◌, ◌↔◌, ℕ, List, [], ◌∷◌, length, map, Option, None, Some, refl, sym, ap, ◌∙◌, arith}, lemmas.List.{length-map}}
+use Rattle.std.proofs.{Common.{◌≡◌, ◌↔◌, ℕ, List, [], ◌∷◌, length, map, Option, None, Some, refl, sym, ◌∙◌, arith}, lemmas.List.{length-map}}
 use Rattle.nntp_wire.specs.{Answer.{Asked}, Session.{prompts_of, ClientStream}}
 use Rattle.nntp_pair.specs.{Pairing.{Paired, Unpaired, AreNext, IsBad, responses_of, asked_at, streams, Place}, Inner.Pairing.{IsLasting}}
 use Rattle.nntp_pair.{specs.{declared.class.{PairClass.{PairClass}, Class.{Class}}, Classes.{class_of}}, proofs.SpelledLemmas.{places-prompts, pairs-spelled}}

@@ -22,9 +22,7 @@ no_more profile client server k class h T (more, y) = grind (arith, contradicted
 pub bad_end : (P : Spool → Type 0) (profile : Profile) (client : ClientStream) (server : List ℕ) (pairs : List Paired) (class : PairClass) → IsPairing client server pairs (bad class)
     → (S : Spool) → IsSpool profile.limit S → P S → Run profile S start (prompts_of client) (responses_of pairs)
     → BadAmong P profile client server (length pairs) × HasClass profile client server (length pairs) (class_of class)
-bad_end P profile client server pairs class pairing S spool p run =
-    let h = end_has_class profile client server pairs pairing.left class pairing.paired pairing.ends.1 in
-    search (arith, explained_pairs, no_more)
+bad_end P profile client server pairs class pairing S spool p run = search (arith, end_has_class profile client server pairs pairing.left class pairing.paired pairing.ends.1, explained_pairs, no_more)
 
 -- ---- an answer that is paired, and that no spool permits together with those before
 
