@@ -130,17 +130,9 @@ impl<'s> NumbersPart<'s> {
             Ask::Lacks(number) => self.list(number, number, &[]),
             Ask::StandsAt(at, number) => {
                 self.list(number, number, shown);
-                match at {
-                    Position::Nowhere => self.is_possible = false,
-                    Position::First => self.low = number,
-                    Position::Known(current) => self.is_possible = current == number,
-                }
+                self.stand_at(at, number);
             }
-            Ask::StandsNowhere(at) => match at {
-                Position::Nowhere => {}
-                Position::First => self.list(0, u64::MAX, &[]),
-                Position::Known(_) => self.is_possible = false,
-            }
+            Ask::StandsNowhere(at) => self.stand_nowhere(at),
             Ask::StepsUp(at, number) => {
                 self.list(number, number, shown);
                 self.step_up(at, number);
@@ -149,16 +141,8 @@ impl<'s> NumbersPart<'s> {
                 self.list(number, number, shown);
                 self.step_down(at, number);
             }
-            Ask::IsTop(at) => match at {
-                Position::Nowhere => self.is_possible = false,
-                Position::First => self.demand = Demand::OnlyOne,
-                Position::Known(current) => self.high = current,
-            }
-            Ask::IsBottom(at) => match at {
-                Position::Nowhere => self.is_possible = false,
-                Position::First => self.demand = Demand::NotEmpty,
-                Position::Known(current) => self.low = current,
-            }
+            Ask::IsTop(at) => self.end_above(at),
+            Ask::IsBottom(at) => self.end_below(at),
         }
     }
 
@@ -182,6 +166,28 @@ impl<'s> NumbersPart<'s> {
         self.numbers = numbers;
     }
 
+    /// Says too that the number at the position is this.
+    fn stand_at(&mut self, at: Position, number: u64)
+        ensures { said self.new ≡ standing_at at number (said self.old) }
+    {
+        match at {
+            Position::Nowhere => self.is_possible = false,
+            Position::First => self.low = number,
+            Position::Known(current) => self.is_possible = current == number,
+        }
+    }
+
+    /// Says too that there is no number at the position.
+    fn stand_nowhere(&mut self, at: Position)
+        ensures { said self.new ≡ standing_nowhere at (said self.old) }
+    {
+        match at {
+            Position::Nowhere => {}
+            Position::First => self.list(0, u64::MAX, &[]),
+            Position::Known(_) => self.is_possible = false,
+        }
+    }
+
     /// Says too that the next number above the position is this.
     fn step_up(&mut self, at: Position, number: u64)
         ensures { said self.new ≡ stepping_up at number (said self.old) }
@@ -200,6 +206,28 @@ impl<'s> NumbersPart<'s> {
         match at {
             Position::Known(current) if number < current => self.last = current - 1,
             _ => self.is_possible = false,
+        }
+    }
+
+    /// Says too that no number is above the position.
+    fn end_above(&mut self, at: Position)
+        ensures { said self.new ≡ none_above at (said self.old) }
+    {
+        match at {
+            Position::Nowhere => self.is_possible = false,
+            Position::First => self.demand = Demand::OnlyOne,
+            Position::Known(current) => self.high = current,
+        }
+    }
+
+    /// Says too that no number is below the position.
+    fn end_below(&mut self, at: Position)
+        ensures { said self.new ≡ none_below at (said self.old) }
+    {
+        match at {
+            Position::Nowhere => self.is_possible = false,
+            Position::First => self.demand = Demand::NotEmpty,
+            Position::Known(current) => self.low = current,
         }
     }
 }

@@ -30,7 +30,7 @@ pub fn facts_of<'s>(
             facts_of_code(selected, at, command, *code)
         }
         (Prompt::To(Command::Group(_)), Answer::Group { marks, name }) => {
-            SaidFacts::two(Fact::ThereIs(name), of_marks(how, name, *marks))
+            facts_of_group(how, *marks, name)
         }
         (Prompt::To(Command::ListGroup { range, .. }), Answer::Numbers { marks, name, block }) => {
             facts_of_numbers(how, *marks, name, *range, block)
@@ -49,14 +49,15 @@ pub fn facts_of<'s>(
                 id,
                 block,
             },
-        ) => {
-            let text = Fact::TextIs {
-                what: *what,
-                id: id.as_str(),
-                block: block.as_ref(),
-            };
-            with_place(text, selected, at, which, *number, id.as_str())
-        }
+        ) => facts_of_article(
+            selected,
+            at,
+            *what,
+            which,
+            *number,
+            id.as_str(),
+            block.as_ref(),
+        ),
         (Prompt::To(Command::ListActive(wildmat)), Answer::Active(block)) => {
             SaidFacts::one(Fact::GroupsAre { wildmat, block })
         }
@@ -65,6 +66,13 @@ pub fn facts_of<'s>(
         }
         _ => SaidFacts::none(),
     }
+}
+
+/// Returns what a success of GROUP says.
+fn facts_of_group<'s>(how: Marks, marks: WaterMarks, name: &'s GroupName<'s>) -> SaidFacts<'s>
+    ensures { result ≡ ThereIs name.now ∷ Asks name.now (Estimates how marks) ∷ [] }
+{
+    SaidFacts::two(Fact::ThereIs(name), of_marks(how, name, marks))
 }
 
 /// Returns what a success of LISTGROUP says.
@@ -183,6 +191,23 @@ fn facts_of_failure<'s>(
         (Which::Current, 420) => asks(selected, Ask::StandsNowhere(at)),
         _ => SaidFacts::none(),
     }
+}
+
+/// Returns what a success of ARTICLE, HEAD, BODY or STAT says.
+fn facts_of_article<'s>(
+    selected: &'s [u8],
+    at: Position,
+    what: What,
+    which: &Which<'_>,
+    number: u64,
+    id: &'s str,
+    block: Option<&'s Block<'s>>,
+) -> SaidFacts<'s>
+    ensures { (v : Visible) → selected.now ≡ here v
+        → result ≡ TextIs what id.now (option_map (λ b. b.now) block.entry) ∷ facts_of_place v at (target which.now) number id.now }
+{
+    let text = Fact::TextIs { what, id, block };
+    with_place(text, selected, at, which, number, id)
 }
 
 /// Returns what is said of an article, and where it stands, which was asked for so.
