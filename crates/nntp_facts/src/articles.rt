@@ -4,7 +4,7 @@ ghost use Rattle.std.specs.{Option.{option_map_or}, BTreeMap.{get_by}, Ordering.
 ghost use Rattle.nntp_wire.specs.{declared.command.What.{What}, Listing.{overviews_of}};
 ghost use Rattle.nntp_article.specs.{Article.{Parts.{Id, Line}, Fields.{words_in}}, Inner.Fields.{AreWords}};
 ghost use Rattle.nntp_said.specs.Facts.{Fact};
-ghost use Rattle.nntp_theory.specs.{Given.{is_mentioned, first_given, head_in, fields_in, body_in}, Together.{shows_article}, Inner.Together.{AreSame}};
+ghost use Rattle.nntp_theory.specs.{Given.{is_mentioned, first_given, head_in, body_in}, Together.{shows_article}, Inner.Together.{AreSame}};
 ghost use Rattle.nntp_facts.specs.Inner.{Articles.{head_sent, body_sent, is_there, denied, telling, with_new}, Kept.{AreKeptArticles, said_kept}};
 ghost use Rattle.nntp_facts.specs.Inner.{KeptSaying.{IsThereAlready, MayBeSaid, IsArticleAdded, IsSaidAdded, said_alone}, Saying.{Lacks, Exists, Sends}};
 ghost use Rattle.nntp_facts.specs.Inner.{Saying.{Describes, IsToExist}, SayingView.{article_said}, Readers.{shown_articles}, ArticleView.{is_added, text_of}};

@@ -1,5 +1,5 @@
 //! A point, of the first kind that there is, about which a bad answer and accepted ones conflict.
-ghost use Rattle.std.specs.{Prelude.{◌≡◌, ◌<◌, ◌^◌, ◌∷◌, List, get_or, map, IfOk, MatchOption}, List.{AllByRecursion}};
+ghost use Rattle.std.specs.{Prelude.{◌≡◌, ◌<◌, ◌^◌, ◌∷◌, List, map, IfOk, MatchOption}, List.{AllByRecursion}};
 ghost use Rattle.nntp_article.specs.{Session.Limit.{profile_of}, declared.session.profile.Profile.{Profile}};
 ghost use Rattle.nntp_said.specs.Facts.{Fact};
 ghost use Rattle.nntp_theory.specs.{Conflict.{told_with, places_of, IsFound, IsFirstPoint}, Inner.Conflict.{FitsThere, HasLast}};

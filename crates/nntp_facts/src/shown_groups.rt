@@ -16,7 +16,7 @@ pub struct ShownGroup<'a, A: Allocator = Global> {
 }
 
 impl<'a, A: Allocator> Model for ShownGroup<'a, A> {
-    ghost use Rattle.nntp_facts.specs.Inner.{Readers.{ShownGroup as GroupValue, shown_group}};
+    ghost use Rattle.nntp_facts.specs.Inner.Readers.{ShownGroup as GroupValue, shown_group};
 
     ghost Value = { GroupValue };
 
@@ -80,7 +80,7 @@ pub struct ShownGroups<'a, A: Allocator = Global> {
 }
 
 impl<'a, A: Allocator> Model for ShownGroups<'a, A> {
-    ghost use Rattle.std.specs.{Prelude.{List}};
+    ghost use Rattle.std.specs.Prelude.{List};
     ghost use Rattle.nntp_facts.specs.Inner.{Readers.{ShownGroup as GroupValue, shown_in}, ReadersView.{named}};
 
     ghost Value = { List GroupValue };

@@ -16,7 +16,7 @@ pub struct TakenGroup<A: Allocator = Global> {
 }
 
 impl<A: Allocator> Model for TakenGroup<A> {
-    ghost use Rattle.nntp_facts.specs.Inner.{Readers.{ShownGroup as GroupValue, shown_group}};
+    ghost use Rattle.nntp_facts.specs.Inner.Readers.{ShownGroup as GroupValue, shown_group};
 
     ghost Value = { GroupValue };
 
@@ -40,7 +40,7 @@ pub struct TakenGroups<A: Allocator = Global> {
 }
 
 impl<A: Allocator> Model for TakenGroups<A> {
-    ghost use Rattle.std.specs.{Prelude.{List}};
+    ghost use Rattle.std.specs.Prelude.{List};
     ghost use Rattle.nntp_facts.specs.Inner.{Readers.{ShownGroup as GroupValue, shown_in}, ReadersView.{named}};
 
     ghost Value = { List GroupValue };

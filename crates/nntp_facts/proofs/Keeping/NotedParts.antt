@@ -49,12 +49,9 @@ overviews_added facts more s g lists old new does e listed t formed adds =
     let asked = asks_there facts s t.asks t.may o is g named in
     let whole : OverviewsAre g.name o.0 o.1 ∷ [] ≡ more = sym (overviews_told facts s t.asks t.may o is g named) ∙ t.same in
     let same : lists.overviews ≡ o.1 = subst (λ o. IfSome o (λ o. lists.overviews ≡ o.1)) is listed.1 in
-    let may : MayListOf facts g o.0 lists.overviews = record {
-      shown = grind (arith, t.may.shown, of.there_is, named);
-      numbers = grind (arith, t.may.numbers, asked, named, same);
-      id = no_id_there facts s t.asks t.may o is g named;
-      own = grind (arith, of.own, same);
-    } in grind (arith, adds o.0, may, whole, same, formed)
+    let id = no_id_there facts s t.asks t.may o is g named in
+    let may : MayListOf facts g o.0 lists.overviews = grind (arith, t.may.shown, t.may.numbers, of, named, asked, same, id) in
+    grind (arith, adds o.0, may, whole, same, formed)
 
 -- ---- where nothing is listed
 

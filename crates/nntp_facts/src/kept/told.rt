@@ -1,5 +1,5 @@
 //! What answers say by themselves.
-ghost use Rattle.std.specs.{Prelude.{◌≡◌, ℕ, List, [], ◌∷◌, ◌++◌, Option, IfOk, map, option_map}, List.{AllByRecursion}};
+ghost use Rattle.std.specs.{Prelude.{◌≡◌, ℕ, List, [], ◌∷◌, ◌++◌, IfOk, map, option_map}, List.{AllByRecursion}};
 ghost use Rattle.nntp_wire.specs.Limit.{greatest};
 ghost use Rattle.nntp_article.specs.{declared.session.profile.Profile.{Profile}, Session.Limit.{profile_of}};
 ghost use Rattle.nntp_said.specs.Facts.{Fact, group_of};

@@ -1,7 +1,7 @@
 //! Laws of the reading of two streams by what is noted of it, and those of nntp_theory.
 ghost use Rattle.std.specs.{Prelude.{◌≡◌, ℕ, List, [], ◌∷◌, ◌++◌, length, Some}, List.{AllByRecursion}};
 ghost use Rattle.nntp_article.specs.declared.session.profile.Profile.{Profile};
-ghost use Rattle.nntp_pair.specs.{Pairing.{Paired, Unpaired, IsNext, bad, streams}, declared.class.Class.TheVariants.{OutOfPlace, Contradiction}};
+ghost use Rattle.nntp_pair.specs.{Pairing.{Paired, Unpaired, IsNext, streams}, declared.class.Class.TheVariants.{OutOfPlace, Contradiction}};
 ghost use Rattle.nntp_theory.specs.declared.noted.Noted.TheVariants.{Consistent, OutOfPlace as NotedOutOfPlace, Contradiction as NotedContradiction};
 ghost use Rattle.nntp_theory.specs.{Conflict.{placed_of, placed_behind, SomeHas, told_with, below}, Inner.Conflict.{FitsThere}, Permitted.{ArePermitted}};
 ghost use Rattle.nntp_theory.specs.Reading.{Judged, Accepted, Refused, accepted_of, accepted_with, IsJudged, AreJudged, class_behind};

@@ -1,7 +1,7 @@
 //! What heads and overviews tell of four headers, and is kept otherwise.
-ghost use Rattle.std.specs.Prelude.{◌≡◌, ◌≢◌, ◌++◌, List, Some, MatchOption, Option, option_map};
-ghost use Rattle.nntp_wire.specs.{Inner.View.{overview_value}, Listing.{overviews_of, Fields as FieldsValue}};
-ghost use Rattle.nntp_article.specs.{Article.{Fields.{fields_of_head, words_in}, Parts.{Id}}, declared.session.profile.Profile.{Profile}};
+ghost use Rattle.std.specs.Prelude.{◌++◌, List, option_map};
+ghost use Rattle.nntp_wire.specs.Listing.{overviews_of};
+ghost use Rattle.nntp_article.specs.{Article.Fields.{fields_of_head}, declared.session.profile.Profile.{Profile}};
 ghost use Rattle.nntp_said.specs.Facts.{Fact};
 ghost use Rattle.nntp_facts.specs.Inner.{Points.{IsBeside, IsPointOf, IsFieldOf, IsFieldAmong}, PointView.{point_of}, StatementView.{statement_of}};
 
