@@ -1,2 +1,3 @@
 pub mod ArticleLemmas
 pub mod SessionLemmas
+pub mod ShownMaps

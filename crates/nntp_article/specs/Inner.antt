@@ -8,3 +8,4 @@ pub mod Misfit
 pub mod MisfitView
 pub mod Listed
 pub mod Fields
+pub mod ShownMap

@@ -8,13 +8,13 @@ pub use Rattle.std.proofs.lemmas.{List.{length-map, map-append, get_or-map, take
 pub use Rattle.std.proofs.lemmas.{Iterator.Consumers.{nth_from_yields_List, YieldsList-from_first}, Map.Views.{any-filter_same}, Option.{slice_get-get_or}}
 pub use Rattle.std.specs.{BTreeMap.{insert_entry, keys}, Cmp.{nat_cmp_total, eq_by_cmp_equiv, Lexicographic.{slice_cmp, same_text, nat_list_eq_equiv}}}
 pub use Rattle.std.specs.{Cmp.Lexicographic.{nat_list_cmp_total, texts_ties}, FinMap.{FinMap, get, entries, insert, get-insert, slice_cmp-IsAntisymmetric}}
-pub use Rattle.std.specs.{FinMap.{nat_cmp-IsAntisymmetric, get-empty, empty, from_entries, IsAntisymmetric, len}, List.{list_any, filter, AllByRecursion}}
+pub use Rattle.std.specs.{FinMap.{nat_cmp-IsAntisymmetric, get-empty, empty, IsAntisymmetric, len}, List.{list_any, filter, AllByRecursion}}
 pub use Rattle.std.specs.{List.{list_all}, Option.{option_map_or, option_or, option_copied_mut}, Ordering.{nat_cmp, eq_by_cmp, is_eq}, Prelude.{◌↔◌, IsFalse}}
 pub use Rattle.std.specs.{Prelude.{option_map, slice_get, ⊤, unwrap_or, IfSome, if◌then◌else◌, ◌≢◌, nat_lt, is_none, nat_le}, Rc.{rc_str_bytes}}
 pub use Rattle.std.specs.{declared.cmp.Ordering.{Ordering, TheVariants.{Equal}}, Bool.{then_some}}
 pub use Rattle.nntp_article.proofs.SessionLemmas.{LinesLeft.{one_more, next_left, none_left, between}, Misfits.{fits_by_reason}, SetKeys.{any-insert_key}}
 pub use Rattle.nntp_article.specs.{Article.{Parts.{Id, Line}, Fields.{fields_of_head, words_in}}, Inner.{Fields.{TellsWords}, Listed.{Lists, lists_of, lists}}}
-pub use Rattle.nntp_article.specs.{Inner.Misfit.{numbers_of}, Session.{Limit.{profile_of}, Machine.{is_same, is_ascending, group_names, names_differ}}}
+pub use Rattle.nntp_article.specs.{Inner.{Misfit.{numbers_of}, ShownMap.{shown, shown_entry}}, Session.{Limit.{profile_of}, Machine.{is_same, is_ascending, group_names, names_differ}}}
 pub use Rattle.nntp_article.specs.Session.Machine.{overview_numbers, start, fits, Visible, only, visible_after, Run, head_fits, is_article_number, active_fits}
 pub use Rattle.nntp_article.specs.{Session.Spool.{Name}, declared.{session.profile.Profile.{Profile}, article.field.Field.{Field}}}
 pub use Rattle.nntp_facts.specs.Inner.{ArticleView.{known_article, is_added}, Articles.{articles_in, with_new, head_sent, body_sent, unsent, telling}}
@@ -56,7 +56,7 @@ pub use Rattle.nntp_theory.specs.Inner.Together.{join_said, AreSame, JoinArticle
 pub use Rattle.nntp_theory.specs.{Inner.Together.{JoinNames}, Permitted.{exchanged, ArePermittedBehind}, Together.{shows_article, denies_group, number_in}}
 pub use Rattle.nntp_theory.specs.Together.{denies_article, is_possible, MeetsDemand, GiveOne, number_of_overview}
 pub use Rattle.nntp_theory.specs.{declared.noted.Noted.TheVariants.{Contradiction, Consistent, OutOfPlace}, Classes.{visible_from, position_from}}
-pub use Rattle.nntp_wire.proofs.ShownMaps.{insert-same, get-shown, replaced, insert-shown, entries-shown, option_map_id, shown, is_some-option_map, missing}
+pub use Rattle.nntp_article.proofs.ShownMaps.{insert-same, octet_keys, get-shown, replaced, insert-shown, entries-shown, option_map_id, is_some-option_map, missing}
 pub use Rattle.nntp_wire.{proofs.DecidedLemmas.{group_name-iff}, specs.{Answer.{Asked, Response}, Decided.{matches_name, is_group_name}}}
 pub use Rattle.nntp_wire.specs.{Inner.{Decided.{is_asked}, View.{overview_value, active_value, asked}, AnswerView.{response}}, Listing.{ActiveValue, Fields}}
 pub use Rattle.nntp_wire.specs.{Listing.{OverviewValue, active_groups, overviews_of}, Name.{IsGroupName}, declared.{command.What.{What}, marks.Marks.{Marks}}}

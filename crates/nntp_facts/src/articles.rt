@@ -43,17 +43,16 @@ pub(crate) struct Articles<A: Allocator = Global> {
 }
 
 impl<A: Allocator> Model for Articles<A> {
-    ghost use Rattle.std.specs.{Prelude.{List, ℕ, map}, Coded.{coded_ℕ, coded_list}, Ordering.{nat_cmp}, Cmp.Lexicographic.{slice_cmp}, FinMap.{FinMap}};
-    ghost use Rattle.std.specs.FinMap.{from_entries, code};
+    ghost use Rattle.std.specs.{Prelude.{List, ℕ, map}, Coded.{coded_ℕ, coded_list}, Ordering.{nat_cmp}, Cmp.Lexicographic.{slice_cmp}, FinMap.{FinMap, code}};
     ghost use Rattle.nntp_facts.specs.Inner.{Articles.{with_denied}, Kept.{KeptArticle}};
 
     ghost Value = { FinMap (slice_cmp nat_cmp) KeptArticle };
 
-    ghost use Rattle.nntp_facts.specs.Inner.ArticleView.{entries_value, coded_kept};
+    ghost use Rattle.nntp_facts.specs.Inner.ArticleView.{articles_known, coded_kept};
 
     ghost coded = { code (coded_list coded_ℕ) coded_kept };
 
-    ghost view = { λ a. with_denied (from_entries (entries_value a.known.entries)) (map (λ id. id.items) a.denied.keys) };
+    ghost view = { λ a. with_denied (articles_known a.known.entries) (map (λ id. id.items) a.denied.keys) };
 }
 
 impl<A: Allocator> Articles<A> {

@@ -32,14 +32,15 @@ pub(crate) struct Groups<A: Allocator = Global> {
 }
 
 impl<A: Allocator> Model for Groups<A> {
-    ghost use Rattle.std.specs.{Prelude.{map}, FinMap.{FinMap, from_entries}, Ordering.{nat_cmp}, Cmp.Lexicographic.{slice_cmp}};
+    ghost use Rattle.std.specs.{FinMap.{FinMap}, Ordering.{nat_cmp}, Cmp.Lexicographic.{slice_cmp}};
+    ghost use Rattle.nntp_article.specs.Inner.ShownMap.{shown};
     ghost use Rattle.nntp_facts.specs.Inner.{Kept.{KeptGroup}, GroupView.{coded_groups}};
 
     ghost Value = { FinMap (slice_cmp nat_cmp) KeptGroup };
 
     ghost coded = { coded_groups };
 
-    ghost view = { λ a. from_entries (map (λ e. (e.0.items, e.1)) a.groups.entries) };
+    ghost view = { λ a. shown (slice_cmp nat_cmp) (λ name. name.items) (λ group. group) a.groups.entries };
 }
 
 impl<A: Allocator + Copy> Groups<A> {

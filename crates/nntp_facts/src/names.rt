@@ -25,13 +25,14 @@ pub(crate) struct Names<A: Allocator = Global> {
 
 impl<A: Allocator> Model for Names<A> {
     ghost use Rattle.std.specs.Prelude.{map};
+    ghost use Rattle.nntp_article.specs.Inner.ShownMap.{shown_entry};
     ghost use Rattle.nntp_facts.specs.Inner.Kept.{KeptNames};
 
     ghost Value = { KeptNames };
 
     ghost view = { λ a. record {
       denied = map (λ name. name.items) a.denied.keys;
-      wildmats = map (λ e. (e.0.items, e.1)) a.wildmats.entries;
+      wildmats = map (shown_entry (λ wildmat. wildmat.items) (λ count. count)) a.wildmats.entries;
       all_listed = a.all_listed;
     } };
 }

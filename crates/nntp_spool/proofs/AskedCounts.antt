@@ -1,8 +1,7 @@
 -- Counts of matching groups that are remembered.
 use Rattle.std.{proofs.Common.{◌≡◌, ℕ, Bool, true, false, cond, List, Option, None, Some, refl, sym, ap, subst, ◌∙◌}, specs.Prelude.{IfSome}}
 use Rattle.std.specs.{Ordering.{nat_cmp, eq_by_cmp}, Cmp.Lexicographic.{slice_cmp, nat_list_cmp_total}, FinMap.{get, get-insert}}
-use Rattle.nntp_wire.proofs.ShownMaps.{equal_is}
-use Rattle.nntp_article.specs.Session.Spool.{Spool}
+use Rattle.nntp_article.{proofs.ShownMaps.{equal_is}, specs.Session.Spool.{Spool}}
 use Rattle.nntp_spool.specs.Inner.AskedCounts.{AskedCounts, AreCounted, remembered, with_count}
 use Rattle.nntp_store.{specs.Inner.Content.{asked_count}, proofs.{MapEntries.{tied_itself}, ShownMaps.{octet_keys}}}
 

@@ -1,5 +1,5 @@
 -- The groups of lines, one after the other.
-use Rattle.std.proofs.Common.{◌≡◌, ℕ, zero, suc, ◌≤◌, Bool, true, false, IsTrue, length, List, [], ◌∷◌, Option, map, refl, sym, arith, ◌⊎◌, inl, inr, ⊎_elim}
+use Rattle.std.proofs.Common.{◌≡◌, ℕ, zero, suc, ◌≤◌, Bool, true, IsTrue, length, List, [], ◌∷◌, Option, map, refl, sym, arith, ◌⊎◌, inl, inr, ⊎_elim}
 use Rattle.std.proofs.lemmas.{Bool.{true≢false, and_parts, or_right}, List.Elements.{recursion_from_All, All-from_recursion, All-weaker, All-map, All-contains}}
 use Rattle.std.specs.{Prelude.{◌↔◌, ◌||◌, Contains, IfSome}, List.{list_any, count_by, AllByRecursion}, Option.{option_map_or}}
 use Rattle.std.specs.{Cmp.Lexicographic.{bytes_decides}, FinMap.{entries}}

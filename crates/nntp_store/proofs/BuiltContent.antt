@@ -1,8 +1,9 @@
 -- What a builder adds leaves groups and articles that a spool may hold.
 use Rattle.std.proofs.{Common.{arith, ◌≡◌, ⊎_elim, ℕ, Bool, true, false, cond, not, Option, None, Some, is_none, IsSome, sym, ap, ◌∙◌}, lemmas.Bool.{and_parts}}
 use Rattle.std.{proofs.lemmas.Bool.{not-false}, specs.{Cmp.Lexicographic.{nat_list_cmp_total}, FinMap.{get, insert, empty}, Prelude.{unwrap_or}}}
-use Rattle.nntp_wire.{specs.Decided.{is_group_name}, proofs.ShownMaps.{insert-same}}
-use Rattle.nntp_article.specs.{Article.Parts.{Id}, Session.{Machine.{is_article_number}, Spool.{Name, Spool, Numbers, Text, numbers}}}
+use Rattle.nntp_wire.specs.Decided.{is_group_name}
+use Rattle.nntp_article.{proofs.ShownMaps.{insert-same}, specs.{Article.Parts.{Id}, Session.{Machine.{is_article_number}, Spool.{Name, Spool, Numbers, Text}}}}
+use Rattle.nntp_article.specs.Session.Spool.{numbers}
 use Rattle.nntp_store.specs.{Content.{with_group, with_article, no_spool}, Inner.{Building.{group_fault, place_fault, article_fault}, Content.{with_number_in}}}
 use Rattle.nntp_store.specs.{Inner.{Content.{without_articles, IsNamed, IsArticle, IsContent}, Numbers.{with_number}}, Numbers.{has_id}}
 use Rattle.nntp_store.proofs.{MapEntries.{value_of_some, empty_has, got_more}, NumbersInOrder.{no_numbers, one_more}, ShownMaps.{octet_keys, spool_is}}

@@ -1,17 +1,12 @@
 -- Entries that come in the order of their keys, as the text of a spool has them, and the greatest key.
-use Rattle.std.proofs.Common.{◌≡◌, ℕ, ◌-◌, ◌≤◌, Bool, true, false, cond, T, Option, None, Some, is_some, option_map, List, [], ◌∷◌, ◌++◌, map, length, drop}
-use Rattle.std.proofs.{Common.{refl, sym, ap, subst, ◌∙◌, arith}, lemmas.{Bool.{true≢false, and_parts, Decides.{nat_tests}}, Option.{slice_get-get_or}}}
-use Rattle.std.{proofs.lemmas.List.{append_assoc, map-append, Elements.{recursion_from_All}}, specs.Prelude.{nat_lt, ◌==◌, ◌&&◌}}
-use Rattle.std.specs.{declared.cmp.Ordering.{Ordering, TheVariants.{Less, Equal, Greater}}, Ordering.{is_lt, is_eq}, Cmp.{IsTotalOrder, both_ways}}
-use Rattle.std.specs.{Cmp.{nat_cmp_total}, List.{All, AllByRecursion, slice_get, list_all}, Map.{lookup, keys_of}, FinMap.{FinMap, get, insert, entries}}
-use Rattle.std.specs.FinMap.{is_sorted, entries_sorted, same_entries_map, get-from_entries, IsAntisymmetric, nat_cmp-IsAntisymmetric, Entries.{below_all}}
-use Rattle.std.specs.BTreeMap.{insert_entry}
-use Rattle.nntp_article.specs.Session.Spool.{Numbers, IsNumber}
+use Rattle.std.proofs.Common.{◌≡◌, ℕ, ◌-◌, ◌≤◌, Bool, true, false, cond, None, Some, is_some, option_map, List, [], ◌∷◌, ◌++◌, map, length, drop, refl, sym, ap}
+use Rattle.std.proofs.{Common.{◌∙◌, arith}, lemmas.{Bool.{true≢false, and_parts, Decides.{nat_tests}}, Option.{slice_get-get_or}, List.{append_assoc}}}
+use Rattle.std.{proofs.lemmas.List.{map-append, Elements.{recursion_from_All}}, specs.{Prelude.{nat_lt, ◌==◌, ◌&&◌}, declared.cmp.Ordering.{Ordering}}}
+use Rattle.std.specs.{declared.cmp.Ordering.TheVariants.{Less, Equal, Greater}, Ordering.{is_lt, is_eq}, Cmp.{IsTotalOrder, both_ways, nat_cmp_total}}
+use Rattle.std.specs.{List.{All, AllByRecursion, slice_get, list_all}, Map.{lookup, keys_of}, FinMap.{FinMap, get, insert, entries, is_sorted, entries_sorted}}
+use Rattle.std.specs.{FinMap.{same_entries_map, get-from_entries, IsAntisymmetric, nat_cmp-IsAntisymmetric, Entries.{below_all}}, BTreeMap.{insert_entry}}
+use Rattle.nntp_article.{specs.{Session.Spool.{Numbers, IsNumber}, Inner.ShownMap.{shown, shown_entry}}, proofs.ShownMaps.{get-shown, entries-ascending}}
 use Rattle.nntp_store.{specs.Ascending.{is_last}, proofs.MapEntries.{is_passed, less_is, value_of_some, entries-insert_last, placed, all_found, test_each}}
-use Rattle.nntp_wire.proofs.ShownMaps.{shown, shown_entry, get-shown, entries-from_entries}
-
-passes : (b : Bool) → b ≡ true → T b
-passes b e = subst T (sym e) tt
 
 -- a list with a first element, with a last one, and without
 pub first_is : {X : Type 0} (xs : List X) (x : X) → Some x ≡ slice_get xs 0 → xs ≡ x ∷ drop 1 xs
@@ -51,37 +46,37 @@ module _ {K X : Type 0} {R : K → K → Ordering} (o : IsTotalOrder R) where
 
 module _ {L V K X : Type 0} (R : K → K → Ordering) (key : L → K) (value : V → X) (o : IsTotalOrder R) (same : IsAntisymmetric R) where
   -- a key is greater than all others where it is greater than the last
-  pub last_listed : (es : List (L × V)) (m : FinMap R X) (l : L × V) (k : K) → is_sorted R (map (shown_entry R key value) es) ≡ true → shown R key value es ≡ m
+  pub last_listed : (es : List (L × V)) (m : FinMap R X) (l : L × V) (k : K) → is_sorted R (map (shown_entry key value) es) ≡ true → shown R key value es ≡ m
       → Some l ≡ slice_get es (length es - 1) → is_lt (R (key l.0) k) ≡ is_last m k
   last_listed es m l k sorted is e =
-      let shows = shown_entry R key value in
+      let shows = shown_entry key value in
       let at_end = last_is es l e in
       let front = map shows at_end.0 in
       let listed : entries m ≡ front ++ shows l ∷ [] =
-      ap entries (sym is) ∙ entries-from_entries o same (map shows es) (passes _ sorted) ∙ ap (map shows) at_end.1 ∙ map-append shows at_end.0 (l ∷ []) in
+      ap entries (sym is) ∙ entries-ascending R key value o same es sorted ∙ ap (map shows) at_end.1 ∙ map-append shows at_end.0 (l ∷ []) in
       last_of o front (shows l) k (placed o m front (shows l) [] listed).0 ∙ ap (list_all (λ e. is_lt (R e.0 k))) (sym listed)
 
   -- an entry behind all others
-  pub one_more : (es fs : List (L × V)) (l : L) (v : V) → is_sorted R (map (shown_entry R key value) es) ≡ true → is_last (shown R key value es) (key l) ≡ true → fs ≡ es ++ (l, v) ∷ []
-      → (is_sorted R (map (shown_entry R key value) fs) ≡ true) × (shown R key value fs ≡ insert (shown R key value es) (key l) (value v))
+  pub one_more : (es fs : List (L × V)) (l : L) (v : V) → is_sorted R (map (shown_entry key value) es) ≡ true → is_last (shown R key value es) (key l) ≡ true → fs ≡ es ++ (l, v) ∷ []
+      → (is_sorted R (map (shown_entry key value) fs) ≡ true) × (shown R key value fs ≡ insert (shown R key value es) (key l) (value v))
   one_more es fs l v sorted last e =
-      let shows = shown_entry R key value in
+      let shows = shown_entry key value in
       let m = insert (shown R key value es) (key l) (value v) in
-      let listed : entries m ≡ map shows fs = grind (arith, entries-insert_last, entries-from_entries, passes, map-append) in
+      let listed : entries m ≡ map shows fs = grind (arith, entries-insert_last, entries-ascending, map-append) in
       let rises : is_sorted R (map shows fs) ≡ true = ap (is_sorted R) (sym listed) ∙ is_passed _ (entries_sorted m) in
-      (rises, same_entries_map (shown R key value fs) m (entries-from_entries o same (map shows fs) (passes _ rises) ∙ sym listed))
+      (rises, same_entries_map (shown R key value fs) m (entries-ascending R key value o same fs rises ∙ sym listed))
 
   -- the order of the keys in code is that of what they show
-  below_listed : (l : L) (es : List (L × V)) → below_all (λ a b. R (key a) (key b)) l es ≡ below_all R (key l) (map (shown_entry R key value) es)
+  below_listed : (l : L) (es : List (L × V)) → below_all (λ a b. R (key a) (key b)) l es ≡ below_all R (key l) (map (shown_entry key value) es)
   below_listed l [] = refl
   below_listed l (e ∷ es) = ap (λ b. is_lt (R (key l) (key e.0)) && b) (below_listed l es)
 
-  pub sorted_listed : (es : List (L × V)) → is_sorted R (map (shown_entry R key value) es) ≡ true → is_sorted (λ a b. R (key a) (key b)) es ≡ true
+  pub sorted_listed : (es : List (L × V)) → is_sorted R (map (shown_entry key value) es) ≡ true → is_sorted (λ a b. R (key a) (key b)) es ≡ true
   sorted_listed [] h = refl
   sorted_listed (e ∷ es) h = rw (below_listed e.0 es) (grind (arith, and_parts, sorted_listed es))
 
   -- the greatest key of what a `BTreeMap` shows
-  each_shown : (P : K → Type 0) (es : List (L × V)) → AllByRecursion (λ l. P (key l)) (keys_of es) → AllByRecursion (λ e. P e.0) (map (shown_entry R key value) es)
+  each_shown : (P : K → Type 0) (es : List (L × V)) → AllByRecursion (λ l. P (key l)) (keys_of es) → AllByRecursion (λ e. P e.0) (map (shown_entry key value) es)
   each_shown P [] all = tt
   each_shown P (e ∷ es) all = (all.0, each_shown P es all.1)
 
@@ -90,7 +85,7 @@ module _ {L V K X : Type 0} (R : K → K → Ordering) (key : L → K) (value : 
       → is_lt (R (key l) k) ≡ is_last m k
   last_shown es m l v k is here most =
       above_greatest o same m (key l) k (value v) (ap (λ m. get m (key l)) (sym is) ∙ get-shown R key value o es (key l) ∙ ap (option_map value) here)
-      (λ q y f. all_found o same (λ q y. is_lt (R (key l) q) ≡ false) (map (shown_entry R key value) es)
+      (λ q y f. all_found o same (λ q y. is_lt (R (key l) q) ≡ false) (map (shown_entry key value) es)
       (each_shown (λ q. is_lt (R (key l) q) ≡ false) es (recursion_from_All (λ q. is_lt (R (key l) (key q)) ≡ false) (keys_of es) most)) q y (sym (get-from_entries o _ q) ∙ ap (λ m. get m q) is ∙ f))
 
   pub none_shown : (es : List (L × V)) (m : FinMap R X) (k : K) → shown R key value es ≡ m → es ≡ [] → true ≡ is_last m k

@@ -5,7 +5,7 @@ use Rattle.std.{proofs.lemmas.List.Sums.{list_all-from_AllPass}, specs.{Cmp.{IsT
 use Rattle.std.specs.FinMap.{len-entries, len-empty, entries, insert, put, find, is_sorted, entries-insert, get-insert, entries_sorted, get-entries}
 use Rattle.std.specs.{FinMap.{IsAntisymmetric, Entries.{below_all}}, List.{list_all, AllByRecursion}, Ordering.{is_lt, eq_by_cmp, ordering_reverse}}
 use Rattle.std.specs.{Prelude.{◌↔◌}, declared.cmp.Ordering.{Ordering, TheVariants.{Less, Greater}}}
-use Rattle.nntp_wire.proofs.ShownMaps.{equal_is}
+use Rattle.nntp_article.proofs.ShownMaps.{equal_is}
 use Rattle.nntp_store.specs.Ascending.{is_last}
 
 pub is_passed : (b : Bool) → T b → b ≡ true

@@ -5,8 +5,8 @@ use Rattle.std.{proofs.lemmas.{Map.Text.{is_eq-slice_cmp}, Slice.Eq.{bytes_eq-De
 use Rattle.std.specs.{Cmp.{nat_cmp_total, Lexicographic.{slice_cmp}}, FinMap.{get, insert, empty, entries, find, put, entries-insert, get-entries}}
 use Rattle.std.specs.{List.{list_all, list_any}, Ordering.{nat_cmp, is_eq}, Prelude.{◌||◌, bytes_eq}, Rc.{rc_str_bytes}, declared.cmp.Ordering.{Ordering}}
 use Rattle.std.specs.declared.rc.RcStr.{RcStr}
-use Rattle.nntp_article.{specs.{Article.Parts.{Id}, Session.Spool.{Numbers}}, proofs.SessionLemmas.SetKeys.{or_swap, any-insert_key}}
-use Rattle.nntp_wire.proofs.ShownMaps.{list_all-map}
+use Rattle.nntp_article.{specs.{Article.Parts.{Id}, Inner.ShownMap.{shown_entry}, Session.Spool.{Numbers}}, proofs.SessionLemmas.SetKeys.{or_swap}}
+use Rattle.nntp_article.proofs.{SessionLemmas.SetKeys.{any-insert_key}, ShownMaps.{list_all-map}}
 use Rattle.nntp_store.specs.{Inner.Numbers.{AreIdsOf, AreKnown, AreAscending, numbers_shown, with_number}, Numbers.{has_id}}
 use Rattle.nntp_store.proofs.{MapEntries.{entries-empty, some_none}, ShownMaps.{octet_keys}, ShownNumbers.{each_entry}}
 
@@ -62,13 +62,13 @@ module _ {A : Type 0} where
   pub listed_id : (ids : List (ℕ × RcStr A)) (id : Id) → AreAscending ids → list_any (λ e. bytes_eq (rc_str_bytes e.1) id) ids ≡ has_id (numbers_shown ids) id
   listed_id ids id h = sym (ap (list_any (λ (e : ℕ × Id). bytes_eq e.1 id)) (each_entry ids h) ∙ any_octets ids)
     where
-      any_octets : (ids : List (ℕ × RcStr A)) → list_any (λ (e : ℕ × Id). bytes_eq e.1 id) (map (λ e. (e.0, rc_str_bytes e.1)) ids) ≡ list_any (λ e. bytes_eq (rc_str_bytes e.1) id) ids
+      any_octets : (ids : List (ℕ × RcStr A)) → list_any (λ (e : ℕ × Id). bytes_eq e.1 id) (map (shown_entry (λ n. n) rc_str_bytes) ids) ≡ list_any (λ e. bytes_eq (rc_str_bytes e.1) id) ids
       any_octets [] = refl
       any_octets (e ∷ ids) = ap (λ b. bytes_eq (rc_str_bytes e.1) id || b) (any_octets ids)
 
   -- a test of each id of a list of numbers
   pub all_listed : (t : Id → Bool) (ids : List (ℕ × RcStr A)) → AreAscending ids → list_all (λ e. t (rc_str_bytes e.1)) ids ≡ list_all (λ e. t e.1) (entries (numbers_shown ids))
-  all_listed t ids h = sym (ap (list_all (λ (e : ℕ × Id). t e.1)) (each_entry ids h) ∙ list_all-map (λ (e : ℕ × Id). t e.1) (λ e. (e.0, rc_str_bytes e.1)) ids)
+  all_listed t ids h = sym (ap (list_all (λ (e : ℕ × Id). t e.1)) (each_entry ids h) ∙ list_all-map (λ (e : ℕ × Id). t e.1) (shown_entry (λ n. n) rc_str_bytes) ids)
 
   abbrev octets_cmp : RcStr A → RcStr A → Ordering
   octets_cmp a b = slice_cmp nat_cmp (rc_str_bytes a) (rc_str_bytes b)

@@ -1,16 +1,14 @@
 -- The numbers of a group that are read are those that are written, and those that are written are read.
-use Rattle.std.proofs.Common.{◌≡◌, ℕ, zero, suc, ◌+◌, ◌^◌, ◌<◌, ◌≤◌, Bool, true, false, not, cond, List, [], ◌∷◌, ◌++◌, Option, Some, Result, Ok, Err, length}
-use Rattle.std.proofs.{Common.{refl, sym, ap, subst, ◌∙◌, append_assoc, length-append, arith}, lemmas.Bool.{and_parts, Decides.{nat_tests}}}
-use Rattle.std.{proofs.lemmas.List.{append-nil, map-append}, specs.{Prelude.{map}, Ordering.{nat_cmp}, Cmp.{nat_cmp_total}, FinMap.{empty, entries, insert}}}
-use Rattle.std.specs.FinMap.{len, len-entries, same_entries_map}
+use Rattle.std.proofs.Common.{◌≡◌, ℕ, zero, suc, ◌+◌, ◌^◌, ◌<◌, Bool, true, false, not, cond, List, [], ◌∷◌, ◌++◌, Option, Some, Result, Ok, Err, length, refl}
+use Rattle.std.{proofs.{Common.{sym, ap, subst, ◌∙◌, append_assoc, length-append, arith}, lemmas.List.{append-nil, map-append}}, specs.Prelude.{map}}
+use Rattle.std.specs.{Ordering.{nat_cmp}, Cmp.{nat_cmp_total}, FinMap.{empty, entries, insert, len, len-entries, same_entries_map}}
 use Rattle.nntp_wire.specs.Decided.{is_message_id}
 use Rattle.nntp_article.specs.{Article.Parts.{Line}, Session.{Spool.{Numbers}, Machine.{is_article_number}}}
-use Rattle.nntp_store.specs.{declared.text.read_fault.ReadFault.{ReadFault}, Text.{number_line}, Reading.{◌>>=◌, fault, shaped, Place, line_at, next_line}}
-use Rattle.nntp_store.specs.{Reading.{number_in, number_at, numbers_at, repeat}, Fields.{fields_of, number_and_id}, Ascending.{is_last}, Numbers.{has_id}}
+use Rattle.nntp_store.specs.{declared.text.read_fault.ReadFault.{ReadFault}, Text.{number_line}, Reading.{◌>>=◌, shaped, Place, line_at, next_line, number_in}}
+use Rattle.nntp_store.specs.{Reading.{number_at, numbers_at, repeat}, Fields.{fields_of, number_and_id}, Ascending.{is_last}, Numbers.{has_id}}
 use Rattle.nntp_store.{specs.Inner.Content.{AreNumbers}, proofs.NumbersInOrder.{num_between, no_numbers, one_more, Follows, follows, number_lines}}
 use Rattle.nntp_store.proofs.{MapEntries.{entries-empty, entries-insert_last, next_entry}, LineFields.{id-lacks, id-some, number_and_id-number_line}}
 use Rattle.nntp_store.proofs.LineFields.{number_line-number_and_id}
-use Rattle.nntp_store.specs.declared.text.read_fault.Kind.TheVariants as kinds
 
 -- the value of a step that did not fail
 pub bind_ok : {A B : Type 0} (r : Result A ReadFault) (f : A → Result B ReadFault) (y : B) → (r >>= f) ≡ Ok y → (x : A) × (r ≡ Ok x) × (f x ≡ Ok y)

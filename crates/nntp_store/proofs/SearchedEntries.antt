@@ -6,7 +6,7 @@ use Rattle.std.{proofs.lemmas.Option.{slice_get-get_or, slice_get_within, get_or
 use Rattle.std.specs.{FinMap.{is_sorted, IsAntisymmetric, Entries.{below_all}}, List.{slice_get, AllByRecursion, Sorted.{IsNonDecreasingBy, IsPartitionPoint}}}
 use Rattle.std.specs.{List.Sorted.{IsStrictlySortedBy}, Map.{lookup, keys_of}, Ordering.{is_lt, is_eq, eq_by_cmp, ordering_index}}
 use Rattle.std.specs.declared.cmp.Ordering.{Ordering, TheVariants.{Less, Equal, Greater}}
-use Rattle.nntp_wire.proofs.ShownMaps.{shown, shown_entry, get-shown, equal_is}
+use Rattle.nntp_article.{specs.Inner.ShownMap.{shown, shown_entry}, proofs.ShownMaps.{get-shown, equal_is}}
 use Rattle.nntp_store.proofs.MapEntries.{less_is}
 
 not_less : (r : Ordering) → r ≡ Less → r ≡ Equal → ⊥
@@ -22,18 +22,18 @@ module _ {L V K X : Type 0} (R : K → K → Ordering) (key : L → K) (value : 
   ties : IsEquivalence (λ (a b : L). eq_by_cmp R (key a) (key b))
   ties = grind arith
 
-  above : (l : L) (es : List (L × V)) → below_all R (key l) (map (shown_entry R key value) es) ≡ true → AllByRecursion (λ k. R (key l) (key k) ≡ Less) (keys_of es)
+  above : (l : L) (es : List (L × V)) → below_all R (key l) (map (shown_entry key value) es) ≡ true → AllByRecursion (λ k. R (key l) (key k) ≡ Less) (keys_of es)
   above l [] h = tt
   above l (e ∷ es) h = grind (arith, and_parts, less_is, above l es)
 
   -- the keys ascend in std's words
-  pub strict : (es : List (L × V)) → is_sorted R (map (shown_entry R key value) es) ≡ true → IsStrictlySortedBy (λ a b. R (key a) (key b)) (keys_of es)
+  pub strict : (es : List (L × V)) → is_sorted R (map (shown_entry key value) es) ≡ true → IsStrictlySortedBy (λ a b. R (key a) (key b)) (keys_of es)
   unfolding IsStrictlySortedBy
   strict [] h = tt
   strict (e ∷ es) h = grind (arith, and_parts, above, strict es)
 
   -- an element whose key is the one that is looked for
-  pub found_at : (es : List (L × V)) (q : K) (i : ℕ) (d : L × V) → is_sorted R (map (shown_entry R key value) es) ≡ true → i < length es → R (key (get_or es i d).0) q ≡ Equal
+  pub found_at : (es : List (L × V)) (q : K) (i : ℕ) (d : L × V) → is_sorted R (map (shown_entry key value) es) ≡ true → i < length es → R (key (get_or es i d).0) q ≡ Equal
       → Some (value (get_or es i d).1) ≡ get (shown R key value es) q
   found_at es q i d sorted lt equal =
       let e = get_or es i d in
@@ -53,7 +53,7 @@ module _ {L V K X : Type 0} (R : K → K → Ordering) (key : L → K) (value : 
       by (Some v) e = let p = place_from_lookup (λ l. is_eq (R q (key l))) es v e in absurd (no_tie p.0 (p.1, v) p.2 p.3)
 
   -- the keys are such as a binary search asks for
-  pub searchable : (es : List (L × V)) (q : K) → is_sorted R (map (shown_entry R key value) es) ≡ true → IsNonDecreasingBy (λ e. ordering_index (R (key e.0) q)) es
+  pub searchable : (es : List (L × V)) (q : K) → is_sorted R (map (shown_entry key value) es) ≡ true → IsNonDecreasingBy (λ e. ordering_index (R (key e.0) q)) es
   searchable es q sorted = searchable_from_sorted o (λ (e : L × V). key e.0) es q (λ k d le lt.
       let less : R (key (get_or (keys_of es) k d.0)) (key (get_or (keys_of es) (k + 1) d.0)) ≡ Less =
       Less-from_sorted (λ a b. R (key a) (key b)) (keys_of es) k (k + 1) d.0 (strict es sorted) (omega arith) (rw (length-keys_of es) lt) in

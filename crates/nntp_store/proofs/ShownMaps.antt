@@ -1,34 +1,27 @@
 -- The entries of the maps that a spool in code shows.
 use Rattle.std.proofs.Common.{arith, ◌≡◌, ◌⊎◌, ⊎_elim, inl, inr, None, Result, List, map, sym, ap, subst, ◌∙◌, false, ℕ, [], ◌∷◌, refl}
 use Rattle.std.proofs.lemmas.{Bool.{false_from_ne_true}, Map.Text.{is_eq-slice_cmp}, Slice.Eq.{bytes_eq-Decides}, Str.{IsUtf8-string_bytes}}
-use Rattle.std.specs.{Cmp.Lexicographic.{slice_cmp, nat_list_cmp_total}, FinMap.{FinMap, empty, get, insert, entries, from_entries, IsAntisymmetric}}
-use Rattle.std.specs.{FinMap.{nat_cmp-IsAntisymmetric, slice_cmp-IsAntisymmetric}, List.Sorted.{IsStrictlySortedBy}, Map.{keys_of, lookup}, Ordering.{nat_cmp}}
-use Rattle.std.specs.{Ordering.{is_eq}, Prelude.{String, OnOk, OnErr}, Rc.{rc_str_bytes}, Str.{IsUtf8}, String.{string_bytes}, declared.rc.RcStr.{RcStr}}
-use Rattle.nntp_wire.proofs.ShownMaps.{entries-shown, get-shown, option_map_id}
-use Rattle.nntp_article.specs.{Article.Parts.{Id}, Session.Spool.{Name, Spool, Numbers, Text}}
-use Rattle.nntp_store.specs.{Content.{no_spool, with_article}, Inner.{ArticleLines.{text_stored, HasLineCount}, Text.{HasLineCounts}}}
-use Rattle.nntp_store.{specs.declared.value.article.StoredArticle.{StoredArticle}, proofs.MapEntries.{empty_has, got_more}}
+use Rattle.std.specs.{Cmp.Lexicographic.{slice_cmp, nat_list_cmp_total}, FinMap.{FinMap, empty, get, insert, entries}, List.Sorted.{IsStrictlySortedBy}}
+use Rattle.std.specs.{Map.{keys_of, lookup}, Ordering.{nat_cmp, is_eq}, Prelude.{String, OnOk, OnErr}, Rc.{rc_str_bytes}, Str.{IsUtf8}, String.{string_bytes}}
+use Rattle.std.specs.declared.rc.RcStr.{RcStr}
+use Rattle.nntp_article.{proofs.ShownMaps.{entries-shown, get-shown, option_map_id}, specs.{Article.Parts.{Id}, Inner.ShownMap.{shown, shown_entry}}}
+use Rattle.nntp_article.specs.Session.Spool.{Name, Spool, Numbers, Text}
+use Rattle.nntp_store.{specs.{Content.{no_spool, with_article}, Inner.{ArticleLines.{HasLineCount}, Text.{HasLineCounts}}}, proofs.MapEntries.{empty_has}}
+use Rattle.nntp_store.proofs.MapEntries.{got_more}
+pub use Rattle.nntp_article.proofs.ShownMaps.{octet_keys}
 
 pub spool_is : (a b : Spool) → a.groups ≡ b.groups → a.articles ≡ b.articles → a ≡ b
 spool_is a b e f i = record { groups = e i; articles = f i }
 
--- equal keys of octets are one
-pub octet_keys : IsAntisymmetric (slice_cmp nat_cmp)
-octet_keys = slice_cmp-IsAntisymmetric nat_cmp-IsAntisymmetric
-
 module _ {A : Type 0} where
-  pub group_entries : (es : List (String A × Numbers)) (m : FinMap (slice_cmp nat_cmp) Numbers) → from_entries (map (λ e. (string_bytes e.0, e.1)) es) ≡ m
-      → IsStrictlySortedBy (λ a b. slice_cmp nat_cmp (string_bytes a) (string_bytes b)) (keys_of es) → map (λ e. (string_bytes e.0, e.1)) es ≡ entries m
-  group_entries es m is ordered = sym (entries-shown (slice_cmp nat_cmp) (λ k. string_bytes k) (λ v. v) nat_list_cmp_total octet_keys es ordered) ∙ ap entries is
+  pub group_entries : (es : List (String A × Numbers)) (m : FinMap (slice_cmp nat_cmp) Numbers) → shown (slice_cmp nat_cmp) string_bytes (λ N. N) es ≡ m
+      → IsStrictlySortedBy (λ a b. slice_cmp nat_cmp (string_bytes a) (string_bytes b)) (keys_of es) → map (shown_entry string_bytes (λ N. N)) es ≡ entries m
+  group_entries es m is ordered = sym (entries-shown (slice_cmp nat_cmp) string_bytes (λ N. N) nat_list_cmp_total octet_keys es ordered) ∙ ap entries is
 
   -- what is looked up by a name
-  pub group_got : (es : List (String A × Numbers)) (m : FinMap (slice_cmp nat_cmp) Numbers) (name : Name) → from_entries (map (λ e. (string_bytes e.0, e.1)) es) ≡ m
+  pub group_got : (es : List (String A × Numbers)) (m : FinMap (slice_cmp nat_cmp) Numbers) (name : Name) → shown (slice_cmp nat_cmp) string_bytes (λ N. N) es ≡ m
       → lookup (λ k. is_eq (slice_cmp nat_cmp name (string_bytes k))) es ≡ get m name
-  group_got es m name is = sym (option_map_id _) ∙ sym (get-shown (slice_cmp nat_cmp) (λ k. string_bytes k) (λ v. v) nat_list_cmp_total es name) ∙ ap (λ m. get m name) is
-
-  pub article_entries : (es : List (RcStr A × StoredArticle A)) (m : FinMap (slice_cmp nat_cmp) Text) → from_entries (map (λ e. (rc_str_bytes e.0, text_stored e.1)) es) ≡ m
-      → IsStrictlySortedBy (λ a b. slice_cmp nat_cmp (rc_str_bytes a) (rc_str_bytes b)) (keys_of es) → map (λ e. (rc_str_bytes e.0, text_stored e.1)) es ≡ entries m
-  article_entries es m is ordered = sym (entries-shown (slice_cmp nat_cmp) (λ k. rc_str_bytes k) text_stored nat_list_cmp_total octet_keys es ordered) ∙ ap entries is
+  group_got es m name is = sym (option_map_id _) ∙ sym (get-shown (slice_cmp nat_cmp) string_bytes (λ N. N) nat_list_cmp_total es name) ∙ ap (λ m. get m name) is
 
 -- no article has no lines
 pub none_counted : HasLineCounts no_spool
@@ -64,7 +57,7 @@ module _ {L : Type 0} (key : L → List ℕ) (text : (k : L) → IsUtf8 (key k))
 
 module _ {A X : Type 0} (q : List ℕ) (not_text : IsUtf8 q → ⊥) where
   pub no_key : (es : List (RcStr A × X)) → lookup (λ k. is_eq (slice_cmp nat_cmp q (rc_str_bytes k))) es ≡ None
-  no_key es = none_tied (λ k. rc_str_bytes k) key_is_text q not_text es
+  no_key es = none_tied rc_str_bytes key_is_text q not_text es
 
   pub no_name : (es : List (String A × X)) → lookup (λ k. is_eq (slice_cmp nat_cmp q (string_bytes k))) es ≡ None
-  no_name es = none_tied (λ k. string_bytes k) IsUtf8-string_bytes q not_text es
+  no_name es = none_tied string_bytes IsUtf8-string_bytes q not_text es

@@ -1,13 +1,13 @@
 -- What a list of ascending numbers shows.
-use Rattle.std.proofs.Common.{◌≡◌, ◌⊎◌, inl, inr, ⊎_elim, ℕ, ◌-◌, ◌+◌, ◌<◌, ◌≤◌, suc, Bool, true, false, T, Option, None, Some, is_some, List, [], ◌∷◌, ◌++◌}
-use Rattle.std.proofs.{Common.{map, length, take, drop, append_assoc, refl, sym, ap, subst, ◌∙◌, arith}, Math.ListN.{get_or-map}, lemmas.Bool.{and_parts}}
-use Rattle.std.proofs.lemmas.{Bool.Decides.{nat_tests}, List.{append-nil, map-append, take-append-drop, length-map, length-take-le, length-drop, get_or-take}}
-use Rattle.std.proofs.lemmas.{List.{get_or-drop, Elements.{recursion_from_All}}, Map.{Entries.{length-keys_of}, Keys.{non_decreasing_from_sorted}}}
-use Rattle.std.specs.{Cmp.{nat_cmp_total}, FinMap.{get, len, len-entries, insert, put, is_sorted, entries, entries-insert, same_entries_map, entries_sorted}}
+use Rattle.std.proofs.Common.{◌≡◌, ◌⊎◌, inl, inr, ⊎_elim, ℕ, ◌-◌, ◌<◌, ◌≤◌, suc, Bool, true, false, Option, None, Some, is_some, List, [], ◌∷◌, ◌++◌, map}
+use Rattle.std.proofs.{Common.{length, take, drop, append_assoc, refl, sym, ap, subst, ◌∙◌, arith}, Math.ListN.{get_or-map}, lemmas.Bool.{and_parts}}
+use Rattle.std.proofs.lemmas.{Bool.Decides.{nat_tests}, List.{append-nil, map-append, take-append-drop, length-take-le, length-drop, get_or-take, get_or-drop}}
+use Rattle.std.proofs.lemmas.{List.Elements.{recursion_from_All}, Map.{Entries.{length-keys_of}, Keys.{non_decreasing_from_sorted}}}
+use Rattle.std.specs.{Cmp.{nat_cmp_total}, FinMap.{get, len, insert, put, is_sorted, entries, entries-insert, same_entries_map, entries_sorted}}
 use Rattle.std.specs.{FinMap.{nat_cmp-IsAntisymmetric, Entries.{below_all}}, List.{slice_get, insert as list_insert, AllByRecursion}}
 use Rattle.std.specs.{List.Sorted.{IsNonDecreasingBy, IsPartitionPoint}, Map.{keys_of}, Ordering.{nat_cmp}, Rc.{rc_str_bytes}, declared.rc.RcStr.{RcStr}}
-use Rattle.nntp_article.specs.{Inner.Spool.{IsFirst}, Session.Spool.{Numbers, IsNumber, IsNextAbove, IsNextBelow, NoneAbove, NoneBelow}}
-use Rattle.nntp_wire.proofs.ShownMaps.{entries-from_entries}
+use Rattle.nntp_article.specs.{Inner.{Spool.{IsFirst}, ShownMap.{shown_entry}}, Session.Spool.{Numbers, IsNumber, IsNextAbove, IsNextBelow, NoneAbove}}
+use Rattle.nntp_article.{specs.Session.Spool.{NoneBelow}, proofs.ShownMaps.{entries-ascending, len-ascending}}
 use Rattle.nntp_store.{specs.Inner.Numbers.{numbers_shown, AreAscending, AreParts}, proofs.GatheredEntries.{first_is, last_is, nothing, none_listed}}
 use Rattle.nntp_store.proofs.{MapEntries.{value_of_some, all_got, placed, is_passed}, SearchedEntries.{strict}}
 
@@ -24,7 +24,7 @@ module _ {A : Type 0} where
   Each P ids = AllByRecursion (λ e. P e.0) ids
 
   abbrev octets : ℕ × RcStr A → ℕ × List ℕ
-  octets e = (e.0, rc_str_bytes e.1)
+  octets = shown_entry (λ n. n) rc_str_bytes
 
   abbrev Has : Numbers → ℕ × RcStr A → Type 0
   Has N e = get N e.0 ≡ Some (rc_str_bytes e.1)
@@ -34,17 +34,17 @@ module _ {A : Type 0} where
   shown_each P (e ∷ ids) all = (all.0, shown_each P ids all.1)
 
   pub each_entry : (ids : List (ℕ × RcStr A)) → AreAscending ids → entries (numbers_shown ids) ≡ map octets ids
-  each_entry ids h = entries-from_entries nat_cmp_total nat_cmp-IsAntisymmetric (map octets ids) (subst T (sym h) tt)
+  each_entry ids h = entries-ascending nat_cmp (λ n. n) rc_str_bytes nat_cmp_total nat_cmp-IsAntisymmetric ids h
 
   pub how_many : (ids : List (ℕ × RcStr A)) → AreAscending ids → length ids ≡ len (numbers_shown ids)
-  how_many ids h = sym (len-entries (numbers_shown ids) ∙ ap length (each_entry ids h) ∙ length-map ids octets)
+  how_many ids h = sym (len-ascending nat_cmp (λ n. n) rc_str_bytes nat_cmp_total nat_cmp-IsAntisymmetric ids h)
 
   -- ---- a list is parted
 
   -- the numbers don't fall, as a binary search asks for
   pub rise : (ids : List (ℕ × RcStr A)) → AreAscending ids → IsNonDecreasingBy (λ e. e.0) ids
   rise ids h = λ i j d le lt.
-      let sorted = strict nat_cmp (λ k. k) (λ v. rc_str_bytes v) nat_cmp_total nat_cmp-IsAntisymmetric ids h in
+      let sorted = strict nat_cmp (λ n. n) rc_str_bytes nat_cmp_total nat_cmp-IsAntisymmetric ids h in
       let up = non_decreasing_from_sorted (keys_of ids) sorted i j d.0 le (rw (length-keys_of ids) lt) in
       rw (get_or-map (λ (e : ℕ × RcStr A). e.0) ids i d, get_or-map (λ (e : ℕ × RcStr A). e.0) ids j d) at up
 

@@ -1,7 +1,7 @@
 -- The segments of octets between the octets that are a given one.
-use Rattle.std.proofs.Common.{◌≡◌, ℕ, zero, suc, ◌+◌, true, false, cond, eqb, List, [], ◌∷◌, Option, None, Some, Ok, length, take, drop, add-one, refl, sym, ap}
-use Rattle.std.proofs.{Common.{◌∙◌, arith}, lemmas.{List.{drop-drop, Splits.{slice_split_first, slice_split_none}, Sums.{fails_before_first}}, Bool.{cases_lt}}}
-use Rattle.std.{proofs.lemmas.Bool.{le-ltb, lt-ltb}, specs.{List.{slice_split, onto_first}, Prelude.{position}}}
+use Rattle.std.proofs.Common.{◌≡◌, ℕ, ◌+◌, true, false, cond, eqb, List, [], ◌∷◌, Option, None, Some, Ok, length, take, drop, refl, sym, ap, ◌∙◌, arith}
+use Rattle.std.proofs.lemmas.{List.{drop-drop, Splits.{slice_split_first, slice_split_none}, Sums.{fails_before_first}}, Bool.{cases_lt, le-ltb, lt-ltb}}
+use Rattle.std.specs.{List.{slice_split, onto_first}, Prelude.{position}}
 use Rattle.memchr.specs.Find.{IsFirstByte, is_byte}
 use Rattle.nntp_wire.proofs.ArgumentLemmas.{position-found}
 use Rattle.nntp_article.specs.Article.Parts.{is_empty}

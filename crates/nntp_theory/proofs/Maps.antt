@@ -4,7 +4,7 @@ use Rattle.std.proofs.lemmas.{List.{length-map, map-id}, Map.{Keys.{IsDistinct-f
 use Rattle.std.specs.{List.{IsDistinct, AllByRecursion, Sorted.{IsStrictlySortedBy}}, declared.cmp.Ordering.{Ordering, TheVariants.{Less}}}
 use Rattle.std.specs.{Ordering.{eq_by_cmp}, Cmp.{IsTotalOrder, eq_by_cmp_equiv}, FinMap.{FinMap, get, len, find, is_sorted, keys, entries, entries_sorted}}
 use Rattle.std.specs.FinMap.{len-entries, get-entries, contains_key-keys, from_entries, get-from_entries, IsAntisymmetric, Entries.{below_all, same_entries}}
-use Rattle.nntp_wire.proofs.ShownMaps.{sorted_shown}
+use Rattle.nntp_article.proofs.ShownMaps.{sorted_shown}
 use Rattle.nntp_theory.proofs.Members.{In, all_at, any_in, in_map, from_map}
 
 -- ---- keys in order

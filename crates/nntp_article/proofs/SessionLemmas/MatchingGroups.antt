@@ -5,10 +5,9 @@ use Rattle.std.proofs.lemmas.Map.{Keys.{IsDistinct-from_sorted, IsDistinct-cons}
 use Rattle.std.{proofs.lemmas.Map.Text.{is_eq-slice_cmp}, specs.{Prelude.{◌||◌}, declared.cmp.Ordering.{Ordering, TheVariants.{Less}}, Ordering.{nat_cmp}}}
 use Rattle.std.specs.{Ordering.{is_lt, eq_by_cmp}, Cmp.{eq_by_cmp_equiv, Lexicographic.{slice_cmp, nat_list_cmp_total}}, List.{list_all, list_any, count_by}}
 use Rattle.std.specs.{List.{filter, AllByRecursion, IsDistinct, Sorted.{IsStrictlySortedBy}}, Map.{keys_of}, Set.{is_member}, FinMap.{FinMap, get, entries}}
-use Rattle.std.specs.FinMap.{find, is_sorted, entries_sorted, get-entries, IsAntisymmetric, nat_cmp-IsAntisymmetric, slice_cmp-IsAntisymmetric}
-use Rattle.std.specs.FinMap.Entries.{below_all, is_some-find, find-where_key}
-use Rattle.nntp_wire.{specs.Listing.{ActiveValue}, proofs.ShownMaps.{equal_is}}
-use Rattle.nntp_article.specs.Session.{Spool.{Name}, Machine.{is_same, all_differ, group_names, names_differ}}
+use Rattle.std.specs.FinMap.{find, is_sorted, entries_sorted, get-entries, Entries.{below_all, is_some-find, find-where_key}}
+use Rattle.nntp_wire.specs.Listing.{ActiveValue}
+use Rattle.nntp_article.{proofs.ShownMaps.{equal_is, octet_keys}, specs.Session.{Spool.{Name}, Machine.{is_same, all_differ, group_names, names_differ}}}
 
 abbrev pub same_name : Name → Name → Bool
 same_name a b = eq_by_cmp (slice_cmp nat_cmp) a b
@@ -44,10 +43,6 @@ less_is r e = grind arith
 
 is_passed : (b : Bool) → T b → b ≡ true
 is_passed b h = grind arith
-
--- equal keys of octets are one
-octet_keys : IsAntisymmetric (slice_cmp nat_cmp)
-octet_keys = slice_cmp-IsAntisymmetric nat_cmp-IsAntisymmetric
 
 module _ {X : Type 0} where
   below_keys : (k : Name) (es : List (Name × X)) → below_all (slice_cmp nat_cmp) k es ≡ true → AllByRecursion (λ y. slice_cmp nat_cmp k y ≡ Less) (keys_of es)

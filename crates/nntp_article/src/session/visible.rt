@@ -34,10 +34,9 @@ pub struct Visible<A: Allocator = Global> {
 }
 
 impl<A: Allocator> Model for Visible<A> {
-    ghost use Rattle.std.specs.Prelude.{option_map, map};
-    ghost use Rattle.std.specs.FinMap.{from_entries};
+    ghost use Rattle.std.specs.{Prelude.{option_map}, Ordering.{nat_cmp}, Cmp.Lexicographic.{slice_cmp}};
     ghost use Rattle.nntp_article.specs.Session.Machine.{Visible as VisibleState};
-    ghost use Rattle.nntp_article.specs.Inner.Coded.{coded_visible};
+    ghost use Rattle.nntp_article.specs.Inner.{Coded.{coded_visible}, ShownMap.{shown}};
 
     ghost Value = { VisibleState };
 
@@ -46,8 +45,7 @@ impl<A: Allocator> Model for Visible<A> {
     ghost view = { λ a. record {
       closed = a.closed;
       selected = option_map (λ name. name.items) a.selected;
-      lows = from_entries
-          (map (λ e. (e.0.items, e.1)) a.lows.entries);
+      lows = shown (slice_cmp nat_cmp) (λ name. name.items) (λ low. low) a.lows.entries;
     } };
 }
 

@@ -1,8 +1,8 @@
 -- What is shown of the groups that are kept.
 use Rattle.nntp_facts.proofs.Base.{◌≡◌, Bool, ◌==◌, ◌||◌, List, [], ◌∷◌, map, Some, refl, sym, ap, subst, ◌∙◌, arith, list_any, AllByRecursion, nat_cmp}
-use Rattle.nntp_facts.proofs.Base.{eq_by_cmp, slice_cmp, nat_list_cmp_total, FinMap, get, entries, slice_cmp-IsAntisymmetric, nat_cmp-IsAntisymmetric, Name}
-use Rattle.nntp_facts.proofs.Base.{is_same, Fact, asks_of, AsksStand, sorted_keys, in_get, In, all_from, from_map, KeptGroup, told, AreKeptGroups, are_unseen}
-use Rattle.nntp_facts.{proofs.Keeping.{KeptGroups.{kept_of, shown_kept}, FactsOfOneGroup.{flip_number, flip_text}}, specs.Inner.Kept.{IsKeptGroup}}
+use Rattle.nntp_facts.proofs.Base.{eq_by_cmp, slice_cmp, nat_list_cmp_total, FinMap, get, entries, octet_keys, Name, is_same, Fact, asks_of, AsksStand}
+use Rattle.nntp_facts.proofs.{Base.{sorted_keys, in_get, In, all_from, from_map, KeptGroup, told, AreKeptGroups, are_unseen}, Keeping.KeptGroups.{kept_of}}
+use Rattle.nntp_facts.{proofs.Keeping.{KeptGroups.{shown_kept}, FactsOfOneGroup.{flip_number, flip_text}}, specs.Inner.Kept.{IsKeptGroup}}
 use Rattle.nntp_facts.specs.Inner.Readers.{shown_groups, AreShownNumbers, HasShownNumbers, AreShownGroups, ShownGroup, with_ids, shown_group}
 use Rattle.std.{specs.{FinMap.{entries_sorted, contains_key-keys}, List.Sorted.{IsStrictlySortedBy}, BTreeMap.{is_at}}, proofs.lemmas.List.{map-id}}
 
@@ -43,7 +43,7 @@ groups_shown facts groups stand kept = record {
   all = λ name. any_along one (λ e. e.0) (λ g. is_same g.name name) (eq_by_cmp (slice_cmp nat_cmp) name) (entries groups) (λ e. sym (flip_text name e.0))
       ∙ sym (contains_key-keys groups name) ∙ shown_kept (told facts) groups name kept;
   each = all_along (HasShownNumbers facts) one (entries groups) (λ e i.
-      let at = in_get nat_list_cmp_total (slice_cmp-IsAntisymmetric nat_cmp-IsAntisymmetric) groups e.0 e.1 i in
+      let at = in_get nat_list_cmp_total octet_keys groups e.0 e.1 i in
       let is = kept_of (told facts) groups e.0 (Some e.1) at kept in
       record { numbers = shown_numbers facts e.0 e.1 is; unseen = are_unseen e.1.numbers (asks_of e.0 facts) is.numbers is.bounded (stand e.0) });
 }

@@ -1,11 +1,11 @@
 -- What is kept of articles, and what once something is said of an id, or it is noted.
 use Rattle.nntp_facts.proofs.Base.{◌≡◌, Bool, true, false, cond, ◌||◌, not, IsTrue, List, [], ◌∷◌, Option, None, Some, is_some, refl, ap, ◌∙◌, arith}
 use Rattle.nntp_facts.proofs.Base.{true≢false, ⊤, unwrap_or, list_any, filter, option_or, option_map_or, slice_cmp, same_text, nat_list_cmp_total, nat_cmp}
-use Rattle.nntp_facts.proofs.Base.{FinMap, get, entries, insert, get-insert, slice_cmp-IsAntisymmetric, nat_cmp-IsAntisymmetric, Id, Line, is_same, Fact}
-use Rattle.nntp_facts.proofs.Base.{shows_article, denies_article, said_of, join_said, AreSame, JoinArticle, in_get, In, same_itself, What, insert-same}
+use Rattle.nntp_facts.proofs.Base.{FinMap, get, entries, insert, get-insert, slice_cmp-IsAntisymmetric, octet_keys, nat_cmp-IsAntisymmetric, Id, Line, is_same}
+use Rattle.nntp_facts.proofs.Base.{Fact, shows_article, denies_article, said_of, join_said, AreSame, JoinArticle, in_get, In, same_itself, What, insert-same}
 use Rattle.nntp_facts.proofs.Base.{KeptArticle, said_kept, AreKeptArticles, IsAddedIf, with_new, articles_in, head_sent, body_sent, unsent, said_alone}
 use Rattle.nntp_facts.proofs.Base.{IsSaidKept, kept_by, IsSaidAdded, IsArticleAdded, Sends, or_none, telling, Fields, sym, subst, said_nothing, MayBeSent}
-use Rattle.nntp_facts.proofs.Base.{MayBeTold, with_sent, SaidJoins, ◌↔◌, MatchOption, eq_by_cmp_equiv, IsAntisymmetric, is_mentioned, get_in}
+use Rattle.nntp_facts.proofs.Base.{MayBeTold, with_sent, SaidJoins, ◌↔◌, MatchOption, eq_by_cmp_equiv, is_mentioned, get_in}
 use Rattle.nntp_facts.{proofs.Keeping.{SaidOfArticles.{nothing_more, nothing_joins}, FactsOfOneGroup.{flip_text}}, specs.Inner.Articles.{is_there, with_told}}
 
 abbrev pub Articles : Type 0
@@ -99,8 +99,7 @@ pub listed : (facts : List Fact) (articles : Articles) (id : Id) (a : KeptArticl
     → In (id, a) (articles_in (entries articles)) ↔ ((get articles id ≡ Some a) × IsTrue (list_any (shows_article id) facts))
 listed facts articles id a kept =
     let passes = in_filter (λ e. not e.1.is_denied) (id, a) (entries articles) in
-    let same : IsAntisymmetric (slice_cmp nat_cmp) = slice_cmp-IsAntisymmetric nat_cmp-IsAntisymmetric in
-    grind (arith, passes, in_get nat_list_cmp_total same articles id a, get_in nat_list_cmp_total same articles id a, shown_kept facts articles id kept)
+    grind (arith, passes, in_get nat_list_cmp_total octet_keys articles id a, get_in nat_list_cmp_total octet_keys articles id a, shown_kept facts articles id kept)
 
 -- ---- an id is noted
 

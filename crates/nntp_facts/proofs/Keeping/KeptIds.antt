@@ -1,11 +1,11 @@
 -- What is kept of ids: of those that have articles, once one is found or made, and of those that are denied.
 use Rattle.nntp_facts.proofs.Base.{◌≡◌, ℕ, Bool, false, cond, ◌&&◌, not, List, [], ◌∷◌, map, Option, None, Some, is_some, refl, sym, ap, subst, ◌∙◌, arith}
 use Rattle.nntp_facts.proofs.Base.{true≢false, false_from_ne_true, list_any, filter, option_or, option_map_or, Ordering, nat_cmp, is_eq, slice_cmp}
-use Rattle.nntp_facts.proofs.Base.{nat_list_cmp_total, same_text, get, insert, entries, get-insert, slice_cmp-IsAntisymmetric, nat_cmp-IsAntisymmetric}
-use Rattle.nntp_facts.proofs.Base.{rc_str_bytes, get-shown, replaced, insert-shown, insert-same, Id, is_same, SaidOfArticle, said_nothing, or_none, unwrap_or}
-use Rattle.nntp_facts.proofs.Base.{Equal, insert_entry, KeptArticle, said_kept, with_new, articles_in, unsent, known_article, from_entries, option_map}
-use Rattle.nntp_facts.{proofs.Keeping.{KeptArticles.{Articles, new_elsewhere, new_there}, KeptNames.{any_put, any-map, is_key}}, specs.Inner.Articles.{denied}}
-use Rattle.nntp_facts.specs.{Inner.{Articles.{is_there, with_denied}, ArticleView.{entries_value}}, declared.articles.known.KnownArticle.{KnownArticle}}
+use Rattle.nntp_facts.proofs.Base.{nat_list_cmp_total, same_text, get, insert, entries, get-insert, octet_keys, rc_str_bytes, get-shown, replaced, insert-shown}
+use Rattle.nntp_facts.proofs.Base.{insert-same, Id, is_same, SaidOfArticle, said_nothing, or_none, unwrap_or, Equal, insert_entry, KeptArticle, said_kept}
+use Rattle.nntp_facts.proofs.{Base.{with_new, articles_in, unsent, known_article, option_map}, Keeping.KeptArticles.{Articles, new_elsewhere, new_there}}
+use Rattle.nntp_facts.{proofs.Keeping.KeptNames.{any_put, any-map, is_key}, specs.Inner.Articles.{denied, is_there, with_denied}}
+use Rattle.nntp_facts.specs.{Inner.ArticleView.{articles_known}, declared.articles.known.KnownArticle.{KnownArticle}}
 use Rattle.std.{proofs.{Common.{Vec}, lemmas.{Map.Text.{is_eq-slice_cmp}, Slice.Eq.{bytes_eq-Decides}, Str.{IsUtf8-string_bytes}}}, specs.BTreeSet.{insert_key}}
 use Rattle.std.specs.{Map.{lookup, set_value}, declared.rc.RcStr.{RcStr}, FinMap.{find, put, get-entries, entries-insert, same_map}, Str.{IsUtf8}}
 
@@ -24,7 +24,7 @@ get-with_denied articles [] q = sym (or_none (get articles q))
 get-with_denied articles (id ∷ ids) q = grind (arith, get-with_new (with_denied articles ids) id q denied, get-with_denied articles ids q)
 
 same_articles : (a b : Articles) → ((q : Id) → get a q ≡ get b q) → a ≡ b
-same_articles = same_map nat_list_cmp_total (slice_cmp-IsAntisymmetric nat_cmp-IsAntisymmetric)
+same_articles = same_map nat_list_cmp_total octet_keys
 
 -- an article is put in beside denied ids
 pub with_denied-insert : (articles : Articles) (ids : List Id) (id : Id) (a : KeptArticle) → with_denied (insert articles id a) ids ≡ insert (with_denied articles ids) id a
@@ -60,8 +60,8 @@ no_key q not_text (e ∷ es) =
     rw other (no_key q not_text es)
 
 -- the ids as the code keeps them
-module _ {A : Type 0} (es : List (RcStr A × KnownArticle A)) (ks : List (Vec ℕ A)) (articles : Articles) (view : with_denied (from_entries (entries_value es)) (map (λ k. k.items) ks)
-    ≡ articles) (id : Id) where
+module _ {A : Type 0} (es : List (RcStr A × KnownArticle A)) (ks : List (Vec ℕ A)) (articles : Articles) (view : with_denied (articles_known es) (map (λ k. k.items) ks) ≡ articles)
+    (id : Id) where
   abbrev known : Option (KnownArticle A)
   known = lookup (λ k. is_eq (slice_cmp nat_cmp id (rc_str_bytes k))) es
 
@@ -70,8 +70,8 @@ module _ {A : Type 0} (es : List (RcStr A × KnownArticle A)) (ks : List (Vec �
 
   found : get articles id ≡ option_or (option_map known_article known) (if_denied is_denied)
   found =
-      ap (λ m. get m id) (sym view) ∙ get-with_denied (from_entries (entries_value es)) (map (λ k. k.items) ks) id
-      ∙ (λ i. option_or (get-shown (slice_cmp nat_cmp) (λ k. rc_str_bytes k) known_article nat_list_cmp_total es id i)
+      ap (λ m. get m id) (sym view) ∙ get-with_denied (articles_known es) (map (λ k. k.items) ks) id
+      ∙ (λ i. option_or (get-shown (slice_cmp nat_cmp) rc_str_bytes known_article nat_list_cmp_total es id i)
       (if_denied ((any-map (λ k. is_same k id) (λ k. k.items) ks ∙ sym (is_key (λ k. k.items) id ks)) i)))
 
   -- the id has an article exactly if one is known
@@ -99,11 +99,9 @@ module _ {A : Type 0} (es : List (RcStr A × KnownArticle A)) (ks : List (Vec �
 
   -- an article that is known is another from now on
   pub replaced_known : (fs : List (RcStr A × KnownArticle A)) (old new : KnownArticle A) → Some old ≡ known → fs ≡ set_value (λ k. is_eq (slice_cmp nat_cmp id (rc_str_bytes k))) es new
-      → (with_denied (from_entries (entries_value fs)) (map (λ k. k.items) ks) ≡ insert articles id (known_article new)) × (get articles id ≡ Some (known_article old))
+      → (with_denied (articles_known fs) (map (λ k. k.items) ks) ≡ insert articles id (known_article new)) × (get articles id ≡ Some (known_article old))
   replaced_known fs old new had is =
-      let articles_only : Articles = from_entries (entries_value es) in
-      let r = replaced (slice_cmp nat_cmp) (λ k. rc_str_bytes k) known_article nat_list_cmp_total
-      (slice_cmp-IsAntisymmetric nat_cmp-IsAntisymmetric) es fs articles_only id old new refl had is in grind (arith, with_denied-insert, found)
+      let r = replaced (slice_cmp nat_cmp) rc_str_bytes known_article nat_list_cmp_total octet_keys es fs (articles_known es) id old new refl had is in grind (arith, with_denied-insert, found)
 
 -- ---- an entry among the articles, found or made
 
@@ -111,15 +109,14 @@ module _ {A : Type 0} (es : List (RcStr A × KnownArticle A)) (ks : List (Vec �
 abbrev pub text_cmp : {A : Type 0} → RcStr A → RcStr A → Ordering
 text_cmp a b = slice_cmp nat_cmp (rc_str_bytes a) (rc_str_bytes b)
 
-module _ {A : Type 0} (es : List (RcStr A × KnownArticle A)) (ks : List (Vec ℕ A)) (articles : Articles) (view : with_denied (from_entries (entries_value es)) (map (λ k. k.items) ks) ≡ articles)
+module _ {A : Type 0} (es : List (RcStr A × KnownArticle A)) (ks : List (Vec ℕ A)) (articles : Articles) (view : with_denied (articles_known es) (map (λ k. k.items) ks) ≡ articles)
     (key : RcStr A) (id : Id) (same : rc_str_bytes key ≡ id) where
   -- an article is put at the id
   pub put_in : (fs : List (RcStr A × KnownArticle A)) (a : KnownArticle A) → fs ≡ insert_entry text_cmp es key a
-      → with_denied (from_entries (entries_value fs)) (map (λ k. k.items) ks) ≡ insert articles id (known_article a)
+      → with_denied (articles_known fs) (map (λ k. k.items) ks) ≡ insert articles id (known_article a)
   put_in fs a is =
-      ap (λ m. with_denied m (map (λ k. k.items) ks)) (insert-shown (slice_cmp nat_cmp) (λ k. rc_str_bytes k) known_article nat_list_cmp_total
-      (slice_cmp-IsAntisymmetric nat_cmp-IsAntisymmetric) es fs key a is)
-      ∙ with_denied-insert (from_entries (entries_value es)) (map (λ k. k.items) ks) (rc_str_bytes key) (known_article a)
+      ap (λ m. with_denied m (map (λ k. k.items) ks)) (insert-shown (slice_cmp nat_cmp) rc_str_bytes known_article nat_list_cmp_total octet_keys es fs key a is)
+      ∙ with_denied-insert (articles_known es) (map (λ k. k.items) ks) (rc_str_bytes key) (known_article a)
       ∙ (λ i. insert (view i) (same i) (known_article a))
 
   -- the article that is known of an id that isn't denied, or the first
@@ -132,12 +129,12 @@ module _ {A : Type 0} (es : List (RcStr A × KnownArticle A)) (ks : List (Vec �
 
     -- it is kept from now on, if nothing was
     pub kept_new : (fs : List (RcStr A × KnownArticle A)) → fs ≡ insert_entry text_cmp es key a
-        → with_denied (from_entries (entries_value fs)) (map (λ k. k.items) ks) ≡ with_new articles id unsent
-    kept_new fs is = grind (arith, had, insert-same, nat_list_cmp_total, nat_cmp-IsAntisymmetric, put_in fs a is, slice_cmp-IsAntisymmetric)
+        → with_denied (articles_known fs) (map (λ k. k.items) ks) ≡ with_new articles id unsent
+    kept_new fs is = grind (arith, had, insert-same, nat_list_cmp_total, octet_keys, put_in fs a is)
 
 -- the text of the entry is that of the id
 pub same_key : {A : Type 0} (key held text : RcStr A) (id : Id) → text_cmp key held ≡ Equal → rc_str_bytes key ≡ id → rc_str_bytes text ≡ rc_str_bytes held → rc_str_bytes text ≡ id
-same_key key held text id equal is cloned = cloned ∙ sym (slice_cmp-IsAntisymmetric nat_cmp-IsAntisymmetric (rc_str_bytes key) (rc_str_bytes held) equal) ∙ is
+same_key key held text id equal is cloned = cloned ∙ sym (octet_keys (rc_str_bytes key) (rc_str_bytes held) equal) ∙ is
 
 -- an article that is known has one
 pub not_denied : {A : Type 0} (a : KnownArticle A) → (known_article a).is_denied ≡ false

@@ -4,8 +4,9 @@ use Rattle.nntp_facts.proofs.Base.{arith, not, MatchOption, is_some, true≢fals
 use Rattle.nntp_facts.proofs.Base.{Equal, nat_cmp, is_eq, slice_cmp, same_text, nat_list_cmp_total, AllByRecursion, list_any, option_map_or, insert_entry}
 use Rattle.nntp_facts.proofs.Base.{matches_name, ActiveValue, Name, is_same, Fact, GroupsAre, is_shown_group, denies_group, all_at, all_from, contains_in}
 use Rattle.nntp_facts.proofs.Base.{in_back, any_silent, get, IsGroupName, get-shown, Together, shown_named, AreKeptNames, KeptGroup, told, AreKeptGroups}
-use Rattle.nntp_facts.proofs.Base.{MayList, WereListed, is_listed, NoneIsMissing, KeptNames, WasAnswered, length, is_wildmat, shown, is_some-option_map}
-use Rattle.nntp_facts.proofs.{Base.{any-insert_key}, Keeping.{CountedGroups.{listed_still}, FactsOfOneGroup.{flip_text}, KeptGroups.{Groups, shown_kept}}}
+use Rattle.nntp_facts.proofs.Base.{MayList, WereListed, is_listed, NoneIsMissing, KeptNames, WasAnswered, length, is_wildmat, shown, shown_entry}
+use Rattle.nntp_facts.proofs.{Base.{is_some-option_map, any-insert_key}, Keeping.{CountedGroups.{listed_still}, FactsOfOneGroup.{flip_text}}}
+use Rattle.nntp_facts.proofs.Keeping.KeptGroups.{Groups, shown_kept}
 use Rattle.std.specs.{BTreeSet.{insert_key}, Map.{lookup, keys_of}, Borrow.{Bor}}
 
 -- ---- keys of a set
@@ -38,7 +39,7 @@ module _ {V : Type 0} (text : V → List ℕ) where
 
   -- the octets of the keys, each with its count
   abbrev pub counts : List (V × ℕ) → List (List ℕ × ℕ)
-  counts es = map (λ e. (text e.0, e.1)) es
+  counts es = map (shown_entry text (λ (n : ℕ). n)) es
 
   keys_put : (es : List (V × ℕ)) (k : V) (n : ℕ) → keys_of (insert_entry order es k n) ≡ insert_key order (keys_of es) k
   keys_put [] k n = refl

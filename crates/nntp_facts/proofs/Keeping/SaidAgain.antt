@@ -1,11 +1,11 @@
 -- What was said before is said again: all stands together as before, and what is kept is right still.
 use Rattle.nntp_facts.proofs.Base.{◌≡◌, ℕ, ◌^◌, ◌<◌, true, IsTrue, List, ◌++◌, Option, None, Some, is_some, MatchOption, inl, inr, refl, sym, ap, subst, ◌∙◌}
 use Rattle.nntp_facts.proofs.Base.{arith, or-false, true≢false, and_parts, eqb-true, eq-eqb, cases_lt, leb-true, false_from_ne_true, ◌↔◌, list_any}
-use Rattle.nntp_facts.proofs.Base.{nat_list_cmp_total, get, slice_cmp-IsAntisymmetric, nat_cmp-IsAntisymmetric, insert-same, Id, Name, Ask, Fact, AsksStand}
-use Rattle.nntp_facts.proofs.Base.{same_itself, all_both, any_in, Says, IsSummary, AreBounded, OfGroup, Saying, MaySay, KeptGroup, Told, told, AreKept, Agree}
-use Rattle.nntp_facts.proofs.Base.{IsShownAt, MayShow, ids_with, places_with, IsThereAlready, or_from, ltb-true, len, holds, is_denied, demand, IsGivenNumber}
-use Rattle.nntp_facts.proofs.{Base.{is_possible, first_found}, Keeping.KeptGroups.{Groups, kept_of, part_kept, bounded_more, agree_kept, same_id}}
-use Rattle.nntp_facts.specs.Inner.{Kept.{IsKeptGroup, AreKeptWith}, KeptSaying.{HasSaid}}
+use Rattle.nntp_facts.proofs.Base.{nat_list_cmp_total, get, octet_keys, insert-same, Id, Name, Ask, Fact, AsksStand, same_itself, all_both, any_in, Says}
+use Rattle.nntp_facts.proofs.Base.{IsSummary, AreBounded, OfGroup, Saying, MaySay, KeptGroup, Told, told, AreKept, Agree, IsShownAt, MayShow, ids_with}
+use Rattle.nntp_facts.proofs.Base.{places_with, IsThereAlready, or_from, ltb-true, len, holds, is_denied, demand, IsGivenNumber, is_possible, first_found}
+use Rattle.nntp_facts.{proofs.Keeping.KeptGroups.{Groups, kept_of, part_kept, bounded_more, agree_kept, same_id}, specs.Inner.Kept.{IsKeptGroup, AreKeptWith}}
+use Rattle.nntp_facts.specs.Inner.KeptSaying.{HasSaid}
 use Rattle.nntp_numbers.specs.Inner.{Part.{Said, only_has, part_denies, is_one_of, join_ends}, Summary.{Summary, has, AddsNothing}}
 use Rattle.nntp_numbers.proofs.{MoreAsks.{are_possible, added}, HullOfMarks.{apart_by_hull, stands_by_hull, said_some, shown_says, demand_says, some_is}}
 use Rattle.nntp_numbers.proofs.{AsksSettled.{ArePossible}, Implied.{Implies}}
@@ -103,6 +103,6 @@ module _ (tells : Name → Told) (groups : Groups) (name : Name) (g : KeptGroup)
     pub kept_again : Agree (tells name).ids (tells name).places p.id → IsShownAt (tells name) p.id → HasSaid g p → AreKeptWith tells name asks p.id groups
     kept_again each shown said after changes =
         let w = all_was p.id each shown said in
-        subst (AreKept after) (insert-same nat_list_cmp_total (slice_cmp-IsAntisymmetric nat_cmp-IsAntisymmetric) groups name g is)
+        subst (AreKept after) (insert-same nat_list_cmp_total octet_keys groups name g is)
         (part_kept tells after groups name (Some g) g asks p.id kept is (λ e. absurd (true≢false (sym was.shown ∙ e))) w.1 changes
         (kept_still g.numbers p.numbers (tells name).asks asks w.0 was.numbers says) w.2.0 w.2.1)

@@ -1,6 +1,6 @@
 -- Points that are about headers, where what an answer tells of them conflicts with what is kept.
 use Rattle.nntp_facts.proofs.Base.{◌≡◌, true, false, IsTrue, List, [], ◌∷◌, ◌++◌, Option, None, Some, MatchOption, refl, sym, ap, subst, ◌∙◌, arith, true≢false}
-use Rattle.nntp_facts.proofs.Base.{◌≢◌, IfSome, option_map, is_some, AllByRecursion, option_map_or, get, OverviewValue, Fields, What, Range, Id, Line}
+use Rattle.nntp_facts.proofs.Base.{IfSome, option_map, is_some, AllByRecursion, option_map_or, get, OverviewValue, Fields, What, Range, Id, Line}
 use Rattle.nntp_facts.proofs.Base.{fields_of_head, words_in, Field, Profile, head_fits, only, Fact, first_given, fields_in, fields_of_overview, GiveOne}
 use Rattle.nntp_facts.proofs.Base.{SaidOfArticle, AreSame, Point, ConflictAt, words_told, if_some, In, all_at, all_from, part_first, of_rank, give_same_of_both}
 use Rattle.nntp_facts.proofs.Base.{told_by, Kept, said_kept, head_sent, OfArticle, Sends, Describes, MayBeOf, said_listed, kept_by, IsPointOf}

@@ -1,7 +1,8 @@
 -- What the code's values keep of articles.
 use Rattle.std.specs.{Prelude.{Bool, true, false, List, Option, None, Some, option_map, map, refl}, Option.{option_or}, Coded.{Coded, code_by, coded×, coded_ℕ}}
 use Rattle.std.specs.{Coded.{coded_list, coded_option, coded_bool}, declared.{boxed.Box.{Box}, rc.{Rc.{Rc}, RcStr.{RcStr}}}, Rc.{rc_str_bytes}}
-use Rattle.nntp_article.specs.Article.{Parts.{Id, Line}, Fields.{fields_of_head}}
+use Rattle.std.specs.{Ordering.{nat_cmp}, Cmp.Lexicographic.{slice_cmp}, FinMap.{FinMap}}
+use Rattle.nntp_article.specs.{Article.{Parts.{Id, Line}, Fields.{fields_of_head}}, Inner.ShownMap.{shown, shown_entry}}
 use Rattle.nntp_wire.specs.Listing.{Fields}
 use Rattle.nntp_facts.specs.{Inner.{Kept.{KeptArticle}, Articles.{unsent, telling}}, declared.articles.known.KnownArticle.{KnownArticle, TheVariants.{Unsent}}}
 use Rattle.nntp_facts.specs.declared.articles.{known.KnownArticle.TheVariants.{Listed, Named, Told, Head, Body, ToldBody, Whole}, added.Added.{Added}}
@@ -40,7 +41,11 @@ fields_held article = None
 
 -- what is kept of articles, one after the other
 abbrev pub entries_value : {A : Type 0} → List (RcStr A × KnownArticle A) → List (Id × KeptArticle)
-entries_value entries = map (λ e. (rc_str_bytes e.0, known_article e.1)) entries
+entries_value entries = map (shown_entry rc_str_bytes (λ article. known_article article)) entries
+
+-- what is kept of articles, by their ids
+abbrev pub articles_known : {A : Type 0} → List (RcStr A × KnownArticle A) → FinMap (slice_cmp nat_cmp) KeptArticle
+articles_known entries = shown (slice_cmp nat_cmp) rc_str_bytes (λ article. known_article article) entries
 
 -- what is said of an id is added
 abbrev pub is_added : {A : Type 0} → Added A → Bool

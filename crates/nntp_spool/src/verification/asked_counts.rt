@@ -21,15 +21,15 @@ pub(crate) struct AskedCounts<A: Allocator> {
 }
 
 impl<A: Allocator> Model for AskedCounts<A> {
-    ghost use Rattle.std.specs.Prelude.{map};
-    ghost use Rattle.std.specs.FinMap.{from_entries};
+    ghost use Rattle.std.specs.{Ordering.{nat_cmp}, Cmp.Lexicographic.{slice_cmp}};
+    ghost use Rattle.nntp_article.specs.Inner.ShownMap.{shown};
     ghost use Rattle.nntp_spool.specs.Inner.AskedCounts.{AskedCounts as Counts, coded_counts};
 
     ghost Value = { Counts };
 
     ghost coded = { coded_counts };
 
-    ghost view = { λ a. record { all = a.all; by_wildmat = from_entries (map (λ e. (e.0.items, e.1)) a.by_wildmat.entries) } };
+    ghost view = { λ a. record { all = a.all; by_wildmat = shown (slice_cmp nat_cmp) (λ wildmat. wildmat.items) (λ count. count) a.by_wildmat.entries } };
 }
 
 impl<A: Allocator + Copy> AskedCounts<A> {

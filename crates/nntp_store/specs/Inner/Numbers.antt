@@ -1,7 +1,7 @@
 -- What is said with the words of `Numbers.antt`, and needn't be believed.
-use Rattle.std.specs.{Prelude.{◌≡◌, ◌⊎◌, ◌++◌, ℕ, if◌then◌else◌, true, List, [], map, bytes_eq}, List.{list_any, AllByRecursion}, FinMap.{insert, from_entries}}
-use Rattle.std.specs.{FinMap.{is_sorted}, Ordering.{nat_cmp}, declared.rc.RcStr.{RcStr}, Rc.{rc_str_bytes}}
-use Rattle.nntp_article.specs.{Article.Parts.{Id}, Session.Spool.{Numbers}}
+use Rattle.std.specs.{Prelude.{◌≡◌, ◌⊎◌, ◌++◌, ℕ, if◌then◌else◌, true, List, [], map, bytes_eq}, List.{list_any, AllByRecursion}, FinMap.{insert, is_sorted}}
+use Rattle.std.specs.{Ordering.{nat_cmp}, declared.rc.RcStr.{RcStr}, Rc.{rc_str_bytes}}
+use Rattle.nntp_article.specs.{Article.Parts.{Id}, Inner.ShownMap.{shown, shown_entry}, Session.Spool.{Numbers}}
 use Rattle.nntp_store.specs.Numbers.{has_id}
 
 -- the numbers with one more, if its id is not there
@@ -10,11 +10,11 @@ with_number N n id = if has_id N id then N else insert N n id
 
 -- the numbers of a list, each with the octets of its id
 abbrev pub numbers_shown : {A : Type 0} → List (ℕ × RcStr A) → Numbers
-numbers_shown ids = from_entries (map (λ e. (e.0, rc_str_bytes e.1)) ids)
+numbers_shown ids = shown nat_cmp (λ (n : ℕ). n) rc_str_bytes ids
 
 -- each number is greater than those before it
 abbrev pub AreAscending : {A : Type 0} → List (ℕ × RcStr A) → Type 0
-AreAscending ids = is_sorted nat_cmp (map (λ e. (e.0, rc_str_bytes e.1)) ids) ≡ true
+AreAscending ids = is_sorted nat_cmp (map (shown_entry (λ (n : ℕ). n) rc_str_bytes) ids) ≡ true
 
 -- these are the ids of the numbers
 abbrev pub AreIdsOf : {A : Type 0} → List (RcStr A) → Numbers → Type 0

@@ -1,4 +1,4 @@
-use Rattle.nntp_facts.proofs.{Base.{◌++◌, ◌+◌, ◌-◌, ◌≡◌, arith, below}, Keeping.CoresFound.{below_told, place_found, last_found}}
+use Rattle.nntp_facts.proofs.{Base.{◌++◌, ◌-◌, ◌≡◌, arith, below}, Keeping.CoresFound.{below_told, place_found, last_found}}
 use Rattle.nntp_facts.proofs.conflict.search_refused.Goals as goal
 
 pub returns-then-not-branch-clause-found : goal.returns-then-not-branch-clause-found

@@ -1,6 +1,6 @@
 use Rattle.nntp_facts.proofs.Base.{Some, map, sym, ap, subst, ◌∙◌, unwrap_or, if_ok, unsent, is_added, known_article, IsAddedIf, AreKeptArticles, Sends}
-use Rattle.nntp_facts.proofs.{Base.{IsArticleAdded, from_entries, MayBeSent, ◌≡◌, with_sent}, Keeping.{KeptIds.{replaced_known}, KeptArticles.{sent_noted}}}
-use Rattle.nntp_facts.specs.Inner.{Articles.{with_denied}, ArticleView.{entries_value}}
+use Rattle.nntp_facts.proofs.{Base.{IsArticleAdded, MayBeSent, ◌≡◌, with_sent}, Keeping.{KeptIds.{replaced_known}, KeptArticles.{sent_noted}}}
+use Rattle.nntp_facts.specs.Inner.{Articles.{with_denied}, ArticleView.{articles_known}}
 use Rattle.nntp_facts.proofs.articles.Articles.send_again.Goals as goal
 
 pub returns-in-Some : goal.returns-in-Some
@@ -17,7 +17,7 @@ returns-in-Some g c facts what lines kept heads bodies =
 pub returns : goal.returns
 returns g c =
     let M = c.args.self.now in
-    let same = ap (λ known. with_denied (from_entries (entries_value known.entries)) (map (λ id. id.items) c.self.inside.denied.keys)) c.get_mut.follows.holds-at-none ∙ c.self.view_is in
+    let same = ap (λ known. with_denied (articles_known known.entries) (map (λ id. id.items) c.self.inside.denied.keys)) c.get_mut.follows.holds-at-none ∙ c.self.view_is in
     if_ok c.send.result (λ added adds facts what lines kept heads bodies.
     subst (λ m. IsArticleAdded facts (Some (c.args.id.now, Sends what lines)) m c.send.new.self (is_added added)) same
     (adds facts what lines (subst (AreKeptArticles facts) (sym same) kept) heads bodies)) c.send.ensures.added

@@ -1,4 +1,4 @@
-use Rattle.nntp_facts.proofs.Base.{◌≡◌, ◌∙◌, ◌+◌, ◌++◌, ap, arith, ℕ, List, Option, unwrap_or, option_map_or, below, places_of}
+use Rattle.nntp_facts.proofs.Base.{◌≡◌, ◌∙◌, ◌++◌, ap, arith, ℕ, List, Option, unwrap_or, option_map_or, below, places_of}
 use Rattle.nntp_facts.proofs.conflict.Core.all_places.Goals as goal
 
 -- the places below the bound, where there is one, and those that were found

@@ -1,5 +1,5 @@
-use Rattle.nntp_facts.proofs.Base.{◌≡◌, true, false, is_some, sym, ap, subst, ◌∙◌, arith, is_none, asked, response, lists_of, fits_by_reason}
-use Rattle.nntp_facts.{proofs.Keeping.NotedExchange.{unfit, weighed, refused, accepted}, specs.Inner.Noted.{profile_kept, HasNotedBehind}}
+use Rattle.nntp_facts.proofs.{Base.{◌≡◌, true, sym, ap, subst, ◌∙◌, arith, is_none, asked, response, lists_of, fits_by_reason}, Keeping.NotedExchange.{unfit}}
+use Rattle.nntp_facts.{proofs.Keeping.NotedExchange.{weighed, refused, accepted}, specs.Inner.Noted.{profile_kept, HasNotedBehind}}
 use Rattle.nntp_facts.proofs.facts.Facts.note_listing.Goals as goal
 
 pub returns-then-is_some : goal.returns-then-is_some

@@ -1,5 +1,5 @@
-use Rattle.nntp_facts.proofs.Base.{◌+◌, cond, sym, ap, ◌∙◌, rules, nat_cmp, slice_cmp, nat_list_cmp_total, entries, nat_cmp-IsAntisymmetric}
-use Rattle.nntp_facts.proofs.Base.{slice_cmp-IsAntisymmetric, is_asked, entries-shown, Name, KeptGroup, tests}
+use Rattle.nntp_facts.proofs.Base.{◌+◌, cond, sym, ap, ◌∙◌, rules, nat_cmp, slice_cmp, nat_list_cmp_total, entries, octet_keys, is_asked, entries-shown}
+use Rattle.nntp_facts.proofs.Base.{shown_entry, Name, KeptGroup, tests}
 use Rattle.std.proofs.lemmas.{Iterator.Consumers.{YieldsList-at, YieldsList-from_rest, YieldsList-from_filter, count_from_yields_List}, List.Folds.{fold-map}}
 use Rattle.std.{proofs.lemmas.List.Sums.{length-filter}, specs.List.{count_by}}
 use Rattle.nntp_facts.proofs.groups.Groups.count_asked.Goals as goal
@@ -11,7 +11,6 @@ returns g c =
     let counted = count_from_yields_List c.filter.result c.count.result c.count.ensures.ran
     (YieldsList-from_filter _ (λ e. asked (e.0.items, e.1)) (YieldsList-at c.filter.ensures.source (YieldsList-from_rest es c.iter.ensures.rest))
     c.filter.ensures.closure (λ x b q k. search (rules, tests))) in
-    let shown = entries-shown (slice_cmp nat_cmp) (λ k. k.items) (λ v. v) nat_list_cmp_total
-    (slice_cmp-IsAntisymmetric nat_cmp-IsAntisymmetric) es c.iter.ensures.ordered in
-    counted ∙ length-filter (λ e. asked (e.0.items, e.1)) es ∙ sym (fold-map (λ n e. n + cond (asked e) 1 0) (λ e. (e.0.items, e.1)) 0 es)
+    let shown = entries-shown (slice_cmp nat_cmp) (λ k. k.items) (λ v. v) nat_list_cmp_total octet_keys es c.iter.ensures.ordered in
+    counted ∙ length-filter (λ e. asked (e.0.items, e.1)) es ∙ sym (fold-map (λ n e. n + cond (asked e) 1 0) (shown_entry (λ k. k.items) (λ v. v)) 0 es)
     ∙ ap (count_by asked) (sym shown) ∙ ap (λ m. count_by asked (entries m)) c.self.view_is

@@ -1,5 +1,5 @@
-use Rattle.std.proofs.{Common.{◌+◌, ◌∙◌, drop, get_or, sym, subst, arith}, lemmas.{Bool.{true≢false}, List.{drop_more, drop_all}}}
-use Rattle.nntp_spool.{specs.Inner.ListedNumbers.{ListsFrom}, proofs.ListedNumbers.{taken, is_next, lists_from_range}}
+use Rattle.std.proofs.{Common.{◌∙◌, sym, arith}, lemmas.{Bool.{true≢false}, List.{drop_more, drop_all}}}
+use Rattle.nntp_spool.proofs.ListedNumbers.{taken, is_next, lists_from_range}
 use Rattle.nntp_spool.proofs.verification.lookups.lists.Goals as goal
 
 pub loop-number-init : goal.loop-number-init

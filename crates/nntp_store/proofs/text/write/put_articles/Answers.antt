@@ -1,6 +1,6 @@
-use Rattle.std.{proofs.{Common.{T, arith, sym, subst, ap, map as list_map}, lemmas.List.{drop_more}}, specs.Cmp.Lexicographic.{nat_list_cmp_total}}
-use Rattle.std.specs.{List.{flat_map}, Rc.{rc_str_bytes}}
-use Rattle.nntp_wire.proofs.ShownMaps.{entries-from_entries}
+use Rattle.std.{proofs.{Common.{arith, ap}, lemmas.List.{drop_more}}, specs.{Cmp.Lexicographic.{slice_cmp, nat_list_cmp_total}, List.{flat_map}}}
+use Rattle.std.specs.{Ordering.{nat_cmp}, Rc.{rc_str_bytes}}
+use Rattle.nntp_article.proofs.ShownMaps.{entries-ascending}
 use Rattle.nntp_store.{specs.{Inner.ArticleLines.{text_stored}, Text.{with_line_ends, article_lines}}, proofs.{ShownMaps.{octet_keys}, Written.{starts}}}
 use Rattle.nntp_store.proofs.Written.{stopped, goes_on, stops, article_texts}
 use Rattle.nntp_store.proofs.text.write.put_articles.Goals as goal
@@ -18,5 +18,5 @@ loop-article-preserved g c =
 
 pub loop-article-init : goal.loop-article-init
 loop-article-init g c =
-    let all = entries-from_entries nat_list_cmp_total octet_keys (list_map (λ e. (rc_str_bytes e.0, text_stored e.1)) c.args.articles.now) (subst T (sym c.requires) tt) in
+    let all = entries-ascending (slice_cmp nat_cmp) rc_str_bytes text_stored nat_list_cmp_total octet_keys c.args.articles.now c.requires in
     starts _ _ _ _ (ap (λ es. with_line_ends (flat_map article_lines es)) all)

@@ -1,6 +1,8 @@
-use Rattle.std.{proofs.Common.{arith, refl, sym, ◌∙◌, ap}, specs.List.{flat_map}}
-use Rattle.nntp_store.{specs.{Inner.ArticlesView.{articles_shown}, Text.{with_line_ends, article_lines}}, proofs.ShownMaps.{article_entries}}
-use Rattle.nntp_store.proofs.Written.{starts, goes_on, stops, article_texts, stopped}
+use Rattle.std.{proofs.Common.{arith, sym, ◌∙◌, ap}, specs.{Cmp.Lexicographic.{slice_cmp, nat_list_cmp_total}, List.{flat_map}, Ordering.{nat_cmp}}}
+use Rattle.std.specs.Rc.{rc_str_bytes}
+use Rattle.nntp_article.proofs.ShownMaps.{entries-shown}
+use Rattle.nntp_store.{specs.{Inner.ArticleLines.{text_stored}, Text.{with_line_ends, article_lines}}, proofs.{ShownMaps.{octet_keys}, Written.{starts}}}
+use Rattle.nntp_store.proofs.Written.{goes_on, stops, article_texts, stopped}
 use Rattle.nntp_store.proofs.text.write.put_articles_of_map.Goals as goal
 
 pub returns-in_err-put_article-clause-text : goal.returns-in_err-put_article-clause-text
@@ -15,6 +17,5 @@ loop-id-preserved g c =
 
 pub loop-id-init : goal.loop-id-init
 loop-id-init g c =
-    let es = c.args.articles.now.entries in
-    let shown = article_entries es (articles_shown es) refl c.iter-entries.ensures.ordered in
-    starts _ _ _ _ (ap (λ es. with_line_ends (flat_map article_lines es)) (sym shown) ∙ ap article_texts.all (sym c.iter-entries.ensures.rest))
+    let all = entries-shown (slice_cmp nat_cmp) rc_str_bytes text_stored nat_list_cmp_total octet_keys c.args.articles.now.entries c.iter-entries.ensures.ordered in
+    starts _ _ _ _ (ap (λ es. with_line_ends (flat_map article_lines es)) all ∙ ap article_texts.all (sym c.iter-entries.ensures.rest))

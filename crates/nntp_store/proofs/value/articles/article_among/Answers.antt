@@ -7,11 +7,11 @@ use Rattle.nntp_store.proofs.value.articles.article_among.Goals as goal
 pub returns-in-Ok : goal.returns-in-Ok
 returns-in-Ok g c =
     let e = c.index-articles-at.result in
-    found_at (slice_cmp nat_cmp) (λ k. rc_str_bytes k) text_stored nat_list_cmp_total octet_keys c.args.articles.now c.args.id.now c.in-Ok.at e c.requires c.in-Ok.ensures.bound
+    found_at (slice_cmp nat_cmp) rc_str_bytes text_stored nat_list_cmp_total octet_keys c.args.articles.now c.args.id.now c.in-Ok.at e c.requires c.in-Ok.ensures.bound
     (c.in-Ok.ensures.position (λ e. slice_cmp nat_cmp (rc_str_bytes e.0) c.args.id.now) (always_returns_same _ _ _ (λ a r f k. search (rules, tests))) e)
 
 pub returns-in-Err : goal.returns-in-Err
 returns-in-Err g c =
-    none_at (slice_cmp nat_cmp) (λ k. rc_str_bytes k) text_stored nat_list_cmp_total octet_keys c.args.articles.now c.args.id.now c.in-Err.field-0
+    none_at (slice_cmp nat_cmp) rc_str_bytes text_stored nat_list_cmp_total octet_keys c.args.articles.now c.args.id.now c.in-Err.field-0
     (c.in-Err.ensures.position (λ e. slice_cmp nat_cmp (rc_str_bytes e.0) c.args.id.now) (always_returns_same _ _ _ (λ a r f k. search (rules, tests)))
-    (searchable (slice_cmp nat_cmp) (λ k. rc_str_bytes k) text_stored nat_list_cmp_total octet_keys c.args.articles.now c.args.id.now c.requires))
+    (searchable (slice_cmp nat_cmp) rc_str_bytes text_stored nat_list_cmp_total octet_keys c.args.articles.now c.args.id.now c.requires))

@@ -1,7 +1,6 @@
 use Rattle.std.proofs.{Common.{sym, ◌∙◌, rules}, lemmas.Iterator.{YieldsList-from_slice, Search.{all_from_yields_List}}}
 use borrow.Author.Tests.{tests}
-use Rattle.nntp_wire.proofs.ShownMaps.{list_all-map}
-use Rattle.nntp_article.specs.Session.Spool.{is_line}
+use Rattle.nntp_article.{proofs.ShownMaps.{list_all-map}, specs.Session.Spool.{is_line}}
 use Rattle.nntp_store.proofs.value.well_formed.are_lines.Goals as goal
 
 pub returns : goal.returns

@@ -1,7 +1,6 @@
 use Rattle.std.proofs.{Common.{◌≡◌, ◌∙◌, ℕ, Option, Some, IsTrue, false, ap, sym, subst, cond, rules}, lemmas.Slice.Eq.{bytes_eq-Decides}}
 use Rattle.std.specs.{Prelude.{nat_eq}, Option.{option_eq}, Ordering.{nat_cmp}, Cmp.Lexicographic.{slice_cmp, nat_list_cmp_total}}
-use Rattle.nntp_wire.proofs.ShownMaps.{insert-same}
-use Rattle.nntp_article.specs.Session.Machine.{are_zeros}
+use Rattle.nntp_article.{proofs.ShownMaps.{insert-same, octet_keys}, specs.Session.Machine.{are_zeros}}
 use Rattle.std.specs.FinMap as map
 use Rattle.nntp_article.proofs.session.visible.Visible.is_noted.Goals as goal
 
@@ -19,5 +18,5 @@ returns-else-are_zeros g c = λ is.
     let here : map.get v.lows name ≡ Some low = c.low.ensures ∙ same-number c.low.result low (subst IsTrue c.eq-else-are_zeros.ensures is) in
     let some : are_zeros c.args.marks ≡ false = sym c.are_zeros.ensures ∙ c.if-are_zeros.false in
     let lows = ap (λ b. cond b v.lows (map.insert v.lows name low)) some
-    ∙ insert-same {R = slice_cmp nat_cmp} nat_list_cmp_total (map.slice_cmp-IsAntisymmetric map.nat_cmp-IsAntisymmetric) v.lows name low here in
+    ∙ insert-same {R = slice_cmp nat_cmp} nat_list_cmp_total octet_keys v.lows name low here in
     λ i. record { closed = v.closed; selected = selected i; lows = lows i }

@@ -1,5 +1,5 @@
 use Rattle.std.{proofs.Common.{sym, ap, ◌∙◌}, specs.{Ordering.{nat_cmp}, Cmp.Lexicographic.{slice_cmp, nat_list_cmp_total}}}
-use Rattle.nntp_wire.proofs.ShownMaps.{get-shown, option_map_id}
+use Rattle.nntp_article.proofs.ShownMaps.{get-shown, option_map_id}
 use Rattle.std.specs.FinMap as map
 use Rattle.nntp_article.proofs.session.visible.Visible.low.Goals as goal
 

@@ -1,5 +1,5 @@
 use Rattle.std.{proofs.Common.{None, Some}, specs.{Ordering.{nat_cmp}, Cmp.Lexicographic.{slice_cmp, nat_list_cmp_total}}}
-use Rattle.nntp_wire.proofs.ShownMaps.{get-shown}
+use Rattle.nntp_article.proofs.ShownMaps.{get-shown}
 use Rattle.nntp_spool.proofs.verification.asked_counts.AskedCounts.new.Goals as goal
 
 pub returns : goal.returns

@@ -1,5 +1,5 @@
 use Rattle.std.{proofs.Common.{◌≡◌, Some, ap, sym, ◌∙◌}, specs.{Ordering.{nat_cmp}, Cmp.Lexicographic.{slice_cmp, nat_list_cmp_total}}}
-use Rattle.nntp_wire.proofs.ShownMaps.{get-shown, option_map_id}
+use Rattle.nntp_article.proofs.ShownMaps.{get-shown, option_map_id}
 use Rattle.nntp_spool.specs.Inner.AskedCounts.{remembered}
 use Rattle.std.specs.FinMap as map
 use Rattle.nntp_spool.proofs.verification.asked_counts.AskedCounts.remembered.Goals as goal

@@ -3,4 +3,4 @@ use Rattle.nntp_store.proofs.{GatheredEntries.{sorted_listed}, ShownMaps.{octet_
 use Rattle.nntp_store.proofs.text.gathered.Gathered.into_content.Goals as goal
 
 pub map_of-requires : goal.map_of-requires
-map_of-requires g c = sorted_listed (slice_cmp nat_cmp) (λ k. string_bytes k) (λ v. v) nat_list_cmp_total octet_keys c.self.inside.groups.items c.self.invariant.names
+map_of-requires g c = sorted_listed (slice_cmp nat_cmp) string_bytes (λ v. v) nat_list_cmp_total octet_keys c.self.inside.groups.items c.self.invariant.names

@@ -4,12 +4,12 @@ use Rattle.nntp_store.proofs.text.gathered.Gathered.push_group.Goals as goal
 
 pub invariant_of-self-2 : goal.invariant_of-self-2
 invariant_of-self-2 g c =
-    let more = one_more (slice_cmp nat_cmp) (λ k. string_bytes k) (λ v. v) nat_list_cmp_total octet_keys c.self.inside.groups.items _ c.args.name c.args.numbers
+    let more = one_more (slice_cmp nat_cmp) string_bytes (λ v. v) nat_list_cmp_total octet_keys c.self.inside.groups.items _ c.args.name c.args.numbers
     c.self.invariant.names (ap (λ s. is_last s.groups (string_bytes c.args.name)) c.self.view_is ∙ c.requires) c.in_ok-push.ensures.items in
     record { names = more.0; line_counts = c.self.invariant.line_counts }
 
 pub returns : goal.returns
 returns g c =
-    let more = one_more (slice_cmp nat_cmp) (λ k. string_bytes k) (λ v. v) nat_list_cmp_total octet_keys c.self.inside.groups.items _ c.args.name c.args.numbers
+    let more = one_more (slice_cmp nat_cmp) string_bytes (λ v. v) nat_list_cmp_total octet_keys c.self.inside.groups.items _ c.args.name c.args.numbers
     c.self.invariant.names (ap (λ s. is_last s.groups (string_bytes c.args.name)) c.self.view_is ∙ c.requires) c.in_ok-push.ensures.items in
     spool_is _ _ (more.1 ∙ ap (λ s. insert s.groups (string_bytes c.args.name) c.args.numbers) c.self.view_is) (ap (λ s. s.articles) c.self.view_is)

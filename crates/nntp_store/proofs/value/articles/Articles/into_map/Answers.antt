@@ -5,4 +5,4 @@ use Rattle.nntp_store.proofs.value.articles.Articles.into_map.Goals as goal
 pub map_of-requires : goal.map_of-requires
 map_of-requires g c =
     ap (λ v. is_sorted (λ a b. slice_cmp nat_cmp (rc_str_bytes a) (rc_str_bytes b)) v.items) c.in-InOrder.articles-is
-    ∙ sorted_listed (slice_cmp nat_cmp) (λ k. rc_str_bytes k) text_stored nat_list_cmp_total octet_keys c.in-InOrder.articles.items (rw c.in-InOrder.is at c.self.invariant)
+    ∙ sorted_listed (slice_cmp nat_cmp) rc_str_bytes text_stored nat_list_cmp_total octet_keys c.in-InOrder.articles.items (rw c.in-InOrder.is at c.self.invariant)

@@ -1,6 +1,5 @@
 use Rattle.std.{proofs.Common.{not, is_some, ap, sym, ◌∙◌}, specs.Cmp.{nat_cmp_total}}
 use Rattle.nntp_store.proofs.MapEntries.{absent_above}
-use Rattle.std.specs.FinMap as map
 use Rattle.nntp_store.proofs.value.numbers.Numbers.has_number.Goals as goal
 
 pub returns-else-not-is_after : goal.returns-else-not-is_after

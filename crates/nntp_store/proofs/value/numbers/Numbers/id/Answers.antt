@@ -1,6 +1,5 @@
 use Rattle.std.proofs.Common.{arith}
 use Rattle.nntp_store.proofs.ShownNumbers.{id_is, no_id}
-use Rattle.std.specs.FinMap as map
 use Rattle.nntp_store.proofs.value.numbers.Numbers.id.Goals as goal
 
 pub returns-in_err-numbered : goal.returns-in_err-numbered

@@ -1,6 +1,5 @@
 use Rattle.std.specs.Cmp.{nat_cmp_total}
 use Rattle.nntp_store.proofs.MapEntries.{absent_above}
-use Rattle.std.specs.FinMap as map
 use Rattle.nntp_store.proofs.value.numbers.Numbers.insert.Goals as goal
 
 pub put-requires : goal.put-requires

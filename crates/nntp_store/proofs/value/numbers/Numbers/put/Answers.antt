@@ -1,4 +1,4 @@
-use Rattle.std.{proofs.Common.{arith, ◌≡◌, false, ap, sym, subst, ◌∙◌}, specs.Rc.{rc_str_bytes}}
+use Rattle.std.{proofs.Common.{arith, ◌≡◌, true, false, ap, sym, subst, ◌∙◌}, specs.Rc.{rc_str_bytes}}
 use Rattle.nntp_store.{specs.{Inner.Numbers.{AreAscending, AreKnown, numbers_shown, with_number}, Numbers.{has_id}}, proofs.ShownNumbers.{one_put}}
 use Rattle.std.specs.FinMap as map
 use Rattle.nntp_store.proofs.value.numbers.Numbers.put.Goals as goal
@@ -26,3 +26,13 @@ returns-clause-ok g c =
     let new = one_put _ _ N (subst AreAscending (sym c.in-Ok.ensures.ids) c.self.invariant.0) shows c.deref-2.ensures.value _ _ _ _ _ c.split_before.ensures c.requires c.in_ok-insert.ensures.items in
     let lacks : has_id N (rc_str_bytes c.args.id.now) ≡ false = grind arith in
     rw lacks (new.1 ∙ ap (map.insert N c.args.number) c.in-Ok.ensures.same.0)
+
+pub invariant_of-self-in_err-learn : goal.invariant_of-self-in_err-learn
+invariant_of-self-in_err-learn g c = grind arith
+
+pub invariant_of-self-then-not-branch : goal.invariant_of-self-then-not-branch
+invariant_of-self-then-not-branch g c =
+    let here = ap numbers_shown (c.deref.ensures.value ∙ c.in-Ok.ensures.ids) ∙ c.self.view_is in
+    let learnt = c.in_ok-learn.ensures.ok c.args.number (ap (λ N. map.get N c.args.number) here ∙ c.requires) in
+    let has : has_id (numbers_shown c.deref.result.now) (rc_str_bytes c.in-Ok.known) ≡ true = grind arith in
+    (subst AreAscending (sym c.in-Ok.ensures.ids) c.self.invariant.0, subst (λ ids. AreKnown c.learn.new.known.keys (numbers_shown ids)) c.deref.ensures.value (rw has at learnt))

@@ -1,4 +1,5 @@
 use Rattle.std.{proofs.{Common.{arith, sym, ◌∙◌, ap, map as list_map}, lemmas.{List.{drop_more}, Simd.{map-map}}}, specs.Rc.{rc_str_bytes}}
+use Rattle.nntp_article.specs.Inner.ShownMap.{shown_entry}
 use Rattle.nntp_store.{specs.Text.{with_line_ends, number_line}, proofs.{ShownNumbers.{each_entry}, Written.{starts, goes_on, stops, number_texts, stopped}}}
 use Rattle.std.specs.FinMap as map
 use Rattle.nntp_store.proofs.value.numbers.Numbers.write.Goals as goal
@@ -18,5 +19,5 @@ pub loop-numbered-init : goal.loop-numbered-init
 loop-numbered-init g c =
     let ids = c.self.inside.ids.items in
     starts _ _ _ _ (ap with_line_ends (ap (list_map (λ e. number_line e.0 e.1)) (ap map.entries (sym c.self.view_is) ∙ each_entry ids c.self.invariant.0)
-    ∙ map-map (λ e. number_line e.0 e.1) (λ e. (e.0, rc_str_bytes e.1)) ids)
+    ∙ map-map (λ e. number_line e.0 e.1) (shown_entry (λ n. n) rc_str_bytes) ids)
     ∙ ap number_texts.all (sym c.deref-numbered-items.ensures.value))
