@@ -3,14 +3,15 @@ use Rattle.std.proofs.Common.{◌≡◌, ◌≢◌, ℕ, ◌+◌, ◌-◌, ◌*�
 use Rattle.std.proofs.{Common.{sym, ◌∙◌, ap, subst, append_assoc, length-append, MatchOption, inl, inr}, lemmas.{List.{append-nil, drop_at}, Bool.{false≢true}}}
 use Rattle.std.{proofs.lemmas.Bool.{eqb-true, eqb-false}, specs.Prelude.{◌==◌, nat_lt, ⊤}}
 use Rattle.nntp_wire.specs.{Octets.{crlf}, Lines.{HasNoCrlf}, Answer.{Asked, Response, Spells}, Frame.{HasFrame, frame_octets}, Inner.Prompts.{prompt_kind}}
-use Rattle.nntp_wire.specs.{Inner.Search.{IsFrameThrough}, Session.{closes, ClientStream, further, taken}, declared.framing.FrameSearch.{FrameSearch}}
-use Rattle.nntp_wire.proofs.{SearchLemmas.{line_searched-more, frame_searched-more}, SpellLemmas.{one-frame}, StreamLemmas.{lines-first}}
+use Rattle.nntp_wire.specs.{Inner.{Search.{IsFrameThrough}, Frame.{FrameParts, IsFrame}}, Session.{closes, ClientStream, further, taken}}
+use Rattle.nntp_wire.{specs.declared.framing.FrameSearch.{FrameSearch}, proofs.SearchLemmas.{line_searched-more, frame_searched-more}}
+use Rattle.nntp_wire.proofs.{SpellLemmas.{one-frame}, StreamLemmas.{lines-first}}
 use Rattle.nntp_pair.specs.declared.{class.PairClass.{PairClass, TheVariants.{Surplus, Malformed}}, searches.Searches.{Searches}}
 use Rattle.nntp_pair.specs.{declared.{octet_counts.OctetCounts.{OctetCounts}, side.Side.{Side, TheVariants.{Server}}}, Pairing.{Paired, Unpaired, IsNext}}
 use Rattle.nntp_pair.specs.{Pairing.{IsAnswered, Awaits, IsBad, IsCut, IsMalformed, streams, asked_at, HasNext, Place, place_of}, Inner.Pairing.{places_from}}
 use Rattle.nntp_pair.specs.Inner.{Feeding.{Fed, IsFed, EndsForGood, left_of, with_octets}, Sides.{given, count_of}, Searching.{left_from, BeginsWithPlace}}
 use Rattle.nntp_pair.{specs.Inner.Searching.{IsForNext, AreSearched, AreThrough, IsInStep}, proofs.{NextLemmas.{one-awaited}, PairingLemmas.{AreNext-push}}}
-use Rattle.nntp_pair.proofs.PairingLemmas.{places_more, frame-more}
+use Rattle.nntp_pair.proofs.{PairingLemmas.{places_more, frame-more}, PairLemmas.{frame-within}}
 
 pub is-empty : (octets : List ℕ) → (length octets == 0) ≡ true → octets ≡ []
 is-empty [] e = refl
@@ -107,6 +108,10 @@ nothing left is_open cut = (λ next. no_next next.0 next.1 next.2, for_good) whe
   for_good Surplus (ends, closed) = false≢true (sym is_open ∙ closed)
   for_good class h = search arith
 
+-- nor where the next place has not come
+pub nothing-awaited : (left : Unpaired) → left.is_closed ≡ false → left.places ≡ [] → (¬ (HasNext left)) × ((class : PairClass) → ¬ (EndsForGood class left))
+nothing-awaited left is_open none = nothing left is_open (λ place awaits. absurd (let some : place ∷ awaits.places ≡ [] = sym awaits.first ∙ none in cc))
+
 -- a response to what is asked at the awaited place comes next
 pub next-of : (left : Unpaired) (place : Place) (pair : Paired) (rest : List ℕ) → Awaits left place → pair.index ≡ left.index → pair.place ≡ place
     → IsAnswered place left.server pair.initial pair.response rest → (behind : Unpaired) × IsNext left pair behind
@@ -175,6 +180,12 @@ pub next-frame : (index : ℕ) (is_closed : Bool) (client : ClientStream) (serve
 next-frame index is_closed client server slice rest behind place search initial block len is_open begins is same drops found =
     let kind = for-next (left_from index is_closed client server) search place is (begins-awaits index is_closed client server place rest is_open begins) in
     (kind, subst (HasFrame (asked_at place) server initial block) (sym drops) (subst (λ t. HasFrame (asked_at place) t initial block (drop len t)) same (found (asked_at place) kind)))
+
+-- it is no longer than the octets that are held
+pub frame-fits : (left : Unpaired) (search : FrameSearch) (slice server : List ℕ) (frame : FrameParts) (len : ℕ) → IsForNext left search → slice ≡ server
+    → ((asked : Asked) → prompt_kind asked ≡ search.kind → HasFrame asked slice frame.initial frame.block (drop frame.len slice)) → len ≡ frame.len → IsFrame frame → len ≤ length server
+frame-fits left search slice server frame len is same found value parts =
+    subst (λ t. len ≤ length t) same (frame-within frame (found (asked_at is.place) (sym is.kind)) value parts)
 
 -- the next pair, with more octets behind both streams
 pub next-behind : (index : ℕ) (is_closed closes_behind : Bool) (client : ClientStream) (server rest behind_server initial : List ℕ)

@@ -1,9 +1,9 @@
 -- What the parts of a pairing say of the whole.
 use Rattle.std.proofs.Common.{◌≡◌, ℕ, ◌<◌, ◌≤◌, ◌^◌, List, [], ◌∷◌, Option, Some, Bool, refl, sym, ap, subst, ◌∙◌, length, map, count_by, ◌+◌, arith, get_or}
-use Rattle.std.proofs.{Common.{Fits, w8, length-append}, lemmas.List.Sums.{sum_by-cons}}
-use Rattle.nntp_wire.specs.{Lines.{lines_of_stream}, Inner.Octets.{are_octets}, Answer.{Asked, Response, numbers_are, Spells}, Frame.{HasFrame, frame_octets}}
-use Rattle.nntp_wire.{specs.{Session.{ClientStream}, declared.overviews.Overviews.{Overviews}}, proofs.OctetLemmas.{octets-fit, octets-parts}}
-use Rattle.nntp_wire.proofs.SpellsDecided.{spelling-long}
+use Rattle.std.proofs.{Common.{Fits, w8, length-append, ◌++◌}, lemmas.List.Sums.{sum_by-cons}}
+use Rattle.nntp_wire.specs.{Lines.{lines_of_stream}, Inner.{Octets.{are_octets}, Frame.{FrameParts, IsFrame}}, Answer.{Asked, Response, numbers_are, Spells}}
+use Rattle.nntp_wire.{specs.{Frame.{HasFrame, frame_octets}, Session.{ClientStream}, declared.overviews.Overviews.{Overviews}}, proofs.OctetLemmas.{octets-fit}}
+use Rattle.nntp_wire.proofs.{OctetLemmas.{octets-parts}, SpellsDecided.{spelling-long}}
 use Rattle.nntp_pair.specs.{Pairing.{IsMalformed, asked_at, Place, place_of, has_line}, Inner.Pairing.{IsSpelled, lines_in, places_from}}
 
 -- a spelling has three octets, and one for each line
@@ -39,3 +39,12 @@ some-count overviews (line ∷ lines) = search (arith, sum_by-cons, some-count o
 -- the places with a line are those of the client's lines
 pub lines-count : (is_greeted : Bool) (client : ClientStream) → count_by has_line (places_from is_greeted client) ≡ length (lines_of_stream client.octets)
 lines-count is_greeted client = grind (arith, some-count)
+
+-- ---- a frame at the front
+
+-- it is no longer than the octets
+pub frame-within : {asked : Asked} {server rest : List ℕ} (frame : FrameParts) {len : ℕ} → HasFrame asked server frame.initial frame.block rest → len ≡ frame.len → IsFrame frame → len ≤ length server
+frame-within {server = server} {rest = rest} frame has value is =
+    let whole : length server ≡ length (frame_octets frame.initial frame.block ++ rest) = ap length has.whole in
+    let size : frame.len ≡ length (frame_octets frame.initial frame.block) = is.len_is in
+    omega (arith, length-append (frame_octets frame.initial frame.block) rest)

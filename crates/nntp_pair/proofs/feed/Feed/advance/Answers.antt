@@ -1,7 +1,8 @@
-use Rattle.std.{proofs.Common.{◌∙◌, ◌+◌, ◌*◌, ◌≤◌, length, drop, MatchOption, refl, sym, ap, subst, arith}, specs.Prelude.{⊤, nat_lt}}
+use Rattle.std.{proofs.{Common.{◌∙◌, ◌+◌, ◌*◌, ◌≤◌, length, drop, MatchOption, refl, sym, ap, subst, arith}, lemmas.Grind.{common_steps}}, specs.Prelude.{⊤}}
+use Rattle.std.specs.Prelude.{nat_lt}
 use Rattle.nntp_wire.specs.{Answer.{Response, Spells}, Frame.{frame_octets}, Session.{taken}}
 use Rattle.nntp_pair.specs.{Pairing.{IsNext, asked_at, HasNext}, Inner.{Feeding.{Fed, IsFed, left_of}, Searching.{left_from, BeginsWithPlace, IsForNext}}}
-use Rattle.nntp_pair.proofs.FeedLemmas.{search-there, in-step, behind-place, next-frame, frame-shorter, next-behind, next-here, fed-push}
+use Rattle.nntp_pair.proofs.FeedLemmas.{search-there, in-step, behind-place, next-frame, frame-shorter, next-behind, next-here, fed-push, frame-fits}
 use Rattle.nntp_pair.proofs.feed.Feed.advance.Goals as goal
 
 pub unreachable-requires-in_default-frame : goal.unreachable-requires-in_default-frame
@@ -82,3 +83,14 @@ returns-clause-counts g c = ap (λ (f : Fed). f.counts) c.self.view_is
 
 pub returns-clause-has_failed : goal.returns-clause-has_failed
 returns-clause-has_failed g c = ap (λ (f : Fed). f.has_failed) c.self.view_is
+
+pub overflow_sub-line_len : goal.overflow_sub-line_len
+overflow_sub-line_len g c = grind (arith, common_steps)
+
+pub pass-requires-2 : goal.pass-requires-2
+pass-requires-2 g c =
+    let i = c.self.inside in
+    let left = left_from i.index i.is_closed (taken i.overviews i.client) i.server in
+    let is = subst (λ f. MatchOption f ⊤ (IsForNext left)) c.in-Some-frame.is c.self.invariant.searched.frame in
+    frame-fits left c.in-Some-frame.search c.as_slice-server.result.now i.server c.in-Some-frame-2.frame c.len-frame_len.result is
+    c.as_slice-server.ensures c.in-Some-frame-2.ensures.found c.len-frame_len.ensures.value c.len-frame_len.ensures.is_frame

@@ -1,8 +1,8 @@
-use Rattle.std.{proofs.Common.{MatchOption, refl, sym, subst, drop}, specs.Prelude.{⊤}}
+use Rattle.std.{proofs.{Common.{MatchOption, refl, sym, subst, drop, arith}, lemmas.Grind.{common_steps}}, specs.Prelude.{⊤}}
 use Rattle.nntp_wire.specs.{Frame.{HasFrame}, Inner.Search.{IsFrameThrough}, Session.{taken}}
 use Rattle.nntp_pair.specs.{Pairing.{Awaits, IsAnswered, IsMalformed, asked_at, Place}, Inner.{Feeding.{IsPeek}, Searching.{left_from, IsForNext}}}
 use Rattle.nntp_pair.{specs.declared.class.PairClass.TheVariants.{Malformed}, proofs.{PairLemmas.{malformed}, FeedLemmas.{nothing, begins-awaits, for-next}}}
-use Rattle.nntp_pair.proofs.FeedLemmas.{next-of, malformed-for_good}
+use Rattle.nntp_pair.proofs.FeedLemmas.{next-of, malformed-for_good, nothing-awaited}
 use Rattle.nntp_pair.specs.declared.peek.Peek.TheVariants as peek
 use Rattle.nntp_pair.proofs.feed.Feed.peek.Goals as goal
 
@@ -59,3 +59,16 @@ returns-in_default-parse g c =
     (λ r. rw (← c.prompt-prompt.ensures) (c.in_default-parse.ensures r)) in
     let why = subst (λ t. IsMalformed (asked_at place) t) c.as_slice-server.ensures bad in
     subst (λ fed. IsPeek fed (peek.Bad c.self.inside.index Malformed)) c.self.view_is (c.if-self.false, refl, malformed-for_good left place awaits why)
+
+pub returns-in-false : goal.returns-in-false
+returns-in-false g c = grind (arith, common_steps)
+
+pub returns-in-true : goal.returns-in-true
+returns-in-true g c = grind (arith, common_steps)
+
+pub returns-in_default : goal.returns-in_default
+returns-in_default g c =
+    let left = left_from c.self.inside.index c.self.inside.is_closed (taken c.self.inside.overviews c.self.inside.client) c.self.inside.server in
+    let none = rw c.as_slice-client.ensures at c.in_default.ensures in
+    let both = nothing-awaited left c.if-self-2.false none in
+    subst (λ fed. IsPeek fed peek.Nothing) c.self.view_is (c.if-self.false, both.0, both.1)

@@ -1,7 +1,7 @@
 use Rattle.std.proofs.{Common.{◌≢◌, [], refl, subst, drop, arith}, lemmas.Grind.{common_steps}}
 use Rattle.nntp_wire.specs.Inner.View.{asked}
 use Rattle.nntp_pair.specs.{Pairing.{Unpaired, Awaits}, Inner.Step.{IsStep}, declared.{class.PairClass.TheVariants.{Malformed}, step.Step.TheVariants.{Bad}}}
-use Rattle.nntp_pair.proofs.PairLemmas.{malformed}
+use Rattle.nntp_pair.proofs.PairLemmas.{malformed, frame-within}
 use Rattle.nntp_pair.proofs.pairs.Pairs.next.Goals as goal
 
 pub returns-in_default-parse-clause-step : goal.returns-in_default-parse-clause-step
@@ -21,3 +21,15 @@ returns-in_default-parse-clause-step c =
 
 pub returns-clause-progress : goal.returns-clause-progress
 returns-clause-progress c = grind (arith, common_steps)
+
+pub new-exchange-requires-clause-frame : goal.new-exchange-requires-clause-frame
+new-exchange-requires-clause-frame c = grind (arith, common_steps)
+
+pub split_at-requires : goal.split_at-requires
+split_at-requires c = frame-within c.in-Some-frame.frame c.in-Some-frame.ensures.found c.len.ensures.value c.len.ensures.is_frame
+
+pub invariant_of-self : goal.invariant_of-self
+invariant_of-self c = grind (arith, common_steps)
+
+pub returns-clause-step : goal.returns-clause-step
+returns-clause-step c = grind (arith, common_steps)
