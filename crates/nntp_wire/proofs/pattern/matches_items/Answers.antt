@@ -1,4 +1,4 @@
-use Rattle.std.proofs.Common.{map, arith}
+use Rattle.std.proofs.{Common.{map, arith}, lemmas.Grind.{common_steps}}
 use Rattle.nntp_wire.{specs.Wildmat.{Matches, item_of}, proofs.PatternLemmas.{search-star, search-one, search-fails}}
 use Rattle.nntp_wire.proofs.pattern.matches_items.Goals as goal
 
@@ -31,3 +31,6 @@ loop-rest-preserved c =
       left = omega (arith, c.in-Some.ensures.shorter, c.loop-rest.invariant.tried);
       tried = omega (arith, c.in-Some.ensures.shorter, c.loop-rest.invariant.tried);
     }
+
+pub loop-rest-smaller : goal.loop-rest-smaller
+loop-rest-smaller c = grind (arith, common_steps)

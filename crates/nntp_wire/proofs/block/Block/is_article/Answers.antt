@@ -1,5 +1,5 @@
 use Rattle.std.proofs.{Common.{arith, ◌≡◌, ◌≢◌, ◌++◌, List, ℕ, subst, ap, ◌∙◌}, lemmas.{Bool.{false≢true, Decides.{Decides-eqb}}, List.{append_cancel_left}}}
-use Rattle.std.{proofs.lemmas.Slice.Eq.{strip_prefix_is, slice_eq-Decides}, specs.Option.{MatchOption}}
+use Rattle.std.{proofs.lemmas.{Slice.Eq.{strip_prefix_is, slice_eq-Decides}, Grind.{common_steps}}, specs.Option.{MatchOption}}
 use Rattle.nntp_wire.{specs.{Octets.{crlf}, Inner.Block.{Sends}, Block.{sent}}, proofs.SubBlockLemmas.{article-iff, sent-append}}
 use Rattle.nntp_wire.proofs.block.Block.is_article.Goals as goal
 
@@ -26,3 +26,6 @@ returns-in-Some-strip_prefix c =
     let iff = article-iff bytes front back c.args.self.now c.args.head.now c.args.body.now
     (subst (Sends bytes) c.self.view_is c.self.invariant) (subst (Sends front) c.head.view_is c.head.invariant) (subst (Sends back) c.body.view_is c.body.invariant) in
     grind (arith, append_cancel_left)
+
+pub returns-in-None : goal.returns-in-None
+returns-in-None c = grind (arith, common_steps)

@@ -1,4 +1,5 @@
 use Rattle.std.proofs.Common.{◌≡◌, ◌∙◌, ◌+◌, ◌-◌, ℕ, Bool, Option, ap, List, ◌++◌, length, take, refl, sym, subst, arith, length-append, true}
+use Rattle.std.proofs.lemmas.Grind.{common_steps}
 use Rattle.nntp_wire.specs.{Octets.{crlf}, Lines.{HasNoCrlf}, Inner.{Block.{end_of_block}, Search.{IsSearched, IsThrough}}, Answer.{Asked, code_of}}
 use Rattle.nntp_wire.{specs.{Frame.{is_due_by}, declared.search.Search.{Search, TheVariants.{Found}}}, proofs.FrameLemmas.{no_line_no_frame, undue_frame}}
 use Rattle.nntp_wire.proofs.FrameLemmas.{due_frame, no_block_no_frame, block_found, IsBlockAt}
@@ -62,3 +63,9 @@ returns-clause-found c =
     rw (c.new-2.ensures, c.split_at.ensures.front)
     (due_frame asked c.args.stream.now line rest sent at.more (c.in-Found.end + 5) parts.0 parts.1
     (due-by asked line c.args.self.now.code c.is_due.result (c.is_due.ensures asked same) reads ∙ c.if-not-is_due.false) at.before_dot_line at.parts len)
+
+pub new-requires-clause-frame : goal.new-requires-clause-frame
+new-requires-clause-frame c = grind (arith, common_steps)
+
+pub split_at-requires : goal.split_at-requires
+split_at-requires c = grind (arith, common_steps)
