@@ -1,4 +1,5 @@
-use Rattle.std.{proofs.Common.{◌≡◌, ℕ, ◌+◌, List, [], ◌∷◌, map, drop, Option, None, Some, sym, ap, ◌∙◌, rules}, specs.Option.{option_or}}
+use Rattle.std.proofs.{Common.{◌≡◌, ℕ, ◌+◌, List, [], ◌∷◌, map, drop, Option, None, Some, sym, ap, ◌∙◌, rules, arith}, lemmas.Grind.{common_steps}}
+use Rattle.std.specs.Option.{option_or}
 use Rattle.nntp_wire.specs.{Inner.View.{active_value}, Listing.{ActiveValue}, Reason.{first}}
 use Rattle.nntp_article.specs.Session.{Spool.{Name}, Machine.{group_names}, Misfit.{Misfit, active_misfit, twice_misfit}}
 use Rattle.nntp_article.{specs.{declared.session.profile.Profile.{Profile}, Inner.MisfitView.{why_if}}, proofs.SessionLemmas.LinesLeft.{next_left}}
@@ -39,3 +40,9 @@ loop-group-preserved g c =
           (free _ _ c.in_ok-insert.ensures.added w.if-not-branch.false) c.in_ok-insert.ensures.keys)
     ])
     c.loop-group.invariant
+
+pub returns : goal.returns
+returns g c = grind (arith, common_steps)
+
+pub returns-in-Some : goal.returns-in-Some
+returns-in-Some g c = grind (arith, common_steps)

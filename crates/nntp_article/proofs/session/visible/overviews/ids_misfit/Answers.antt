@@ -1,4 +1,4 @@
-use Rattle.std.proofs.Common.{◌+◌, map, drop, sym, ap, ◌∙◌}
+use Rattle.std.proofs.{Common.{◌+◌, map, drop, sym, ap, ◌∙◌, arith}, lemmas.Grind.{common_steps}}
 use Rattle.nntp_wire.specs.{Inner.View.{overview_value}, Listing.{OverviewValue}}
 use Rattle.nntp_article.{specs.Session.{Machine.{overview_ids}, Misfit.{twice_misfit}}, proofs.SessionLemmas.{LinesLeft.{next_left}, NamesInASet.{names_in}}}
 use Rattle.nntp_article.proofs.SessionLemmas.NamesInASet.{taken, free, twice_here, twice_later}
@@ -26,3 +26,6 @@ loop-overview-preserved g c =
     (free _ _ c.in_ok-insert.ensures.added c.if-not-branch.false) c.in_ok-insert.ensures.keys
     ∙ ap (λ left. twice_misfit (names_in old) (overview_ids left)) (sym (next_left overview_value overviews i c.overview-item.result c.loop-overview-test.true c.overview-item.is))
     ∙ c.loop-overview.invariant
+
+pub returns : goal.returns
+returns g c = grind (arith, common_steps)
