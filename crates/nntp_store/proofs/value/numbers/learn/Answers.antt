@@ -1,4 +1,5 @@
-use Rattle.std.{proofs.{Common.{arith, true, not, inr, sym, ap}, lemmas.{Bool.{not-true}, Result.{err_from_is_err_and}}}, specs.Rc.{rc_str_bytes}}
+use Rattle.std.proofs.{Common.{arith, true, not, inl, inr, sym, ap}, lemmas.{Bool.{not-true}, List.{nil_from_length}, Result.{err_from_is_err_and}}}
+use Rattle.std.specs.Rc.{rc_str_bytes}
 use Rattle.nntp_store.{specs.{Inner.Numbers.{AreIdsOf, numbers_shown}, Numbers.{has_id}}, proofs.NumberIds.{known_are, is_added, known_with}}
 use Rattle.nntp_store.proofs.value.numbers.learn.Goals as goal
 
@@ -22,3 +23,9 @@ returns-clause-ok g c n absent =
     let added = c.in_ok-insert.field-0 in
     inr (known_with c.if-is_empty.known.keys c.insert.new.self.keys N n c.args.id added are absent (is_added c.if-is_empty.known.keys N c.args.id added are c.in_ok-insert.ensures.added)
     c.in_ok-insert.ensures.keys (λ old. grind arith))
+
+pub returns-then-ids-lt-FEW-clause-ok : goal.returns-then-ids-lt-FEW-clause-ok
+returns-then-ids-lt-FEW-clause-ok g c n absent = inl (nil_from_length _ (c.is_empty.ensures.0 c.if-is_empty.true))
+
+pub returns-then-is_among-clause-ok : goal.returns-then-is_among-clause-ok
+returns-then-is_among-clause-ok g c n absent = inl (nil_from_length _ (c.is_empty.ensures.0 c.if-is_empty.true))

@@ -1,5 +1,5 @@
 use Rattle.std.proofs.{Common.{arith, rules}, lemmas.Iterator.Consumers.{YieldsList-at, YieldsList-from_rest, YieldsList-from_filter, count_from_yields_List}}
-use Rattle.std.{proofs.lemmas.List.{Folds.{fold-map}, Sums.{length-filter}}, specs.String.{string_bytes}}
+use Rattle.std.{proofs.lemmas.{List.{Folds.{fold-map}, Sums.{length-filter}}, Grind.{common_steps}}, specs.String.{string_bytes}}
 use borrow.Author.Tests.{tests}
 use Rattle.nntp_article.specs.Session.Spool.{Name, Numbers}
 use Rattle.nntp_wire.specs.Inner.Decided.{is_asked}
@@ -15,3 +15,6 @@ returns g c =
     (YieldsList-at c.filter.ensures.source (YieldsList-from_rest es c.iter.ensures.rest)) c.filter.ensures.closure
     (λ x b q k. search (rules, tests))) in
     grind (arith, length-filter, fold-map, group_entries)
+
+pub count-requires-clause-fits : goal.count-requires-clause-fits
+count-requires-clause-fits g c = grind (arith, common_steps)

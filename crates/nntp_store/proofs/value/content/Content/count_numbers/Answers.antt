@@ -1,4 +1,4 @@
-use Rattle.std.proofs.{Common.{◌≡◌, List, ◌<◌, ◌^◌, length, sym, ap, subst, ◌∙◌, sum, map as list_map, arith}, lemmas.Simd.{map-map}}
+use Rattle.std.proofs.{Common.{◌≡◌, List, ◌<◌, ◌^◌, length, sym, ap, subst, ◌∙◌, sum, map as list_map, arith}, lemmas.{Simd.{map-map}, Grind.{common_steps}}}
 use Rattle.std.specs.String.{string_bytes}
 use Rattle.nntp_article.specs.{Inner.ShownMap.{shown_entry}, Session.Spool.{Name, Numbers}}
 use Rattle.nntp_store.{specs.Counts.{numbers_in}, proofs.ShownMaps.{group_entries}}
@@ -14,3 +14,6 @@ loop-numbers-init g c =
     ap (λ fs. sum (list_map (λ e. map.len e.1) fs)) c.iter-entries.ensures.rest ∙ ap sum (sym (map-map (λ e. map.len e.1) (shown_entry string_bytes (λ N. N)) es)) ∙ ap total shown in
     let few : length c.iter-entries.result < 2 ^ 63 = subst (λ n. n < 2 ^ 63) (ap (λ fs. length fs) (sym c.iter-entries.ensures.rest)) c.iter-entries.ensures.fits in
     record { total = omega (arith, all); small = omega (arith, few) }
+
+pub loop-numbers-preserved : goal.loop-numbers-preserved
+loop-numbers-preserved g c = grind (arith, common_steps)
