@@ -1,25 +1,30 @@
 use Rattle.std.proofs.{Common.{arith, true, not, inl, inr, sym, ap}, lemmas.{Bool.{not-true}, List.{nil_from_length}, Result.{err_from_is_err_and}}}
 use Rattle.std.specs.Rc.{rc_str_bytes}
 use Rattle.nntp_store.{specs.{Inner.Numbers.{AreIdsOf, numbers_shown}, Numbers.{has_id}}, proofs.NumberIds.{known_are, is_added, known_with}}
+use Rattle.nntp_store.proofs.value.numbers.learn.{Given.{Over}, Goals.{After-insert}}
 use Rattle.nntp_store.proofs.value.numbers.learn.Goals as goal
+
+-- what is known then are the ids of the numbers
+ids_known : (g : Over) (c : After-insert g) → AreIdsOf c.if-is_empty.known.keys (numbers_shown c.args.ids.now)
+ids_known g c = grind (arith, known_are)
 
 pub returns-in_err-insert-clause-absent : goal.returns-in_err-insert-clause-absent
 returns-in_err-insert-clause-absent g c =
     let N = numbers_shown c.args.ids.now in
-    let are : AreIdsOf c.if-is_empty.known.keys N = grind (arith, known_are) in
+    let are = ids_known g (goal.at.returns-in_err-insert-clause-absent g c).After-insert in
     let p = err_from_is_err_and c.from_residual-in_err-insert.result c.from_residual-in_err-insert.ensures.1 in
     rw p.1 (not-true (has_id N (rc_str_bytes c.args.id)) (sym (is_added c.if-is_empty.known.keys N c.args.id true are (sym (ap not c.in_err-insert.ensures.absent)))))
 
 pub returns-clause-added : goal.returns-clause-added
 returns-clause-added g c =
     let N = numbers_shown c.args.ids.now in
-    let are : AreIdsOf c.if-is_empty.known.keys N = grind (arith, known_are) in
+    let are = ids_known g (goal.at.returns-clause-added g c).After-insert in
     is_added c.if-is_empty.known.keys N c.args.id c.in_ok-insert.field-0 are c.in_ok-insert.ensures.added
 
 pub returns-clause-ok : goal.returns-clause-ok
 returns-clause-ok g c n absent =
     let N = numbers_shown c.args.ids.now in
-    let are : AreIdsOf c.if-is_empty.known.keys N = grind (arith, known_are) in
+    let are = ids_known g (goal.at.returns-clause-ok g c).After-insert in
     let added = c.in_ok-insert.field-0 in
     inr (known_with c.if-is_empty.known.keys c.insert.new.self.keys N n c.args.id added are absent (is_added c.if-is_empty.known.keys N c.args.id added are c.in_ok-insert.ensures.added)
     c.in_ok-insert.ensures.keys (λ old. grind arith))

@@ -1,4 +1,4 @@
-use Rattle.std.{proofs.Common.{arith, ◌∙◌, ap}, specs.Rc.{rc_str_bytes}}
+use Rattle.std.{proofs.Common.{inl, inr, ◌∙◌, ap}, specs.Rc.{rc_str_bytes}}
 use Rattle.nntp_store.{specs.Inner.{ArticleLines.{text_stored}, Building.{article_fault}}, proofs.BuiltContent.{article_added, articles_dropped}}
 use Rattle.nntp_store.proofs.value.builder.SpoolBuilder.put_article.Goals as goal
 
@@ -8,4 +8,4 @@ invariant_of-self g c =
     rw c.in-Ok.ensures.ok (article_added _ _ c.self.invariant _ _ faultless)
 
 pub invariant_of-self-in_default : goal.invariant_of-self-in_default
-invariant_of-self-in_default g c = grind (arith, articles_dropped)
+invariant_of-self-in_default g c = elim c.in_default.ensures.err [ inl same ↦ rw same c.self.invariant | inr none ↦ rw none (articles_dropped _ _ c.self.invariant) ]
