@@ -1,12 +1,12 @@
 -- What a writer took after several calls.
-use Rattle.std.proofs.Common.{arith, ◌≡◌, ℕ, false, List, [], ◌∷◌, ◌++◌, Option, Result, Ok, Err, take, drop, subst, map as list_map, refl, sym, ap, ◌∙◌}
-use Rattle.std.{proofs.{Common.{append_assoc}, lemmas.List.{append-nil, take-append-drop, Concat.{flat_map-append}}}, specs.Io.KnownBytes.{Appends}}
-use Rattle.std.specs.{List.{flat_map}, Prelude.{◌||◌, String, IsErrAnd}, Rc.{rc_str_bytes}, String.{string_bytes}, declared.rc.RcStr.{RcStr}}
+use Rattle.std.proofs.Common.{arith, ◌≡◌, ℕ, List, [], ◌∷◌, ◌++◌, Option, Result, Ok, Err, take, drop, subst, map as list_map, refl, sym, ap, ◌∙◌, append_assoc}
+use Rattle.std.{proofs.lemmas.List.{append-nil, take-append-drop, Concat.{flat_map-append}}, specs.{Io.KnownBytes.{Appends}, List.{flat_map}, Prelude.{String}}}
+use Rattle.std.specs.{Prelude.{IsErr, IsErrAnd}, Rc.{rc_str_bytes}, String.{string_bytes}, declared.rc.RcStr.{RcStr}}
 use Rattle.nntp_wire.specs.declared.limit.Limit.{Limit}
 use Rattle.nntp_article.specs.Session.Spool.{Spool, Numbers}
-use Rattle.nntp_store.specs.Inner.{ArticleLines.{text_stored}, Buffering.{taken, waiting, writer_failed, IsSameWriter}, Writing.{WritesBut}}
-use Rattle.nntp_store.specs.{Limited.{LimitedSpool}, Text.{with_line_ends, number_line, limit_lines, content_lines, spool_text, barred, group_lines}}
-use Rattle.nntp_store.specs.{Text.{article_lines}, Watched.{inner_of}, Writing.{Wrote}, declared.buffered_output.BufferedOutput.{BufferedOutput}}
+use Rattle.nntp_store.specs.{Inner.{ArticleLines.{text_stored}, Buffering.{Puts, waiting}, Writing.{WritesBut}}, Limited.{LimitedSpool}, Text.{with_line_ends}}
+use Rattle.nntp_store.specs.{Text.{number_line, limit_lines, content_lines, spool_text, group_lines, article_lines}, Watched.{inner_of}, Writing.{Wrote}}
+use Rattle.nntp_store.specs.declared.{buffered_output.BufferedOutput.{BufferedOutput}, output.WriteFault.{WriteFault}}
 use Rattle.nntp_store.specs.declared.{value.article.StoredArticle.{StoredArticle}, watched.Watched.{Watched}}
 
 Appends-then : (a b c : Option (List ℕ)) (x y : List ℕ) → Appends a b x → Appends b c y → Appends a c (x ++ y)
@@ -21,45 +21,6 @@ Wrote-on a b c whole waiting x y rest h g = grind (arith, append_assoc, Appends-
 
 pub Wrote-take : (a b c : Option (List ℕ)) (whole rest : List ℕ) (n : ℕ) → Wrote a b whole rest → Appends b c (take n rest) → Wrote a c whole (drop n rest)
 Wrote-take a b c whole rest n h g = search (arith, take-append-drop, append_assoc, Appends-then)
-
--- items, the text of several of them, one after the other, and of each
-pub record Texts (X : Type 0) : Type 0 where
-  pub all : List X → List ℕ
-  pub one : X → List ℕ
-  pub law : (x : X) (xs : List X) → all (x ∷ xs) ≡ one x ++ all xs
-
--- of a whole text so much was passed on to a writer that this much is left
-pub record Buffered {W : Type 0} (told : W → Option (List ℕ)) (old new : BufferedOutput W) (whole left : List ℕ) : Type 0 where
-  pub wrote : Wrote (taken told old) (taken told new) (waiting old ++ whole) (waiting new ++ left)
-  pub same : writer_failed new ≡ writer_failed old
-  pub writer : IsSameWriter old new
-
--- nothing was yet
-pub starts : {W : Type 0} (told : W → Option (List ℕ)) (old : BufferedOutput W) (whole left : List ℕ) → whole ≡ left → Buffered told old old whole left
-starts told old whole left e = record {
-  wrote = subst (λ (t : List ℕ). Wrote (taken told old) (taken told old) (waiting old ++ whole) (waiting old ++ t)) e (Wrote-start _ (waiting old ++ whole));
-  same = refl;
-  writer = refl;
-}
-
--- the text of the first item that is left is passed on
-module _ {X W : Type 0} (t : Texts X) (told : W → Option (List ℕ)) (old mid : BufferedOutput W) (whole : List ℕ) (xs more : List X) (x : X) (piece : List ℕ)
-    (first : xs ≡ x ∷ more) (is : piece ≡ t.one x) (so_far : Buffered told old mid whole (t.all xs)) where
-  next : (b : Option (List ℕ)) (rest : List ℕ) → Wrote (taken told mid) b (waiting mid ++ piece) rest
-      → Wrote (taken told old) b (waiting old ++ whole) (rest ++ t.all more)
-  next b rest put =
-      let text : t.all xs ≡ piece ++ t.all more = ap t.all first ∙ t.law x more ∙ ap (λ (u : List ℕ). u ++ t.all more) (sym is) in
-      let before = subst (λ (u : List ℕ). Wrote (taken told old) (taken told mid) (waiting old ++ whole) (waiting mid ++ u)) text so_far.wrote in
-      Wrote-on _ _ b (waiting old ++ whole) (waiting mid) piece (t.all more) rest before put
-
-  pub goes_on : (new : BufferedOutput W) → Wrote (taken told mid) (taken told new) (waiting mid ++ piece) (waiting new) → writer_failed new ≡ (writer_failed mid || false)
-      → IsSameWriter mid new → Buffered told old new whole (t.all more)
-  goes_on new put works same = record { wrote = next _ (waiting new) put; same = grind (arith, so_far.same); writer = same ∙ so_far.writer }
-
-  -- after a fault only a front of it
-  pub stops : (b : Option (List ℕ)) → (left : List ℕ) × Wrote (taken told mid) b (waiting mid ++ piece) left
-      → (left : List ℕ) × Wrote (taken told old) b (waiting old ++ whole) left
-  stops b w = (_, next b w.0 w.1)
 
 -- a call that is to write all that is left
 pub Wrote-last : (a b c : Option (List ℕ)) (whole y rest : List ℕ) → Wrote a b whole y → Wrote b c y rest → Wrote a c whole rest
@@ -106,27 +67,35 @@ pub Limit-first : (start a b : Option (List ℕ)) (waiting : List ℕ) (limit : 
     → Wrote a b (waiting ++ with_line_ends (limit_lines limit)) rest → Wrote start b (spool_text L) (rest ++ with_line_ends (content_lines S))
 Limit-first start a b waiting limit L S rest same none e f g = grind (arith, Lines-first a b waiting (limit_lines L.limit) (content_lines S) rest)
 
--- ---- the texts of a loop's items
+-- ---- the texts of what is listed
 
-abbrev pub barred_texts : Texts (List ℕ)
-barred_texts = record { all = λ lines. with_line_ends (barred lines); one = λ line. 124 ∷ line ++ 10 ∷ []; law = λ x xs. refl }
+abbrev pub text_of_articles : {A : Type 0} → List (RcStr A × StoredArticle A) → List ℕ
+text_of_articles es = with_line_ends (flat_map article_lines (list_map (λ e. (rc_str_bytes e.0, text_stored e.1)) es))
 
-abbrev pub number_texts : {A : Type 0} → Texts (ℕ × RcStr A)
-number_texts = record {
-  all = λ es. with_line_ends (list_map (λ e. number_line e.0 (rc_str_bytes e.1)) es);
-  one = λ e. with_line_ends (number_line e.0 (rc_str_bytes e.1) ∷ []);
-  law = λ x xs. with_line_ends-cons (number_line x.0 (rc_str_bytes x.1)) _;
-}
+abbrev pub text_of_groups : {A : Type 0} → List (String A × Numbers) → List ℕ
+text_of_groups es = with_line_ends (flat_map group_lines (list_map (λ e. (string_bytes e.0, e.1)) es))
 
-abbrev pub lines_texts : {X Y : Type 0} → (Y → List (List ℕ)) → (X → Y) → Texts X
-lines_texts lines view = record {
-  all = λ xs. with_line_ends (flat_map lines (list_map view xs));
-  one = λ x. with_line_ends (lines (view x));
-  law = λ x xs. with_line_ends-append (lines (view x)) _;
-}
+abbrev pub text_of_numbers : {A : Type 0} → List (ℕ × RcStr A) → List ℕ
+text_of_numbers es = with_line_ends (list_map (λ (e : ℕ × List ℕ). number_line e.0 e.1) (list_map (λ e. (e.0, rc_str_bytes e.1)) es))
 
-abbrev pub group_texts : {A : Type 0} → Texts (String A × Numbers)
-group_texts = lines_texts group_lines (λ e. (string_bytes e.0, e.1))
+-- ---- calls one after the other
 
-abbrev pub article_texts : {A : Type 0} → Texts (RcStr A × StoredArticle A)
-article_texts = lines_texts article_lines (λ e. (rc_str_bytes e.0, text_stored e.1))
+module _ {W : Type 0} (told : W → Option (List ℕ)) (a : BufferedOutput W) (whole : List ℕ) where
+  -- where nothing is left, nothing is put there
+  pub Puts-end : whole ≡ [] → Puts told (Ok tt) a a whole
+  Puts-end none = rw none (record { text = grind (arith, append-nil, Wrote-start); failed = grind arith; same_writer = refl })
+
+  -- a call put a front there, and this is left
+  module _ (b : BufferedOutput W) (front rest : List ℕ) (parts : whole ≡ front ++ rest) where
+    -- what comes after it puts the rest there
+    pub Puts-on : (u : Unit {0}) → Puts told (Ok u) a b front → (r : _) (c : BufferedOutput W) → Puts told r b c rest → Puts told r a c whole
+    Puts-on u f r c g = rw parts (record {
+      text = Writes-last r _ _ _ _ _ _ (Wrote-first _ _ (waiting a) front rest _ f.text) g.text;
+      failed = grind (arith, f.failed, g.failed);
+      same_writer = g.same_writer ∙ f.same_writer;
+    })
+
+    -- after a fault a front of the whole is put there
+    pub Puts-until : (e : WriteFault) → Puts told (Err e) a b front → (r : _) → IsErr r → Puts told r a b whole
+    Puts-until e f (Err n) is = rw parts (record { text = (_, Wrote-first _ _ (waiting a) front rest _ f.text.1); failed = f.failed; same_writer = f.same_writer })
+    Puts-until e f (Ok n) is = absurd cc

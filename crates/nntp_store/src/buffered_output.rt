@@ -1,8 +1,9 @@
 //! Octets that are gathered for a writer.
 ghost use Rattle.std.specs.Prelude.{◌≡◌, [], ◌||◌, is_err, OnOk};
 ghost use Rattle.std.specs.List.{flat_map};
+ghost use Rattle.std.specs.Iterator.{IsFinite};
 ghost use Rattle.nntp_store.specs.Inner.Writing.{Writes};
-ghost use Rattle.nntp_store.specs.Inner.Buffering.{taken, waiting, writer_failed, IsSameWriter, Buffers};
+ghost use Rattle.nntp_store.specs.Inner.Buffering.{taken, waiting, writer_failed, IsSameWriter, Buffers, PutsAll};
 
 use crate::output::{WriteFault, put};
 use crate::watched::Watched;
@@ -67,8 +68,22 @@ impl<'a, W: Write> BufferedOutput<'a, W> {
         ensures failed { writer_failed self.new ≡ (writer_failed self.old || is_err result) }
         ensures same_writer { IsSameWriter self.old self.new }
     {
-        for piece in pieces {
-            self.put(*piece)?;
+        self.put_each(pieces.iter(), |output, piece| output.put(*piece))
+    }
+
+    /// Puts each item there, up to the first that can't be put.
+    pub(crate) fn put_each<I: Iterator, F: Fn(&mut Self, I::Item) -> Result<(), WriteFault>>(
+        &mut self,
+        items: I,
+        put: F,
+    ) -> Result<(), WriteFault>
+        requires can { I.can_next items }
+        requires finite { IsFinite (I.remaining items) }
+        requires callable { F.IsAlwaysCallable put }
+        ensures { PutsAll W.contents I.next_gives F.Fn result self.old self.new items put }
+    {
+        for item in items {
+            put(self, item)?;
         }
         Ok(())
     }

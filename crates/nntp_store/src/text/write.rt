@@ -82,11 +82,10 @@ fn put_barred_lines<W: Write>(
     ensures failed { writer_failed output.new ≡ (writer_failed output.old || is_err result) }
     ensures same_writer { IsSameWriter output.old output.new }
 {
-    let mut rest = lines.lines();
-    while let Some(line) = rest.next() {
-        output.put_pieces(&[b"|", line, b"\n"])?;
-    }
-    Ok(())
+    output.put_each(
+        lines.lines(),
+        |output, line| output.put_pieces(&[b"|", line, b"\n"]),
+    )
 }
 
 impl<A: Allocator> Numbers<A> {
@@ -96,10 +95,9 @@ impl<A: Allocator> Numbers<A> {
         ensures failed { writer_failed output.new ≡ (writer_failed output.old || is_err result) }
         ensures same_writer { IsSameWriter output.old output.new }
     {
-        for numbered in &self.ids {
-            put_number_line(output, numbered.0, numbered.1.as_str().as_bytes())?;
-        }
-        Ok(())
+        output.put_each(self.ids.iter(), |output, numbered| {
+            put_number_line(output, numbered.0, numbered.1.as_str().as_bytes())
+        })
     }
 }
 
@@ -163,10 +161,9 @@ fn put_articles<W: Write, A: Allocator>(
     ensures failed { writer_failed output.new ≡ (writer_failed output.old || is_err result) }
     ensures same_writer { IsSameWriter output.old output.new }
 {
-    for article in articles {
-        put_article(output, article.0.as_str().as_bytes(), &article.1)?;
-    }
-    Ok(())
+    output.put_each(articles.iter(), |output, article| {
+        put_article(output, article.0.as_str().as_bytes(), &article.1)
+    })
 }
 
 /// Writes the lines of the articles of a map.
@@ -179,11 +176,9 @@ fn put_articles_of_map<W: Write, A: Allocator>(
     ensures failed { writer_failed output.new ≡ (writer_failed output.old || is_err result) }
     ensures same_writer { IsSameWriter output.old output.new }
 {
-    let mut entries = articles.iter();
-    while let Some((id, article)) = entries.next() {
-        put_article(output, id.as_str().as_bytes(), article)?;
-    }
-    Ok(())
+    output.put_each(articles.iter(), |output, (id, article)| {
+        put_article(output, id.as_str().as_bytes(), article)
+    })
 }
 
 impl<A: Allocator> Content<A> {
@@ -193,11 +188,9 @@ impl<A: Allocator> Content<A> {
         ensures failed { writer_failed output.new ≡ (writer_failed output.old || is_err result) }
         ensures same_writer { IsSameWriter output.old output.new }
     {
-        let mut entries = self.groups.iter();
-        while let Some((name, numbers)) = entries.next() {
-            put_group(output, name.as_bytes(), numbers.or(&self.no_numbers))?;
-        }
-        Ok(())
+        output.put_each(self.groups.iter(), |output, (name, numbers)| {
+            put_group(output, name.as_bytes(), numbers.or(&self.no_numbers))
+        })
     }
 
     /// Writes the lines of all articles.
