@@ -1,15 +1,15 @@
 -- With which earlier answers a bad answer conflicts.
 use Rattle.std.{specs.{Prelude.{Contains}, FinMap.{len-entries}, Cmp.{nat_cmp_total}, List.{AllByRecursion, flat_map}}, proofs.lemmas.Grind.{flat_map-append}}
 use Rattle.std.proofs.{lemmas.{Bool.{cases_lt, cases_eq, true≢false, not-true}, List.{length-map}}, Common.{append-nil, map, length-append, ◌≡◌, ℕ, zero, suc}}
-use Rattle.std.proofs.Common.{◌+◌, ◌<◌, ◌≤◌, ◌^◌, ◌⊎◌, ◌↔◌, List, [], ◌∷◌, ◌++◌, length, Option, Some, inl, inr, refl, sym, ap, subst, ◌∙◌, arith}
+use Rattle.std.proofs.Common.{◌+◌, ◌<◌, ◌≤◌, ◌^◌, ◌⊎◌, ◌↔◌, List, [], ◌∷◌, ◌++◌, length, Option, None, Some, inl, inr, refl, sym, ap, subst, ◌∙◌, arith}
 use Rattle.nntp_said.specs.{declared.position.Position.{Position, TheVariants.{Nowhere}}, Asks.{position_after}, Facts.{Fact, Holds, facts_of, facts_from}}
-use Rattle.nntp_said.specs.{Facts.{group_of}, Inner.Facts.{FitsAll}}
+use Rattle.nntp_said.specs.{Facts.{group_of, ThereIs}, Inner.Facts.{FitsAll}}
 use Rattle.nntp_theory.specs.{Classes.{visible_from, position_from, asked_next}, Inner.{Permits.{SomePermits}, Given.{size}, Together.{Together}}}
 use Rattle.nntp_theory.specs.{Inner.Conflict.{FitsThere, AreFound, IsPartOfCore}, Given.{fields_in}, Conflict.{Placed, placed_from, said as said_there}}
 use Rattle.nntp_theory.specs.Conflict.{a_group, the_group, with_group, told, SomeHas, told_at, told_with, below, IsCore, Point, Step, Group, Number, Count}
 use Rattle.nntp_theory.{specs.Conflict.{First, IdOf, PlaceOf, Article, HeadOf, BodyOf, FieldOf, ConflictAt, AreAmong, IsEndOfCore}, proofs.PointsByRank.{each}}
 use Rattle.nntp_theory.proofs.{Maps.{keys_among}, Given.{GivenPermits.{said, permits}, GivenHasFacts.{given_of_facts, given_has}, GivenHolds.{one_given}}}
-use Rattle.nntp_theory.proofs.Session.{OneMoreAnswer.{facts_grow}, NumbersOfShownGroups.{Placed as IsPlaced, Among, session_placed}}
+use Rattle.nntp_theory.proofs.Session.{OneMoreAnswer.{facts_grow}, NumbersOfShownGroups.{Placed as IsPlaced, Among, IsSelectable, session_placed}}
 use Rattle.nntp_theory.proofs.{Session.{GroupOfAnAnswer.{same_selected}, FittingFacts.{IsFitting, answer_fitting}}, Members.{In, all_at, all_from, all_both}}
 use Rattle.nntp_theory.proofs.Members.{all_front, all_back, in_front, in_back, in_cases, in_map, found_in, to_flat, from_flat, contains_in, in_contains}
 use Rattle.nntp_theory.proofs.{Members.{all_part, all_parts, part_first}, Together.FactsOfASpoolStand.{stand}}
@@ -103,7 +103,14 @@ session_fits profile v at ps answers f = tt
 -- and what is told of them has what they say
 pub session_told : (profile : Profile) (S : Spool) (v : Visible) (at : Position) (ps : List Asked) (answers : List Response)
     → AllByRecursion (Holds S) (flat_map (told profile) (placed_from v at ps answers)) → AllByRecursion (Holds S) (facts_from profile.marks v at ps answers)
-session_told profile S v at (p ∷ ps) (a ∷ more) h = grind (arith, session_told profile S (visible_after v p a) (position_after at p a) ps more)
+session_told profile S v at (p ∷ ps) (a ∷ more) h =
+    let placed : Placed = record { selected = v.selected; position = at; asked = p; response = a } in
+    let w = visible_after v p a in
+    let next = position_after at p a in
+    let rest = flat_map (told profile) (placed_from w next ps more) in
+    let own = told_own profile S (said_there profile.marks placed) (all_front (Holds S) (told profile placed) rest h) in
+    all_both (Holds S) (facts_of profile.marks v at p a) (facts_from profile.marks w next ps more)
+    (subst (AllByRecursion (Holds S)) (sym (there_said profile.marks placed v refl)) own) (session_told profile S w next ps more (all_back (Holds S) (told profile placed) rest h))
 session_told profile S v at ps answers h = tt
 
 -- ---- fewer facts
@@ -165,7 +172,11 @@ module _ (profile : Profile) (bad : Placed) (answers : List Placed) where
 
   pub core_step : (bound k : ℕ) (places : List ℕ) → IsPartOfCore profile bad answers bound places → k < bound → bound ≤ length answers → StandsWith (below k ++ places)
       → (StandsWith (below (k + 1) ++ places) → ⊥) → IsPartOfCore profile bad answers k (k ∷ places)
-  core_step bound k places p l within stands none = grind (arith, fewer_places (below (k + 1) ++ places) (below k ++ k ∷ places), low_from, low_cases, lower)
+  core_step bound k places p l within stands none = record {
+    there = (omega arith, p.there);
+    conflict = λ h. none (fewer_places (below (k + 1) ++ places) (below k ++ k ∷ places) (λ j i. (let c = low_cases j (k + 1) places i in grind (arith, low_from j k (k ∷ places)))) h);
+    found = (omega arith, stands, lower StandsWith bound (k + 1) places (omega arith) p.found);
+  }
 
   pub core_done : (bound : ℕ) (places : List ℕ) → IsPartOfCore profile bad answers bound places → (StandsWith places → ⊥) → IsCore profile bad answers places
   core_done bound places p none = record {
@@ -213,11 +224,33 @@ one_behind limit (suc p) one le = in_map suc p (below limit) (in_below p limit (
 pub group_holds : (profile : Profile) (S : Spool) (name : Name) → IsSpool profile.limit S → IsGroup S name → AllByRecursion (Holds S) (a_group profile name)
 group_holds profile S name spool group = grind (arith, keys_among nat_cmp_total (numbers S name) (map suc (below profile.limit)), spool.numbers_in_limit name, one_behind, len-entries, length-below)
 
+-- the group that facts speak of is there, where they are placed
+group_there : (how : Marks) (all facts : List Fact) (name : Name) → AllByRecursion (IsPlaced how all) facts → group_of facts ≡ Some name → IsSelectable how all name
+group_there how all [] name p e = absurd cc
+group_there how all (fact ∷ facts) name p e = grind (arith, group_there how all facts name p.1)
+
+-- and so facts that hold and are placed hold with that there is such a group
+with_group_holds : (profile : Profile) (S : Spool) (all facts : List Fact) (group : Option Name) → IsSpool profile.limit S → AllByRecursion (Holds S) all → AllByRecursion (IsPlaced profile.marks all) facts
+    → group_of facts ≡ group → AllByRecursion (Holds S) facts → AllByRecursion (Holds S) (the_group profile group ++ facts)
+with_group_holds profile S all facts (Some name) spool holds p e h =
+    let group = all_at (Holds S) (ThereIs name) all holds (group_there profile.marks all facts name p e).there in
+    all_both (Holds S) (a_group profile name) facts (group_holds profile S name spool group) h
+with_group_holds profile S all facts None spool holds p e h = h
+
 -- what is told of a session holds where all that it says does
 told_holds : (profile : Profile) (S : Spool) (all : List Fact) → IsSpool profile.limit S → AllByRecursion (Holds S) all → (v : Visible) (at : Position) (ps : List Asked) (answers : List Response)
     → AllByRecursion (Holds S) (facts_from profile.marks v at ps answers) → AllByRecursion (IsPlaced profile.marks all) (facts_from profile.marks v at ps answers)
     → AllByRecursion (Holds S) (flat_map (told profile) (placed_from v at ps answers))
-told_holds profile S all spool holds v at (q ∷ ps) (a ∷ more) h p = grind (arith, told_holds profile S all spool holds (visible_after v q a) (position_after at q a) ps more, group_holds, all_at)
+told_holds profile S all spool holds v at (q ∷ ps) (a ∷ more) h p =
+    let placed : Placed = record { selected = v.selected; position = at; asked = q; response = a } in
+    let w = visible_after v q a in
+    let next = position_after at q a in
+    let own = facts_of profile.marks v at q a in
+    let rest = facts_from profile.marks w next ps more in
+    let first = with_group_holds profile S all own (group_of own) spool holds (all_front (IsPlaced profile.marks all) own rest p) refl (all_front (Holds S) own rest h) in
+    all_both (Holds S) (told profile placed) (flat_map (told profile) (placed_from w next ps more))
+    (subst (λ facts. AllByRecursion (Holds S) (with_group profile facts)) (there_said profile.marks placed v refl) first)
+    (told_holds profile S all spool holds w next ps more (all_back (Holds S) own rest h) (all_back (IsPlaced profile.marks all) own rest p))
 told_holds profile S all spool holds v at ps answers h p = tt
 
 -- a session that fits is permitted exactly if some spool has what is told of it

@@ -3,7 +3,7 @@ use Rattle.nntp_wire.specs.declared.{marks.Marks.TheVariants.{Lenient}, water_ma
 use Rattle.nntp_wire.specs.{Answer.{Response, greeting, to, group_is, numbers_are, sends, plain}, Command.{Request, by_id, by_number, current, group}}
 use Rattle.nntp_wire.specs.Command.{list_group, from_one, next, last, retrieve}
 use Rattle.std.proofs.{Common.{◌≡◌, ℕ, ◌+◌, ◌<◌, true, false, List, [], ◌∷◌, ◌++◌, None, Some, map, refl, ap, arith}, lemmas.Bool.{le-ltb, or_cases}}
-use Rattle.std.{proofs.lemmas.Fmt.{decimal_digit}, specs.Prelude.{codes}}
+use Rattle.std.{proofs.lemmas.{Bool.{false≢true, true≢false}, Fmt.{decimal_digit}}, specs.Prelude.{codes}}
 use Rattle.nntp_said.specs.{Asks.{Ask, Estimates, StepsUp, StepsDown, StandsAt, IsTop, IsBottom, Has, Lacks}, declared.position.Position.TheVariants.{First}}
 use Rattle.nntp_said.specs.{declared.position.Position.TheVariants.{Known}, Facts.{Fact, ThereIs, Asks, IdAt}}
 use Rattle.nntp_theory.specs.{Inner.Together.{AsksStand, Together}, Given.{asks_of, is_shown, is_denied, demand, IsOneMore, AreInvented, invented}}
@@ -125,10 +125,10 @@ given : Given
 given = record {
   stepped_is_given_1 = record { needed = λ n t. le-ltb n 4 (grind (arith, or_cases)); wanted = refl; first = (omega arith, refl, λ m some low. absurd (omega arith)) };
   denied_is_given_3 = record { needed = λ n t. le-ltb n 4 (grind (arith, or_cases)); wanted = refl; first = (omega arith, refl, λ m some low. grind arith) };
-  seen_needs_none = λ n x. (let w = x.wanted in cc);
+  seen_needs_none = λ n x. false≢true x.wanted;
   emptied_falls = λ h. grind arith;
-  unasked_needs_none = λ n x. (let w = x.wanted in cc);
+  unasked_needs_none = λ n x. false≢true x.wanted;
   one_is_invented = grind (arith, digit_invented);
   repeated_falls = λ h. grind (arith, (h.ids_once (codes "g") (codes "<a@b>")).1.1.1.1.1.0);
-  returned_needs_none = λ n x. (let w = x.needed 2 refl in cc);
+  returned_needs_none = λ n x. true≢false (x.needed 2 refl);
 }

@@ -106,8 +106,8 @@ module _ (facts : List Fact) where
 
   -- where they don't at any of that rank, those of the next are looked at
   next : {A : Type 0} (n : ℕ) → Below n → AtRank n ⊎ A → (A → PointsOf Free n) → (A → Below (n + 1) → FirstPoint ⊎ Together facts) → FirstPoint ⊎ Together facts
-  next n below (inl (point, same, conflict)) free rest = grind (arith)
-  next n below (inr a) free rest = grind (arith, cases_lt, of_rank Free n (free a))
+  next n below (inl (point, same, conflict)) free rest = inl (point, record { conflict = conflict; first = λ other l. below other (subst (λ r. rank other < r) same l) })
+  next n below (inr a) free rest = rest a (λ other l. elim (cases_lt (rank other) n) [ inl low ↦ below other low | inr le ↦ of_rank Free n (free a) other (omega arith) ])
 
   -- of one of the keys the one is so, or of each the other is
   each_key : {K : Type 0} (keys : List K) (C : Type 0) (P : K → Type 0) → ((k : K) → In k keys ⊎ P k) → ((k : K) → C ⊎ P k) → C ⊎ ((k : K) → P k)

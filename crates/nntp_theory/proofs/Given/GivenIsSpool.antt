@@ -5,10 +5,10 @@ use Rattle.nntp_theory.proofs.{Together.ListedOverviews.{told_by}, Given.{ShownN
 use Rattle.nntp_theory.proofs.{Given.GivenHolds.{shown_at, unshown_once}, Session.{FittingFacts.{IsFitting}, NumbersWithinLimit.{free_in_limit}}}
 use Rattle.nntp_theory.{proofs.Session.NumbersWithinLimit.{shown_in_limit, end_in_limit}, specs.Given.{gives_article, first_given, head_in, fields_in}}
 use Rattle.nntp_theory.specs.{Inner.Together.{IsProperOverview, IsWellFormed}, Together.{number_in}}
-use Rattle.std.specs.{Prelude.{unwrap_or, nat_le, nat_lt}, List.{AllByRecursion, list_all}, Option.{option_map_or}, FinMap.{get, len, get-empty, empty_of_len}}
-use Rattle.std.{specs.Cmp.Lexicographic.{same_text}, proofs.Common.{◌≡◌, ℕ, ◌≤◌, true, IsTrue, List, ◌∷◌, ◌++◌, Option, None, Some, is_some, IsSome, inl, inr}}
-use Rattle.std.proofs.{Common.{refl, sym, ap, subst, arith, ◌&&◌, [], length, append-nil}, lemmas.Bool.{true≢false, and_parts, or_cases, cases_eq, and_from}}
-use Rattle.std.proofs.lemmas.List.Elements.{All-from_recursion}
+use Rattle.std.specs.{Prelude.{IfSome, unwrap_or, nat_le, nat_lt}, List.{AllByRecursion, list_all}, Option.{option_map_or}, FinMap.{get, len, get-empty}}
+use Rattle.std.{specs.{FinMap.{empty_of_len}, Cmp.Lexicographic.{same_text}}, proofs.Common.{◌≡◌, ℕ, ◌≤◌, true, IsTrue, List, ◌∷◌, ◌++◌, Option, None, Some}}
+use Rattle.std.proofs.{Common.{is_some, IsSome, inl, inr, refl, sym, ap, subst, arith, ◌&&◌, [], length, append-nil}, lemmas.Bool.{true≢false, and_parts}}
+use Rattle.std.proofs.lemmas.{Bool.{or_cases, cases_eq, and_from}, List.Elements.{All-from_recursion}}
 use Rattle.nntp_article.specs.{Article.{Fields.{made_head}, Parts.{is_head, said_id, head_part, body_part, Id, Line, skip_last_blanks}}, Session.Spool.{Spool}}
 use Rattle.nntp_article.specs.{Session.{Spool.{Text, IsNumber, numbers, IsSpool, Name, is_line}, Machine.{is_same, says_own_id}}, Inner.Fields.{AreWords}}
 use Rattle.nntp_article.{specs.declared.session.profile.Profile.{Profile}, proofs.ArticleLemmas.FieldLemmas.{made_is_head, made_says, field_lines_are_lines}}
@@ -51,6 +51,17 @@ body_lines P lines h = grind arith
 -- a head that says its own id, or none, says no other
 own_id : (id : Id) (head : List Line) → says_own_id id head ≡ true → (said : Id) → said_id head ≡ Some said → said ≡ id
 own_id id head t said e = same_text said id (sym (subst (λ o. option_map_or (λ said. is_same said id) o true ≡ true) e t))
+
+-- a head that is made for an id is one
+made_for : (id : Id) (told : Option Fields) → IsMessageId id → IfSome told AreWords → IsHeadOf id (made_head id told)
+made_for id told is words =
+    let own = octets id is in
+    let clean = all_clean id own in
+    record {
+      is_a_head = grind (arith, made_is_head);
+      is_clean = grind (arith, field_lines_are_lines, and_from (is_clean id) (list_all (λ c. nat_lt c 256) id) clean.0 clean.1);
+      own = λ said e. grind (arith, made_says, append-nil id, no_last_blanks id own);
+    }
 
 module _ (profile : Profile) (B : ℕ) (G : Spool) (facts : List Fact) (s : Setting profile B G facts) where
   -- a fact is well formed
@@ -110,7 +121,7 @@ module _ (profile : Profile) (B : ℕ) (G : Spool) (facts : List Fact) (s : Sett
       let words = if_some told AreWords (λ fields e.
       let f = first_found (fields_in id) facts fields e in
       told_words id f.0 fields (formed f.0 f.1) (none_there (head_in id) facts f.0 f.1 none) f.2) in
-      grind (arith, made_is_head, field_lines_are_lines, all_clean, and_from, append-nil, and_parts, no_last_blanks, octets, message_id-iff, made_says)
+      made_for id told is words
 
   -- the head of an id is one
   head_is : (id : Id) (t : Text) → get G.articles id ≡ Some t → IsHeadOf id t.head

@@ -43,7 +43,8 @@ module _ (profile : Profile) (earlier : List Answered) (ps : List Asked) (answer
   permitted_more_behind small h =
       let before = stand_each profile h.0 (earlier ++ past ∷ []) h.1 h.2 in
       let grown = fitting_grows profile start.visible ps answers asked response comes in
-      let joins : Together (all ++ new) ↔ Join all new = grind (arith, together_more, facts_behind, before, answer_agrees) in (
+      let agrees = answer_agrees profile.marks (visible_from start.visible ps answers) (position_from Nowhere ps answers) asked response in
+      let joins = together_more all new (subst Together (facts_behind profile.marks earlier past) before.1) agrees in (
         λ g.
             let s = stand_each profile g.0 (earlier ++ next ∷ []) g.1 g.2 in
             let own = all_back Fits earlier (next ∷ []) s.0 in

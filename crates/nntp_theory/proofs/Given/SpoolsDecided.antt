@@ -47,7 +47,7 @@ dec_group limit S name N =
 dec_text : (id : Id) (t : Text) → Dec (GoodText id t)
 dec_text id t =
     let lines = dec_all (λ line. IsTrue (is_line line)) (λ line. dec_true (is_line line)) (t.head ++ t.body) in
-    grind (arith, message_id-iff id, dec_true (is_message_id id), dec_true (is_head t.head), lines, dec_own id (said_id t.head))
+    dec_three (dec_by (message_id-iff id).0 (message_id-iff id).1 (dec_true (is_message_id id))) (dec_both (dec_true (is_head t.head)) lines) (dec_own id (said_id t.head))
 
 module _ (limit : ℕ) (S : Spool) where
   -- good groups and articles are a spool

@@ -1,12 +1,14 @@
 -- What the visible condition says of the facts of an answer.
-use Rattle.std.proofs.{Common.{◌≡◌, ℕ, IsTrue, List, ◌∷◌, arith, ◌≤◌}, lemmas.Bool.{and_parts, or_cases, eqb-true, true≢false, Decides.{nat_tests}}}
-use Rattle.std.specs.{Prelude.{⊤}, List.{AllByRecursion}}
-use Rattle.nntp_article.specs.Session.Machine.{Visible, visible_after, fits, is_article_number, head_fits, active_fits, overview_numbers}
-use Rattle.nntp_article.specs.declared.session.profile.Profile.{Profile}
-use Rattle.nntp_wire.specs.{Answer.{Asked, Response, to, plain, overviews_are}, declared.range.Range.{Range}, Command.{over, in_range}}
+use Rattle.std.{proofs.{Common.{◌≡◌, ℕ, IsTrue, List, ◌∷◌, arith, ◌≤◌}, lemmas.Bool.{and_parts, or_cases, Decides.{nat_tests}}}, specs.Prelude.{⊤}}
+use Rattle.std.specs.List.{AllByRecursion}
+use Rattle.nntp_article.specs.Session.Machine.{Visible, visible_after, fits, is_article_number, head_fits, active_fits, overview_numbers, marks_fit}
+use Rattle.nntp_article.specs.{Session.Spool.{Name}, declared.session.profile.Profile.{Profile}}
+use Rattle.nntp_wire.specs.{Answer.{Asked, Response}, declared.{range.Range.{Range}, water_marks.WaterMarks.{WaterMarks}}, Listing.{listed_numbers}}
+use Rattle.nntp_wire.specs.Listing.{active_groups, overviews_of}
 use Rattle.nntp_said.specs.{Asks.{position_after, Estimates, ListsIn, Has, StandsAt, StepsUp, StepsDown}, declared.position.Position.{Position}, Facts.{Fact}}
 use Rattle.nntp_said.specs.{Facts.{Asks, IdAt, TextIs, FieldsAre, OverviewsAre, GroupsAre, facts_of, facts_from, here}, Inner.Facts.{FitsAll}}
-use Rattle.nntp_said.proofs.Rows.{AreListed}
+use Rattle.nntp_said.proofs.Rows.{AreListed, Row, row, nothing, none_within, within, marks, listing, up, down, text, text_at, text_here, overview, overview_at}
+use Rattle.nntp_said.proofs.Rows.{overview_here, active}
 use Rattle.nntp_theory.{specs.Inner.Together.{AgreesWithItself}, proofs.{Members.{all_both, all_from, each_of}, Together.ListedOverviews.{apart_agree}}}
 use Rattle.nntp_theory.proofs.Together.ListedOverviews.{alone_agrees}
 
@@ -29,11 +31,33 @@ IsFitting profile fact = ⊤
 listed_fitting : (profile : Profile) (range : Range) (ns : List ℕ) → AreListed profile range ns → AllByRecursion (λ n. IsTrue (is_article_number profile.limit n)) ns
 listed_fitting profile range ns f = grind (arith, all_from, and_parts, each_of)
 
+-- marks that fit are within the limit, and a low mark of 0 estimates no number
+marks_fitting : (profile : Profile) (v : Visible) (name : Name) (m : WaterMarks) → IsTrue (marks_fit profile v name m) → (m.high ≤ profile.limit) × (m.low ≡ 0 → m.estimate ≡ 0)
+marks_fitting profile v name m f = grind (arith, and_parts, or_cases, nat_tests)
+
+-- the facts of a row fit
+row_fitting : (profile : Profile) (v : Visible) (at : Position) {F : Type 0} {a : Response} {facts : List Fact} → Row profile v at F a facts → F → AllByRecursion (IsFitting profile) facts
+row_fitting profile v at (within range lines is) f =
+    let k = is f in
+    ((listed_fitting profile range (overview_numbers (overviews_of lines)) k.1, apart_agree (here v) range (overviews_of lines) k.1.0 k.2), tt)
+row_fitting profile v at (marks m name is) f = (tt, (marks_fitting profile v name m (is f), tt))
+row_fitting profile v at (listing m name range lines is) f = let k = is f in (tt, (marks_fitting profile v name m k.0, (listed_fitting profile range (listed_numbers lines) k.1, tt)))
+row_fitting profile v at (up s is) f = let k = is f in (k.1, (k.1, tt))
+row_fitting profile v at (down s is) f = let k = is f in (k.1, (k.1, tt))
+row_fitting profile v at (text what s is) f = (is f, tt)
+row_fitting profile v at (text_at what s is) f = let k = is f in (k.0, (k.1.1, tt))
+row_fitting profile v at (text_here what s is) f = let k = is f in (k.0, (k.1.1, (k.1.1, tt)))
+row_fitting profile v at (overview lines o one) f = (alone_agrees o, tt)
+row_fitting profile v at (overview_at lines o one is) f = (alone_agrees o, ((is f).1, tt))
+row_fitting profile v at (overview_here lines o one is) f = let k = is f in (alone_agrees o, (k.1, (k.1, tt)))
+row_fitting profile v at (active p lines is) f = (all_from _ (active_groups lines) (λ line. each_of (active_fits profile p) (active_groups lines) line (is f).0), tt)
+row_fitting profile v at (none_within code range is) f = (tt, tt)
+row_fitting profile v at (nothing a) f = tt
+row_fitting profile v at other f = (tt, tt)
+
 -- what an answer that fits says
 pub answer_fitting : (profile : Profile) (v : Visible) (at : Position) (p : Asked) (a : Response) → IsTrue (fits profile v p a) → AllByRecursion (IsFitting profile) (facts_of profile.marks v at p a)
-answer_fitting profile v at (to command) (plain code) f = grind arith
-answer_fitting profile v at (to (over keyword (in_range range))) (overviews_are lines) f = search (arith, and_parts, listed_fitting profile range, apart_agree (here v) range)
-answer_fitting profile v at p a f = grind (arith, and_parts, or_cases, eqb-true, true≢false, listed_fitting, all_from, each_of, nat_tests, alone_agrees)
+answer_fitting profile v at p a f = row_fitting profile v at (row profile v at p a) f
 
 -- what answers that fit say, from any state on
 pub from_fitting : (profile : Profile) (v : Visible) (at : Position) (ps : List Asked) (answers : List Response)

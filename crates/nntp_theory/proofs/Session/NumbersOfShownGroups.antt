@@ -1,11 +1,10 @@
 -- What a session says of numbers, it says of groups that it shows.
-use Rattle.nntp_wire.specs.{declared.{marks.Marks.{Marks}, water_marks.WaterMarks.{WaterMarks}}, Answer.{Asked, Response, to, plain, group_is, numbers_are}}
-use Rattle.nntp_wire.specs.Command.{group, list_group}
-use Rattle.std.{proofs.{Common.{◌≡◌, IsTrue, List, [], ◌∷◌, Some, is_some, arith}, lemmas.Bool.{or_cases, eqb-true, true≢false, and_parts}}, specs.Prelude.{⊤}}
-use Rattle.std.specs.List.{AllByRecursion}
+use Rattle.nntp_wire.specs.{declared.{marks.Marks.{Marks}, water_marks.WaterMarks.{WaterMarks}}, Answer.{Asked, Response}}
+use Rattle.std.{proofs.Common.{◌≡◌, IsTrue, List, [], ◌∷◌, Some, is_some, arith}, specs.{Prelude.{⊤}, List.{AllByRecursion}}}
 use Rattle.nntp_article.specs.{Session.{Spool.{Name}, Machine.{Visible, visible_after, start, fits}}, declared.session.profile.Profile.{Profile}}
 use Rattle.nntp_said.specs.{Asks.{position_after, Estimates}, declared.position.Position.{Position, TheVariants.{Nowhere}}, Facts.{Fact, ThereIs, Asks, IdAt}}
-use Rattle.nntp_said.{specs.{Facts.{OverviewsAre, here, facts_of, facts_from}, Inner.Facts.{FitsAll}}, proofs.Rows.{none_cases}}
+use Rattle.nntp_said.{specs.{Facts.{OverviewsAre, here, facts_of, facts_from}, Inner.Facts.{FitsAll}}, proofs.Rows.{Row, row, nothing, nowhere, top, bottom}}
+use Rattle.nntp_said.proofs.Rows.{none_within, lacks, within, marks, listing, up, down, text_at, text_here, overview_at, overview_here}
 use Rattle.nntp_theory.{specs.Given.{facts_of_session}, proofs.Members.{In, all_both, all_front, all_back, all_from}}
 
 -- a 211 said that there is such a group, with its marks, which are read so
@@ -38,13 +37,30 @@ HasNoted how all v = (name : Name) → v.selected ≡ Some name → IsSelectable
 here_stands : (how : Marks) (all : List Fact) (v : Visible) → HasNoted how all v → IsTrue (is_some v.selected) → IsSelectable how all (here v)
 here_stands how all v stands some = grind arith
 
+-- what a row says of numbers, it says of a group that is there
+row_placed : (profile : Profile) (all : List Fact) (v : Visible) (at : Position) {F : Type 0} {a : Response} {facts : List Fact} → Row profile v at F a facts → F
+    → HasNoted profile.marks all v → AllByRecursion (Among all) facts → AllByRecursion (Placed profile.marks all) facts
+row_placed profile all v at (nowhere code is) f stands h = (here_stands profile.marks all v stands (is f), tt)
+row_placed profile all v at (top code is) f stands h = (here_stands profile.marks all v stands (is f), tt)
+row_placed profile all v at (bottom code is) f stands h = (here_stands profile.marks all v stands (is f), tt)
+row_placed profile all v at (none_within code range is) f stands h = (here_stands profile.marks all v stands (is f), tt)
+row_placed profile all v at (lacks code n is) f stands h = (here_stands profile.marks all v stands (is f), tt)
+row_placed profile all v at (within range lines is) f stands h = (here_stands profile.marks all v stands (is f).0, tt)
+row_placed profile all v at (marks m name is) f stands h = let g = selectable profile.marks all name m h in (g, (g, tt))
+row_placed profile all v at (listing m name range lines is) f stands h = let g = selectable profile.marks all name m (h.0, (h.1.0, tt)) in (g, (g, (g, tt)))
+row_placed profile all v at (up s is) f stands h = let g = here_stands profile.marks all v stands (is f).0 in (g, (g, tt))
+row_placed profile all v at (down s is) f stands h = let g = here_stands profile.marks all v stands (is f).0 in (g, (g, tt))
+row_placed profile all v at (text_at what s is) f stands h = (tt, (here_stands profile.marks all v stands (is f).1.0, tt))
+row_placed profile all v at (text_here what s is) f stands h = let g = here_stands profile.marks all v stands (is f).1.0 in (tt, (g, (g, tt)))
+row_placed profile all v at (overview_at lines o one is) f stands h = (tt, (here_stands profile.marks all v stands (is f).0, tt))
+row_placed profile all v at (overview_here lines o one is) f stands h = let g = here_stands profile.marks all v stands (is f).0 in (tt, (g, (g, tt)))
+row_placed profile all v at (nothing a) f stands h = tt
+row_placed profile all v at other f stands h = (tt, tt)
+
 -- what an answer that fits says of numbers, it says of a group that is there
 answer_placed : (profile : Profile) (all : List Fact) (v : Visible) (at : Position) (p : Asked) (a : Response) → IsTrue (fits profile v p a) → HasNoted profile.marks all v
     → AllByRecursion (Among all) (facts_of profile.marks v at p a) → AllByRecursion (Placed profile.marks all) (facts_of profile.marks v at p a)
-answer_placed profile all v at (to (group word)) (group_is m name) f stands h = let g = selectable profile.marks all name m h in (g, (g, tt))
-answer_placed profile all v at (to (list_group word range)) (numbers_are m name lines) f stands h = let g = selectable profile.marks all name m (h.0, (h.1.0, tt)) in (g, (g, (g, tt)))
-answer_placed profile all v at (to command) (plain code) f stands _ = grind (arith, and_parts, or_cases, eqb-true, none_cases, true≢false, here_stands profile.marks all v stands)
-answer_placed profile all v at p a f stands _ = grind (arith, and_parts, or_cases, eqb-true, true≢false, here_stands profile.marks all v stands)
+answer_placed profile all v at p a f stands h = row_placed profile all v at (row profile v at p a) f stands h
 
 -- the group that is selected afterwards is there
 pub still_stands : (profile : Profile) (all : List Fact) (v : Visible) (at : Position) (p : Asked) (a : Response)

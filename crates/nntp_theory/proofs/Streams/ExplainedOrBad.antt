@@ -1,7 +1,7 @@
 -- Of the spools with some property one explains two streams, or exactly one answer is bad.
 use Rattle.std.{specs.Prelude.{⊤}, proofs.Common.{◌≡◌, ◌≢◌, ℕ, zero, suc, ◌+◌, ◌<◌, ◌≤◌, ◌^◌, ◌⊎◌, List, [], ◌∷◌, ◌++◌, length, take, inl, inr, refl, sym, ap}}
-use Rattle.std.proofs.{Common.{subst, ◌∙◌, arith, length-append, append_assoc}, Math.Seq.{take-length}, lemmas.{Bool.{cases_lt}, List.{append-nil}}}
-use Rattle.std.proofs.lemmas.List.{length-take, nil_from_length}
+use Rattle.std.proofs.{Common.{subst, ◌∙◌, arith, length-append, append_assoc}, Math.Seq.{take-length}, lemmas.Bool.{cases_lt, cases_order}}
+use Rattle.std.proofs.lemmas.List.{append-nil, length-take, nil_from_length}
 use Rattle.nntp_article.specs.Session.{Spool.{Spool, IsSpool}, Machine.{Run, start}, Explains.{ExplainsUpTo, Explains, ExplainsFirst, BadAmong, Bad}}
 use Rattle.nntp_article.specs.declared.session.profile.Profile.{Profile}
 use Rattle.nntp_wire.{specs.{Session.{Spelled, prompts_of, ClientStream}, Answer.{Asked, Response, Spells}}, proofs.SpellsDecided.{some-spelling}}
@@ -81,7 +81,14 @@ first_explained profile S client server n m rest le x = grind (arith, first_spel
 module _ (P : Spool → Type 0) (profile : Profile) (client : ClientStream) (server : List ℕ) where
   -- one answer is bad at most
   pub bad_once : (k j : ℕ) → BadAmong P profile client server k → BadAmong P profile client server j → k ≡ j
-  bad_once k j (x, none) (y, none') = grind (arith, first_explained profile y.0 client server (k + 1) j y.1, first_explained profile x.0 client server (j + 1) k x.1)
+  bad_once k j (x, none) (y, none') =
+      elim (cases_order k j) [
+        | inl e ↦ e
+        | inr apart ↦ absurd (elim apart [
+          | inl l ↦ none y.0 y.2 (first_explained profile y.0 client server (k + 1) j y.1 (omega arith) y.3)
+          | inr l ↦ none' x.0 x.2 (first_explained profile x.0 client server (j + 1) k x.1 (omega arith) x.3)
+        ])
+      ]
 
   -- where one of them explains all, no answer is bad
   pub explained_not_bad_among : (S : Spool) (n k : ℕ) → P S → Explains profile S client server n → BadAmong P profile client server k → ⊥

@@ -204,7 +204,12 @@ module _ (limit : ℕ) (S : Spool) (facts : List Fact) (spool : IsSpool limit S)
       all_from (λ line. IsGroupName line.name) lines
       (λ line i. spool.names line.name ((h.0 line.name).0
       (contains_in line.name (map (λ line. line.name) lines) (in_map (λ line. line.name) line lines i))).0)
-  well_formed fact h = grind (arith, all_from, proper, all_at, article_of, sent_lines)
+  well_formed (ThereIs name) h = spool.names name h
+  well_formed (IdAt name n id) h = spool.ids id (spool.ids_have_articles name n id h)
+  well_formed (TextIs what id lines) h = let a = article_of what id lines h in (spool.ids id (ap is_some a.1), sent_lines what id a.0 lines a.1 a.2)
+  well_formed (FieldsAre os) h = all_from IsProperOverview os (λ o i. proper o (all_at (HasOverview S) o os h i))
+  well_formed (OverviewsAre name r os) h = all_from IsProperOverview os (λ o i. proper o (all_at _ o os h.1 i).1)
+  well_formed fact h = tt
 
   -- overviews tell of an id what its article tells
   fields_given : (os : List OverviewValue) → AllByRecursion (HasOverview S) os → (o : OverviewValue) → In o os → TellsOwn os o
