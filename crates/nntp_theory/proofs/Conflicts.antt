@@ -230,8 +230,8 @@ group_there how all [] name p e = absurd cc
 group_there how all (fact ∷ facts) name p e = grind (arith, group_there how all facts name p.1)
 
 -- and so facts that hold and are placed hold with that there is such a group
-with_group_holds : (profile : Profile) (S : Spool) (all facts : List Fact) (group : Option Name) → IsSpool profile.limit S → AllByRecursion (Holds S) all → AllByRecursion (IsPlaced profile.marks all) facts
-    → group_of facts ≡ group → AllByRecursion (Holds S) facts → AllByRecursion (Holds S) (the_group profile group ++ facts)
+with_group_holds : (profile : Profile) (S : Spool) (all facts : List Fact) (group : Option Name) → IsSpool profile.limit S → AllByRecursion (Holds S) all
+    → AllByRecursion (IsPlaced profile.marks all) facts → group_of facts ≡ group → AllByRecursion (Holds S) facts → AllByRecursion (Holds S) (the_group profile group ++ facts)
 with_group_holds profile S all facts (Some name) spool holds p e h =
     let group = all_at (Holds S) (ThereIs name) all holds (group_there profile.marks all facts name p e).there in
     all_both (Holds S) (a_group profile name) facts (group_holds profile S name spool group) h
