@@ -28,18 +28,15 @@ pub struct Row {
     pub strict: Outcome,
 }
 
-/// All of them, by what they are about.
-const TABLES: [&[Row]; 4] = [
-    &one_pair::ROWS,
-    &more_pairs::ROWS,
-    &estimates::ROWS,
-    &lists::ROWS,
-];
-
 /// Each of them, table after table.
 pub fn each_row(alloc: Global) -> Result<Vec<&'static Row>, AllocError> {
     let mut rows = Vec::new(alloc);
-    for table in TABLES {
+    for table in [
+        one_pair::rows(),
+        more_pairs::rows(),
+        estimates::rows(),
+        lists::rows(),
+    ] {
         for row in table {
             rows.push(row)?;
         }

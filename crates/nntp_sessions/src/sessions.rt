@@ -32,23 +32,20 @@ pub struct Session {
     pub others: &'static [(&'static str, Verified)],
 }
 
-/// All of them, by what they are about.
-const TABLES: [&[Session]; 9] = [
-    &ends::SESSIONS,
-    &groups::SESSIONS,
-    &lists_of_groups::SESSIONS,
-    &lists_of_numbers::SESSIONS,
-    &numbers::SESSIONS,
-    &current_articles::SESSIONS,
-    &articles::SESSIONS,
-    &wide_numbers::SESSIONS,
-    &strict_marks::SESSIONS,
-];
-
-/// Each of them, table after table.
+/// Each of them, table after table. A function is checked with all that the constants in it hold, so each table has one.
 pub fn each_session(alloc: Global) -> Result<Vec<&'static Session>, AllocError> {
     let mut sessions = Vec::new(alloc);
-    for table in TABLES {
+    for table in [
+        ends::sessions(),
+        groups::sessions(),
+        lists_of_groups::sessions(),
+        lists_of_numbers::sessions(),
+        numbers::sessions(),
+        current_articles::sessions(),
+        articles::sessions(),
+        wide_numbers::sessions(),
+        strict_marks::sessions(),
+    ] {
         for session in table {
             sessions.push(session)?;
         }

@@ -1,7 +1,7 @@
 //! Estimates beside marks.
 use super::{Outcome, Row};
 
-pub(crate) const ROWS: [Row; 12] = [
+const ROWS: &[Row] = &[
     Row {
         name: "an estimate of one, and two marks",
         client: "GROUP g\r\nNEXT\r\n",
@@ -87,3 +87,8 @@ pub(crate) const ROWS: [Row; 12] = [
         strict: Outcome::Consistent(3, "g unseen 1 unseen high 5\n"),
     },
 ];
+
+/// Hands them out.
+pub(super) fn rows() -> &'static [Row] {
+    ROWS
+}

@@ -1,7 +1,7 @@
 //! Lists of numbers and lists of groups beside marks.
 use super::{Outcome, Row};
 
-pub(crate) const ROWS: [Row; 32] = [
+const ROWS: &[Row] = &[
     Row {
         name: "all numbers",
         client: "LISTGROUP g\r\n",
@@ -227,3 +227,8 @@ pub(crate) const ROWS: [Row; 32] = [
         strict: Outcome::Contradiction(2),
     },
 ];
+
+/// Hands them out.
+pub(super) fn rows() -> &'static [Row] {
+    ROWS
+}

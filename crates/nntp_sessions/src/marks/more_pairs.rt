@@ -1,7 +1,7 @@
 //! More pairs of marks of one group, and marks of a group that is empty.
 use super::{Outcome, Row};
 
-pub(crate) const ROWS: [Row; 29] = [
+const ROWS: &[Row] = &[
     Row {
         name: "two pairs of marks of a group that has no number",
         client: "GROUP g\r\nGROUP g\r\n",
@@ -206,3 +206,8 @@ pub(crate) const ROWS: [Row; 29] = [
         strict: Outcome::Contradiction(2),
     },
 ];
+
+/// Hands them out.
+pub(super) fn rows() -> &'static [Row] {
+    ROWS
+}

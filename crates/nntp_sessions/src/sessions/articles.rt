@@ -6,7 +6,7 @@ use super::texts::{
 use crate::choice::NARROW_LENIENT;
 use nntp_spool::Verified;
 
-pub(crate) const SESSIONS: [Session; 16] = [
+const SESSIONS: &[Session] = &[
     Session {
         name: "a body with dots",
         client: "BODY <a@b>\r\n",
@@ -164,3 +164,8 @@ pub(crate) const SESSIONS: [Session; 16] = [
         others: &[],
     },
 ];
+
+/// Hands them out.
+pub(super) fn sessions() -> &'static [Session] {
+    SESSIONS
+}

@@ -4,7 +4,7 @@ use super::texts::{EMPTY_GROUP, FOUR, NOTHING, ONE, ONE_AND_TWO, THREE, TWO_AND_
 use crate::choice::NARROW_LENIENT;
 use nntp_spool::Verified;
 
-pub(crate) const SESSIONS: [Session; 11] = [
+const SESSIONS: &[Session] = &[
     Session {
         name: "no group is selected",
         client: "NEXT\r\n",
@@ -105,3 +105,8 @@ pub(crate) const SESSIONS: [Session; 11] = [
         others: &[(ONE_AND_TWO, Verified::Refuses { index: 3 })],
     },
 ];
+
+/// Hands them out.
+pub(super) fn sessions() -> &'static [Session] {
+    SESSIONS
+}

@@ -4,7 +4,7 @@ use super::texts::{EMPTY_GROUP, NOTHING, SUBJECT};
 use crate::choice::NARROW_LENIENT;
 use nntp_spool::Verified;
 
-pub(crate) const SESSIONS: [Session; 21] = [
+const SESSIONS: &[Session] = &[
     Session {
         name: "nothing was sent",
         client: "",
@@ -195,3 +195,8 @@ pub(crate) const SESSIONS: [Session; 21] = [
         others: &[(EMPTY_GROUP, Verified::Refuses { index: 1 })],
     },
 ];
+
+/// Hands them out.
+pub(super) fn sessions() -> &'static [Session] {
+    SESSIONS
+}

@@ -4,7 +4,7 @@ use super::texts::{EMPTY_GROUP, NOTHING, TWO_AND_FOUR, TWO_GROUPS, TWO_NUMBERS};
 use crate::choice::NARROW_LENIENT;
 use nntp_spool::Verified;
 
-pub(crate) const SESSIONS: [Session; 14] = [
+const SESSIONS: &[Session] = &[
     Session {
         name: "a group without numbers",
         client: "GROUP g\r\nQUIT\r\n",
@@ -141,3 +141,8 @@ pub(crate) const SESSIONS: [Session; 14] = [
         others: &[],
     },
 ];
+
+/// Hands them out.
+pub(super) fn sessions() -> &'static [Session] {
+    SESSIONS
+}

@@ -4,7 +4,7 @@ use super::texts::{EMPTY_GROUP, EMPTY_GROUPS, NOTHING, OTHER_GROUP, TWO_GROUPS};
 use crate::choice::NARROW_LENIENT;
 use nntp_spool::Verified;
 
-pub(crate) const SESSIONS: [Session; 19] = [
+const SESSIONS: &[Session] = &[
     Session {
         name: "no group is listed",
         client: "LIST ACTIVE\r\n",
@@ -177,3 +177,8 @@ pub(crate) const SESSIONS: [Session; 19] = [
         others: &[],
     },
 ];
+
+/// Hands them out.
+pub(super) fn sessions() -> &'static [Session] {
+    SESSIONS
+}

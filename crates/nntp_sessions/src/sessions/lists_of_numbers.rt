@@ -6,7 +6,7 @@ use super::texts::{
 use crate::choice::NARROW_LENIENT;
 use nntp_spool::Verified;
 
-pub(crate) const SESSIONS: [Session; 15] = [
+const SESSIONS: &[Session] = &[
     Session {
         name: "a range without numbers",
         client: "LISTGROUP g 2-1\r\n",
@@ -160,3 +160,8 @@ pub(crate) const SESSIONS: [Session; 15] = [
         others: &[],
     },
 ];
+
+/// Hands them out.
+pub(super) fn sessions() -> &'static [Session] {
+    SESSIONS
+}

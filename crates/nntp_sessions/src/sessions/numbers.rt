@@ -7,7 +7,7 @@ use super::texts::{
 use crate::choice::NARROW_LENIENT;
 use nntp_spool::Verified;
 
-pub(crate) const SESSIONS: [Session; 25] = [
+const SESSIONS: &[Session] = &[
     Session {
         name: "a step from the first article",
         client: "GROUP g\r\nNEXT\r\n",
@@ -254,3 +254,8 @@ pub(crate) const SESSIONS: [Session; 25] = [
         others: &[],
     },
 ];
+
+/// Hands them out.
+pub(super) fn sessions() -> &'static [Session] {
+    SESSIONS
+}

@@ -24,7 +24,7 @@ const FIVE_INVENTED: &str =
 /// The number 2 alone.
 const TWO: &str = "spool 1\ngroup g 1\n2 <a@b>\narticle <a@b> 1 0\n|Message-ID: <a@b>\nend\n";
 
-pub(crate) const SESSIONS: [Session; 16] = [
+const SESSIONS: &[Session] = &[
     Session {
         name: "strict marks, and a step from the first article",
         client: "GROUP g\r\nNEXT\r\n",
@@ -177,3 +177,8 @@ pub(crate) const SESSIONS: [Session; 16] = [
         others: &[],
     },
 ];
+
+/// Hands them out.
+pub(super) fn sessions() -> &'static [Session] {
+    SESSIONS
+}

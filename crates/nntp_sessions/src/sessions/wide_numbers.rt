@@ -44,7 +44,7 @@ const BOTH_MARKS_WIDE: &str =
     |Message-ID: <b@x>\narticle <w0@invented.invalid> 1 0\n|Message-ID: <w0@invented.invalid>\narticle <w1@invented.invalid> 1 0\n\
     |Message-ID: <w1@invented.invalid>\nend\n";
 
-pub(crate) const SESSIONS: [Session; 15] = [
+const SESSIONS: &[Session] = &[
     Session {
         name: "a number above 31 bits, by a narrow limit",
         client: "GROUP g\r\nSTAT\r\n",
@@ -191,3 +191,8 @@ pub(crate) const SESSIONS: [Session; 15] = [
         others: &[],
     },
 ];
+
+/// Hands them out.
+pub(super) fn sessions() -> &'static [Session] {
+    SESSIONS
+}

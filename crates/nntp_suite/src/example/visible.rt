@@ -1,5 +1,5 @@
 //! What the session shows of its state, and what is known of the current article.
-use crate::session::{CLIENT, NAME, SERVER, next};
+use crate::example::session::{CLIENT, NAME, SERVER, next};
 use nntp_article::{Profile, Visible};
 use nntp_facts::Position;
 use nntp_pair::{Exchange, Pairs};

@@ -6,7 +6,7 @@ ghost use Rattle.nntp_facts.specs.Standing.{stands_of};
 ghost use Rattle.nntp_theory.specs.Inner.Conflict.{FitsThere};
 ghost use Rattle.nntp_theory.specs.Conflict.{SomeHas, told_with, below};
 
-use crate::session::{CLIENT, NAME, SERVER};
+use crate::example::session::{CLIENT, NAME, SERVER};
 use nntp_facts::{Conflict, Core, Facts, Noted, Placed, Point, Standing};
 use nntp_pair::{Exchange, Pairs, Step};
 use nntp_wire::{Limit, Marks};

@@ -1,6 +1,6 @@
 //! What the answers say, fact by fact.
-use crate::conflict::first_contradiction;
-use crate::session::{CLIENT, ID, NAME, SERVER, are_head_lines};
+use crate::example::conflict::first_contradiction;
+use crate::example::session::{CLIENT, ID, NAME, SERVER, are_head_lines};
 use nntp_facts::{Ask, Fact, Placed, Position};
 use nntp_wire::{Block, Limit, Marks, WaterMarks, What};
 use std::process::Abort;

@@ -1,5 +1,5 @@
 //! What is kept of the accepted answers, and the answer that is refused.
-use crate::session::{CLIENT, ID, SERVER, SHORTER_CLIENT, SHORTER_SERVER, are_head_lines};
+use crate::example::session::{CLIENT, ID, SERVER, SHORTER_CLIENT, SHORTER_SERVER, are_head_lines};
 use nntp_facts::{Facts, ShownArticle};
 use nntp_fixtures::{Stop, group_lines, note_all};
 use nntp_pair::Class;

@@ -1,5 +1,5 @@
 //! Want of memory while worked sessions come in pieces.
-use crate::verdicts::right_if_shown;
+use crate::memory::verdicts::right_if_shown;
 use nntp_fixtures::{checker_by, feed_split};
 use nntp_little_memory::{Ended, give_each, refuse_each};
 use nntp_pair::PairError;

@@ -1,5 +1,5 @@
 //! The exchanges: their places and lines, what is asked, and what is answered.
-use crate::session::{CLIENT, ID, NAME, SERVER, are_head_lines, next};
+use crate::example::session::{CLIENT, ID, NAME, SERVER, are_head_lines, next};
 use nntp_pair::{Ending, Exchange, Feed, Pairs, Peek, Step};
 use nntp_wire::{Answer, Block, Command, Prompt, WaterMarks, What, Which};
 use std::process::Abort;

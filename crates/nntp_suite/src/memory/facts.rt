@@ -1,5 +1,5 @@
 //! Want of memory while exchanges are noted, and while the spool is made of what was noted.
-use crate::spools::right_if_written;
+use crate::memory::spools::right_if_written;
 use nntp_fixtures::{Stop, Whole, bad_of, beginning, note_all};
 use nntp_little_memory::{Ended, refuse_each, right_if};
 use nntp_pair::Class;

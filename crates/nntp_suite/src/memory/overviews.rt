@@ -1,8 +1,8 @@
 //! Want of memory while sessions are judged in which overviews tell of headers, or ids are listed (RFC 3977, sections 8.3.2
 //! and 8.5).
-use crate::facts::outcome;
-use crate::several::{judge_at_once, judge_in_turn, verify_given};
-use crate::spools::right_if_written;
+use crate::memory::facts::outcome;
+use crate::memory::several::{judge_at_once, judge_in_turn, verify_given};
+use crate::memory::spools::right_if_written;
 use nntp_fixtures::{note_taking, recorded_taking};
 use nntp_little_memory::{Ended, refuse_each, right_if};
 use nntp_pair::Class;

@@ -2,7 +2,7 @@ use Rattle.std.proofs.Common.{List, length, map, sym, subst}
 use Rattle.nntp_article.specs.Session.Limit.{profile_of}
 use Rattle.nntp_theory.specs.Conflict.{SomeHas, told_with, below}
 use Rattle.nntp_facts.specs.{declared.placed.Placed.{Placed}, Standing.{stands_of}}
-use Rattle.nntp_example.proofs.conflict.core_of.Goals as goal
+use Rattle.nntp_suite.proofs.example.conflict.core_of.Goals as goal
 
 pub find-requires-clause-conflict : goal.find-requires-clause-conflict
 find-requires-clause-conflict c =

@@ -1,5 +1,5 @@
 //! The verdicts on both sessions, and what `verify` answers of two spools.
-use crate::session::{CLIENT, SERVER, SHORTER_CLIENT, SHORTER_SERVER};
+use crate::example::session::{CLIENT, SERVER, SHORTER_CLIENT, SHORTER_SERVER};
 use nntp_fixtures::{check_by, expect_octets, expect_verified, put, shown};
 use nntp_sessions::NARROW_LENIENT;
 use nntp_spool::Verified;

@@ -1,8 +1,8 @@
 use Rattle.nntp_article.specs.Session.Limit.{profile_of}
-use Rattle.nntp_example.proofs.AcceptedAnswers.{next_due, one_more, one_bad}
+use Rattle.nntp_suite.proofs.AcceptedAnswers.{next_due, one_more, one_bad}
 use Rattle.nntp_wire.specs.{Session.{taken}, declared.overviews.Overviews.TheVariants.{Opaque}}
 use Rattle.std.proofs.Common.{◌∙◌}
-use Rattle.nntp_example.proofs.conflict.first_contradiction.Goals as goal
+use Rattle.nntp_suite.proofs.example.conflict.first_contradiction.Goals as goal
 
 pub note-requires : goal.note-requires
 note-requires c =
