@@ -32,8 +32,7 @@ consistent_accepted profile earlier past pair old new before after noted next = 
 pub unfit_refused : (profile : Profile) (earlier : List (List Paired)) (past : List Paired) (pair : Paired) (old new : FactsKept) (before after : Unpaired) → HasNotedBehind profile old earlier past
     → IsNotedBehind profile earlier past pair old new NotedOutOfPlace → IsNext before pair after
     → IsJudged (ArePermittedBehind profile earlier) past before (Refused pair) after × (class_behind profile past (Refused pair) ≡ Some OutOfPlace)
-unfit_refused profile earlier past pair old new before after stands noted next =
-    grind (arith, true≢false, permitted_fits profile earlier past pair, stands.visible)
+unfit_refused profile earlier past pair old new before after stands noted next = grind (arith, true≢false, permitted_fits profile earlier past pair, stands.visible)
 
 pub contradiction_refused : (profile : Profile) (earlier : List (List Paired)) (past : List Paired) (pair : Paired) (old new : FactsKept) (before after : Unpaired)
     → HasNotedBehind profile old earlier past

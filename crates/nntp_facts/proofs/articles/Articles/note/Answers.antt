@@ -19,9 +19,7 @@ returns-in_ok-note_lack-in-Lacks-clause-added g c facts kept may already =
     (subst (λ does. IsArticleAdded facts (Some (c.in-Lacks.id.now, Lacks)) c.args.self.now c.note_lack.new.self does) (sym c.unnamed_if.ensures.added) (c.in_ok-note_lack-in-Lacks.ensures facts kept))
 
 pub returns-in-Describes-clause-added : goal.returns-in-Describes-clause-added
-returns-in-Describes-clause-added g c =
-    if_ok c.note_told.result (λ added adds facts kept may already. grind (arith, adds facts c.in-Describes.id.now kept)) c.note_told.ensures.added
+returns-in-Describes-clause-added g c = if_ok c.note_told.result (λ added adds facts kept may already. grind (arith, adds facts c.in-Describes.id.now kept)) c.note_told.ensures.added
 
 pub returns-in-Describes-clause-text : goal.returns-in-Describes-clause-text
-returns-in-Describes-clause-text g c =
-    if_ok c.note_told.result (λ added gives may other is id exists. grind (arith, gives c.in-Describes.id.now)) c.note_told.ensures.text
+returns-in-Describes-clause-text g c = if_ok c.note_told.result (λ added gives may other is id exists. grind (arith, gives c.in-Describes.id.now)) c.note_told.ensures.text

@@ -1,3 +1,4 @@
+use Rattle.std.proofs.lemmas.Grind.{common_steps}
 use Rattle.nntp_facts.proofs.Base.{◌≡◌, ◌∙◌, ◌++◌, ap, arith, ℕ, List, Option, unwrap_or, option_map_or, below, places_of}
 use Rattle.nntp_facts.proofs.conflict.Core.all_places.Goals as goal
 
@@ -11,3 +12,6 @@ returns g c =
     c.in_ok-extend_from_slice.ensures.items ∙ ap (λ these. c.loop-place.all.items ++ these) c.deref.ensures.value
     ∙ all_told c.self.inside.rest c.loop-place.place c.loop-place.all.items c.self.inside.places.items (end ∙ c.unwrap_or-place-end.ensures) c.loop-place.invariant
     ∙ ap places_of c.self.view_is
+
+pub loop-place-preserved : goal.loop-place-preserved
+loop-place-preserved g c = grind (arith, common_steps)

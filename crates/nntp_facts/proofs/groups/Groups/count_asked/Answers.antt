@@ -1,7 +1,7 @@
+use Rattle.std.proofs.{Common.{arith}, lemmas.{Grind.{common_steps}, Iterator.Consumers.{YieldsList-at, YieldsList-from_rest, YieldsList-from_filter}}}
+use Rattle.std.{proofs.lemmas.{Iterator.Consumers.{count_from_yields_List}, List.{Folds.{fold-map}, Sums.{length-filter}}}, specs.List.{count_by}}
 use Rattle.nntp_facts.proofs.Base.{◌+◌, cond, sym, ap, ◌∙◌, rules, nat_cmp, slice_cmp, nat_list_cmp_total, entries, octet_keys, is_asked, entries-shown}
 use Rattle.nntp_facts.proofs.Base.{shown_entry, Name, KeptGroup, tests}
-use Rattle.std.proofs.lemmas.{Iterator.Consumers.{YieldsList-at, YieldsList-from_rest, YieldsList-from_filter, count_from_yields_List}, List.Folds.{fold-map}}
-use Rattle.std.{proofs.lemmas.List.Sums.{length-filter}, specs.List.{count_by}}
 use Rattle.nntp_facts.proofs.groups.Groups.count_asked.Goals as goal
 
 pub returns : goal.returns
@@ -14,3 +14,6 @@ returns g c =
     let shown = entries-shown (slice_cmp nat_cmp) (λ k. k.items) (λ v. v) nat_list_cmp_total octet_keys es c.iter.ensures.ordered in
     counted ∙ length-filter (λ e. asked (e.0.items, e.1)) es ∙ sym (fold-map (λ n e. n + cond (asked e) 1 0) (shown_entry (λ k. k.items) (λ v. v)) 0 es)
     ∙ ap (count_by asked) (sym shown) ∙ ap (λ m. count_by asked (entries m)) c.self.view_is
+
+pub count-requires-clause-fits : goal.count-requires-clause-fits
+count-requires-clause-fits g c = grind (arith, common_steps)

@@ -11,8 +11,7 @@ returns-in-Some-clause-at_all g c tells asks kept stand says bounded agree shown
 )
 
 pub returns-in-Some-clause-again : goal.returns-in-Some-clause-again
-returns-in-Some-clause-again g c is tells asks kept says agree shown =
-    kept_again tells c.args.self.now c.args.part.now.name.now c.in-Some.group.now asks kept (sym c.in-Some.ensures)
+returns-in-Some-clause-again g c is tells asks kept says agree shown = kept_again tells c.args.self.now c.args.part.now.name.now c.in-Some.group.now asks kept (sym c.in-Some.ensures)
     (of_group c.args.part.now) says agree shown (c.has_said.ensures.0 c.if-has_said.true)
 
 pub returns-in-Some-2-clause-at_all : goal.returns-in-Some-2-clause-at_all

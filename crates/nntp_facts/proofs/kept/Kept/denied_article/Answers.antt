@@ -14,13 +14,11 @@ returns-in-None g c profile facts more h =
     no_article profile facts c.args.self.now (statement_of c.args.told.now) more h (ap (option_map overviews_said) c.in_default.is) (ap (option_map article_said) c.in-None.is)
 
 pub returns-in-Some-Lacks : goal.returns-in-Some-Lacks
-returns-in-Some-Lacks g c profile facts more h =
-    lacks profile facts c.args.self.now (statement_of c.args.told.now) more h c.in-Some-Lacks.id.now Lacks (search rules) refl
+returns-in-Some-Lacks g c profile facts more h = lacks profile facts c.args.self.now (statement_of c.args.told.now) more h c.in-Some-Lacks.id.now Lacks (search rules) refl
     (option_map point_of c.shown_article.result) c.shown_article.ensures
 
 pub returns-in-Some-Exists : goal.returns-in-Some-Exists
-returns-in-Some-Exists g c profile facts more h =
-    has profile facts c.args.self.now (statement_of c.args.told.now) more h c.in-Some-Exists.id.now Exists (search rules) refl
+returns-in-Some-Exists g c profile facts more h = has profile facts c.args.self.now (statement_of c.args.told.now) more h c.in-Some-Exists.id.now Exists (search rules) refl
     (option_map point_of c.lacked_article.result) c.lacked_article.ensures
 
 pub returns-in-Some-Sends : goal.returns-in-Some-Sends

@@ -7,8 +7,7 @@ abbrev Denies : List Fact → Option (Bor (List ℕ)) → Type 0
 Denies more o = (other : Name) → list_any (denies_group other) more ≡ option_map_or (λ name. is_same name other) (option_map (λ name. name.now) o) false
 
 pub returns-in-Some-clause-names : goal.returns-in-Some-clause-names
-returns-in-Some-clause-names g c =
-    on_ok c.deny.result (λ added facts more kept denied.
+returns-in-Some-clause-names g c = on_ok c.deny.result (λ added facts more kept denied.
     added facts more (subst (λ k. AreKeptNames facts k.names) (sym c.self.view_is) kept) (subst (Denies more) c.in-Some.is denied)) c.deny.ensures
 
 pub returns-in-None-clause-names : goal.returns-in-None-clause-names

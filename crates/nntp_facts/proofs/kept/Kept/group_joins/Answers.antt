@@ -20,8 +20,7 @@ returns-in-Some-clause-again g c again facts s asks is no_list kept together may
     (agree_told facts together part.name part.id) (shown_told facts part.name part.id) (told (facts ++ facts_in s asks)) (group_changes facts s asks no_list may part same))
 
 pub returns-in-Some-clause-there : goal.returns-in-Some-clause-there
-returns-in-Some-clause-there g c again facts s asks is kept may =
-    there_before facts s asks c.self.inside.groups (of_group c.in-Some.group) (is ∙ ap (option_map of_group) c.in-Some.is)
+returns-in-Some-clause-there g c again facts s asks is kept may = there_before facts s asks c.self.inside.groups (of_group c.in-Some.group) (is ∙ ap (option_map of_group) c.in-Some.is)
     (subst (IsKept facts) (sym c.self.view_is) kept).groups may (c.joins.ensures.said again)
 
 pub returns-in-None-clause-there : goal.returns-in-None-clause-there

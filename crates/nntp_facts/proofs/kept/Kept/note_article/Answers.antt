@@ -1,3 +1,4 @@
+use Rattle.std.proofs.Common.{arith}
 use Rattle.nntp_facts.proofs.Base.{◌≡◌, true, Some, sym, subst, ◌∙◌, IfSome, option_map, said_of, if_ok, article_said, is_added, AreKeptArticles, MayBeSaid}
 use Rattle.nntp_facts.proofs.{Base.{IsThereAlready, IsArticleAdded, Again}, Keeping.SaidOfArticles.{nothing_more, nothing_joins}}
 use Rattle.nntp_facts.proofs.kept.Kept.note_article.Goals as goal
@@ -15,3 +16,6 @@ pub returns-in-None-clause-added : goal.returns-in-None-clause-added
 returns-in-None-clause-added g c facts kept may already =
     subst (λ o. IsArticleAdded facts (option_map article_said o) c.args.self.now.articles c.args.self.now.articles true) (sym c.in-None.is)
     (λ id. nothing_joins (said_of facts id), λ id. nothing_more (said_of facts id) ∙ kept id)
+
+pub returns-in-Some-clause-text : goal.returns-in-Some-clause-text
+returns-in-Some-clause-text g c = grind (arith, if_ok)

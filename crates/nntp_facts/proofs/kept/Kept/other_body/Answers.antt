@@ -3,8 +3,7 @@ use Rattle.nntp_facts.proofs.PointsFound.ArticlesBeside.{Body, no_part, part_poi
 use Rattle.nntp_facts.proofs.kept.Kept.other_body.Goals as goal
 
 pub returns-in-None : goal.returns-in-None
-returns-in-None g c profile facts more h =
-    no_part profile facts c.args.self.now (statement_of c.args.told.now) more h Body None (ap (option_map article_said) c.in-None.is) tt
+returns-in-None g c profile facts more h = no_part profile facts c.args.self.now (statement_of c.args.told.now) more h Body None (ap (option_map article_said) c.in-None.is) tt
 
 pub returns-in-Some-Lacks : goal.returns-in-Some-Lacks
 returns-in-Some-Lacks g c profile facts more h =

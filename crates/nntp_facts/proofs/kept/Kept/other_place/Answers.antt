@@ -17,7 +17,6 @@ returns-in_err-at g c profile facts more h =
     (ap (option_map overviews_said) c.in_default-overviews.is) None (ap id_at c.in_err-at.was) (option_map point_of c.from_residual.result) (ap (option_map point_of) c.from_residual.ensures)
 
 pub returns : goal.returns
-returns g c profile facts more h =
-    place_point profile facts c.args.self.now (statement_of c.args.told.now) more h (of_group c.in-Some.group) (ap (option_map of_group) c.in-Some.is)
+returns g c profile facts more h = place_point profile facts c.args.self.now (statement_of c.args.told.now) more h (of_group c.in-Some.group) (ap (option_map of_group) c.in-Some.is)
     (ap (option_map overviews_said) c.in_default-overviews.is) (Some (c.in_ok-at.at.number, c.in_ok-at.at.id.now)) (ap id_at c.in_ok-at.was)
     (option_map point_of c.other_place_of.result) (c.other_place_of.ensures (told facts) h.kept.groups ∙ sym (or_none _))

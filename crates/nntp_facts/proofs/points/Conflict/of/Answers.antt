@@ -11,8 +11,7 @@ returns-in_default g c =
     let core = c.args.core.now in
     let empty : length c.deref.result.now ≡ 0 = search rules in
     let places : places_of core ≡ [] = sym (c.deref.ensures.value ∙ c.in_ok-places.ensures) ∙ no_places c.deref.result.now empty in
-    if_two c.with_last.result
-    (λ conflict is few fits found last.
+    if_two c.with_last.result (λ conflict is few fits found last.
     subst (AreHeld profile (told_with profile bad answers (places_of core))) (sym is)
     (rw places (held_alone profile bad answers fits (rw places at (core_conflicts profile bad answers core found)) few _ refl c.new-kept.ensures refl)))
     c.with_last.ensures.held c.with_last.ensures.few
@@ -30,8 +29,7 @@ returns g c =
     let small : length c.in_ok-places.places.items < 2 ^ 64 = search rules in
     let found_at : c.unwrap_or-last.result.now ≡ get_or c.args.answers.now k c.args.bad.now = search rules in
     let fewer : length front < 2 ^ 66 = omega (arith, small, ap length (sym c.deref.ensures.value ∙ ends), length-append front (k ∷ [])) in
-    if_two c.with_last-2.result
-    (λ conflict is few fits found last.
+    if_two c.with_last-2.result (λ conflict is few fits found last.
     let there = last_there profile bad answers core front k found last parts in
     let within = subst (λ n. k < n) (length-map c.args.answers.now stands_of) there in
     let here = slice_get-get_or answers k bad there ∙ ap (λ a. Some a) (get_or-map stands_of c.args.answers.now k c.args.bad.now bad within ∙ ap stands_of (sym found_at)) in
