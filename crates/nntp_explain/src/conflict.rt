@@ -4,8 +4,7 @@ ghost use Rattle.std.specs.List.{flat_map};
 ghost use Rattle.std.specs.Option.{option_map_or};
 ghost use Rattle.nntp_wire.specs.Inner.AnswerView.{response};
 ghost use Rattle.nntp_wire.specs.Inner.View.{asked};
-ghost use Rattle.nntp_facts.specs.Inner.PointView.{point_of};
-ghost use Rattle.nntp_facts.specs.Standing.{stands_of};
+ghost use Rattle.nntp_facts.specs.{Inner.PointView.{point_of}, Standing.{stands_of}};
 ghost use Rattle.nntp_explain.specs.Says.{conflict_lines, first_part, part_at, part_sent, reason_lines, said_lines, told_line};
 
 use crate::reasons::{put_about, put_because_at, put_rest};

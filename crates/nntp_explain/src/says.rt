@@ -5,8 +5,7 @@ ghost use Rattle.nntp_wire.specs.Listing.{active_groups, overviews_of};
 ghost use Rattle.nntp_article.specs.Session.Machine.{is_same};
 ghost use Rattle.nntp_said.specs.Facts.{ThereIs, ThereIsNo, Asks, IdAt, TextIs, NoArticle, FieldsAre, OverviewsAre, GroupsAre};
 ghost use Rattle.nntp_said.specs.Inner.FactView.{ask_of, fact_of};
-ghost use Rattle.nntp_facts.specs.Inner.PointView.{point_of};
-ghost use Rattle.nntp_facts.specs.Standing.{stands_of};
+ghost use Rattle.nntp_facts.specs.{Inner.PointView.{point_of}, Standing.{stands_of}};
 ghost use Rattle.nntp_theory.specs.Conflict as points;
 ghost use Rattle.nntp_explain.specs.Says.{groups_line, said_lines, says};
 

@@ -2,10 +2,12 @@
 ghost use Rattle.std.specs.{Prelude.{◌≡◌, ◌<◌, ◌≤◌, ◌^◌, ◌∷◌, [], List, ℕ, Some, length, map, IfOk, MatchOption}, List.{AllByRecursion}};
 ghost use Rattle.nntp_article.specs.Session.Limit.{profile_of};
 ghost use Rattle.nntp_theory.specs.{Conflict.{Placed as PlacedValue, SomeHas, told_with, below, places_of, IsFound}, Inner.Conflict.{FitsThere, IsPartOfCore}};
-ghost use Rattle.nntp_facts.specs.{Inner.{Kept.{IsKept}, Told.{AreToldWith, PlacesTold}}, Standing.{stands_of}};
+ghost use Rattle.nntp_kept.specs.Inner.Kept.{IsKept};
+ghost use Rattle.nntp_facts.specs.{Inner.Told.{AreToldWith, PlacesTold}, Standing.{stands_of}};
 
-use crate::kept::Kept;
 use crate::placed::Placed;
+use crate::told::{tell, tell_at};
+use nntp_kept::Kept;
 use nntp_wire::{Limit, Marks};
 use std::alloc::{AllocError, Allocator, Global};
 use std::marker::Model;
@@ -101,7 +103,7 @@ impl<A: Allocator + Copy> Core<A> {
                     rest: Some(bound),
                 });
             }
-            bound = search_refused(&mut kept, limit, marks, answers, bound)?;
+            bound = search_refused(alloc, &mut kept, limit, marks, answers, bound)?;
             places.insert(0, bound)?;
         }
         Ok(Core { places, rest: None })
@@ -124,13 +126,14 @@ fn keep<A: Allocator + Copy>(
         (AreToldWith (profile_of limit marks) (stands_of bad.now) (map stands_of answers.now) places.now)) }
 {
     let mut kept = Kept::new(alloc);
-    let stands = tell_all(&mut kept, limit, marks, answers, bad, places)?;
+    let stands = tell_all(alloc, &mut kept, limit, marks, answers, bad, places)?;
     Ok(stands.then_some(kept))
 }
 
 /// Adds what the bad answer and those at the places say where nothing is kept yet, and tells
 /// whether some spool has it. If none has, and after an error, what is kept says nothing of use.
 pub(crate) fn tell_all<A: Allocator + Copy>(
+    alloc: A,
     kept: &mut Kept<A>,
     limit: Limit,
     marks: Marks,
@@ -141,11 +144,11 @@ pub(crate) fn tell_all<A: Allocator + Copy>(
     ensures { IfOk result (λ does. IsKept [] kept.old → AllByRecursion (FitsThere (profile_of limit marks)) (stands_of bad.now ∷ map stands_of answers.now)
         → PlacesTold (profile_of limit marks) (stands_of bad.now) (map stands_of answers.now) places.now kept.new does) }
 {
-    if !kept.tell(limit, marks, bad)? {
+    if !tell(alloc, kept, limit, marks, bad)? {
         return Ok(false);
     }
     for place in places {
-        if !kept.tell_at(limit, marks, answers, *place)? {
+        if !tell_at(alloc, kept, limit, marks, answers, *place)? {
             return Ok(false);
         }
     }
@@ -156,6 +159,7 @@ pub(crate) fn tell_all<A: Allocator + Copy>(
 /// one of those below the bound, since all of these don't stand with it. What is kept says
 /// nothing of use then.
 fn search_refused<A: Allocator + Copy>(
+    alloc: A,
     kept: &mut Kept<A>,
     limit: Limit,
     marks: Marks,
@@ -173,7 +177,7 @@ fn search_refused<A: Allocator + Copy>(
 {
     let last = bound - 1;
     for place in 0..last {
-        if !kept.tell_at(limit, marks, answers, place)? {
+        if !tell_at(alloc, kept, limit, marks, answers, place)? {
             return Ok(place);
         }
     }

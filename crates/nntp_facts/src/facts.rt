@@ -5,18 +5,18 @@ ghost use Rattle.nntp_article.specs.{declared.session.profile.Profile.{Profile},
 ghost use Rattle.nntp_article.specs.Inner.MisfitView.{why_if};
 ghost use Rattle.nntp_said.specs.Facts.{Fact};
 ghost use Rattle.nntp_theory.specs.{Given.{is_mentioned}, Inner.Exchanged.{said_behind}};
-ghost use Rattle.nntp_facts.specs.Inner.{Kept.{AreKeptArticles}, Points.{held_by}, StatementView.{held_of_refusal}, Noted.{HasNoted, HasNotedBehind, IsDue}};
-ghost use Rattle.nntp_facts.specs.Inner.{Noted.{IsNotedBehind, NotesBehind, begun, profile_kept}, Readers.{ShownGroup as GroupValue}};
-ghost use Rattle.nntp_facts.specs.{Inner.Readers.{ShownArticle as ArticleValue, AreShownGroups, AreShownArticles}, Standing.{stands_of}};
+ghost use Rattle.nntp_kept.specs.Inner.{Kept.{AreKeptArticles}, Readers.{ShownGroup as GroupValue, ShownArticle as ArticleValue, AreShownGroups}};
+ghost use Rattle.nntp_kept.specs.Inner.Readers.{AreShownArticles};
+ghost use Rattle.nntp_facts.specs.Inner.{Points.{held_by}, StatementView.{held_of_refusal}, Noted.{HasNoted, HasNotedBehind, IsDue, IsNotedBehind}};
+ghost use Rattle.nntp_facts.specs.{Inner.Noted.{NotesBehind, begun, profile_kept}, Standing.{stands_of}};
 
-use crate::articles::{ShownArticle, ShownArticles, TakenArticles};
 use crate::facts_error::FactsError;
-use crate::kept::Kept;
 use crate::placed::Placed;
 use crate::points::Refusal;
-use crate::shown_groups::{ShownGroup, ShownGroups};
-use crate::taken_groups::TakenGroups;
 use nntp_article::{Listed, Misfit, Profile, Visible};
+use nntp_kept::{
+    Kept, ShownArticle, ShownArticles, ShownGroup, ShownGroups, TakenArticles, TakenGroups,
+};
 use nntp_pair::Exchange;
 use nntp_said::Position;
 use nntp_theory::Noted;
@@ -56,7 +56,7 @@ impl<A: Allocator> Drop for Facts<A> {
 }
 
 impl<A: Allocator> Model for Facts<A> {
-    ghost use Rattle.nntp_facts.specs.Inner.{Noted.{FactsKept}, KeptView.{coded_facts}};
+    ghost use Rattle.nntp_facts.specs.Inner.{Noted.{FactsKept}, FactsView.{coded_facts}};
 
     ghost Value = { FactsKept };
 
@@ -267,7 +267,7 @@ impl<A: Allocator> Facts<A> {
         ensures { (profile : Profile) (earlier : List (List Paired)) (past : List Paired) → HasNotedBehind profile self.now earlier past
             → AreShownGroups (said_behind profile.marks earlier past) result }
     {
-        self.kept.groups()
+        self.kept.groups().shown()
     }
 
     /// Returns the group at the index, which counts from 0 in the order of
@@ -288,7 +288,7 @@ impl<A: Allocator> Facts<A> {
             → AreShownArticles (said_behind profile.marks earlier past) result }
         ensures kept { (facts : List Fact) → AreKeptArticles facts self.now.kept.articles → AreShownArticles facts result }
     {
-        self.kept.articles()
+        self.kept.articles().shown()
     }
 
     /// Returns the article at the index, which counts from 0 in the order of
@@ -309,6 +309,6 @@ impl<A: Allocator> Facts<A> {
             ≡ is_mentioned (said_behind profile.marks earlier past) id.now }
         ensures kept { (facts : List Fact) → AreKeptArticles facts self.now.kept.articles → result ≡ is_mentioned facts id.now }
     {
-        self.kept.mentions(id)
+        self.kept.articles().mentions(id)
     }
 }

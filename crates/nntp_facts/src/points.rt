@@ -9,11 +9,12 @@ ghost use Rattle.nntp_pair.specs.Inner.Pairing.{lines_in};
 
 mod statement;
 
+use crate::beside::point;
 use crate::conflict::{Core, tell_all};
-use crate::kept::Kept;
 use crate::placed::Placed;
 use crate::point::Point;
 use nntp_article::Listed;
+use nntp_kept::Kept;
 use nntp_wire::{Limit, Marks};
 pub(crate) use statement::Statement;
 use std::alloc::{AllocError, Allocator, Global};
@@ -100,7 +101,7 @@ impl<'a, A: Allocator + Copy> Conflict<'a, A> {
             return Conflict::with_last(alloc, limit, marks, kept, bad);
         };
         // They stand together, since none of them can be left out.
-        tell_all(&mut kept, limit, marks, answers, bad, others)?;
+        tell_all(alloc, &mut kept, limit, marks, answers, bad, others)?;
         let last = answers.get(*place).unwrap_or(bad);
         Conflict::with_last(alloc, limit, marks, kept, last)
     }
@@ -200,7 +201,7 @@ fn first_point<'s, A: Allocator + Copy>(
 {
     let told = Statement::of(marks, last.answer, last.listed.numbers());
     for kind in &KINDS {
-        if let Some(point) = kept.point(limit, *kind, &told)? {
+        if let Some(point) = point(kept, limit, *kind, &told)? {
             return Ok(Some(point));
         }
     }

@@ -9,7 +9,7 @@ use Rattle.nntp_said.specs.{Asks.{Ask}, Facts.{Fact}}
 use Rattle.nntp_theory.specs.{Given.{asks_of, is_shown, IsGivenNumber, id_shown, IsGiven}, Inner.Unseen.{IsLeastGiven, IsGreatestGiven}}
 use Rattle.nntp_theory.proofs.{Maps.{sorted_keys, key_of, of_key}, Members.{In, all_at, all_from, all_both, any_in, found_in, in_map, from_map, in_front}}
 use Rattle.nntp_theory.proofs.{Members.{in_back, in_cases}, Ids.OnePlaceOfAnId.{shown_with_id}}
-use Rattle.nntp_facts.specs.Inner.Readers.{ShownGroup, HasShownNumbers}
+use Rattle.nntp_kept.specs.Inner.Readers.{ShownGroup, HasShownNumbers}
 use Rattle.nntp_witness.specs.Inner.Making.{unseen_number, given_numbers}
 
 -- ---- lists in order as the keys of a map

@@ -3,8 +3,7 @@ ghost use Rattle.std.specs.Prelude.{◌≡◌, ◌⊎◌, true, false, ◌≤◌
 ghost use Rattle.nntp_article.specs.declared.session.profile.Profile.{Profile};
 ghost use Rattle.nntp_said.specs.Facts.{Fact};
 ghost use Rattle.nntp_theory.specs.Conflict.{told_with, places_of};
-ghost use Rattle.nntp_facts.specs.Inner.Points.{AreHeld};
-ghost use Rattle.nntp_facts.specs.Inner.StatementView.{held_of};
+ghost use Rattle.nntp_facts.specs.Inner.{Points.{AreHeld}, StatementView.{held_of}};
 ghost use Rattle.nntp_pair.specs.declared.class.Class.TheVariants.{Contradiction};
 ghost use Rattle.nntp_facts.specs.Inner.Noted.{profile_kept};
 ghost use Rattle.nntp_explain.specs.Explaining.{are_looked_for, TellsCore};

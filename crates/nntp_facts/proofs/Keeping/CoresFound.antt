@@ -1,8 +1,8 @@
 -- Finding the answers with which a bad one conflicts.
-use Rattle.nntp_facts.proofs.Base.{arith, zero, suc, ◌+◌, ◌^◌, ◌<◌, ◌≤◌, ◌≡◌, ℕ, Bool, true, false, IsTrue, Option, None, Some, inl, inr, refl, sym, ap, subst}
-use Rattle.nntp_facts.proofs.Base.{◌∙◌, List, [], ◌∷◌, ◌++◌, length, length-append, append-nil, append_assoc, take, get_or, and_from, cases_lt, AllByRecursion}
-use Rattle.nntp_facts.proofs.Base.{is_ascending, Profile, Together, FitsThere, Placed, told_with, SomeHas, below, IsFound, In, all_at, all_from, in_front}
-use Rattle.nntp_facts.proofs.Base.{in_back, in_cases, contains_in, in_contains, Kept, IsPartOfCore, none_permitted, take_more, MatchOption, then_some}
+use Rattle.nntp_facts.proofs.Base.{arith, ◌+◌, ◌^◌, ◌<◌, ◌≤◌, ◌≡◌, ℕ, Bool, true, false, IsTrue, Option, None, Some, inl, inr, refl, sym, ap, subst, ◌∙◌, List}
+use Rattle.nntp_facts.proofs.Base.{[], ◌∷◌, ◌++◌, length, append-nil, append_assoc, take, get_or, and_from, cases_lt, AllByRecursion, is_ascending, Profile}
+use Rattle.nntp_facts.proofs.Base.{Together, In, all_at, all_from, in_front, in_back, contains_in, in_contains, Kept, MatchOption, zero, suc, length-append}
+use Rattle.nntp_facts.proofs.Base.{FitsThere, Placed, told_with, SomeHas, below, IsFound, in_cases, IsPartOfCore, none_permitted, take_more, then_some}
 use Rattle.nntp_facts.specs.Inner.Told.{AreTold, AreToldWith, PlacesTold}
 use Rattle.nntp_theory.proofs.{Together.FactsOfASpoolStand.{stand}, Conflicts.{with_told, told_together, fewer_places, core_step, core_done, found_in_each}}
 use Rattle.nntp_theory.{proofs.Members.{every}, specs.{Conflict.{told}, Inner.Conflict.{AreFound}}}

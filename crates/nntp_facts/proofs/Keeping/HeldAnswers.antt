@@ -1,8 +1,8 @@
 -- What is held of answers that conflict: all but the last of them stand together.
 use Rattle.nntp_facts.proofs.Base.{◌≡◌, ℕ, ◌<◌, ◌≤◌, ◌^◌, List, [], ◌∷◌, ◌++◌, Option, None, Some, length, Bool, IsTrue, arith, refl, sym, ap, subst}
-use Rattle.nntp_facts.proofs.Base.{append-nil, length-append, inl, inr, and_parts, ⊤, AllByRecursion, list_all, option_map_or, is_ascending, Profile, lines_in}
-use Rattle.nntp_facts.proofs.Base.{Placed, SomeHas, IsFound, below, told_with, FitsThere, size, Together, size-append, In, all_at, each_of, in_front, in_back}
-use Rattle.nntp_facts.proofs.Base.{in_cases, in_contains, contains_in, Kept, IsKept, AreHeld, places_of, slice_get, nat_tests, MatchOption, nat_lt}
+use Rattle.nntp_facts.proofs.Base.{append-nil, inl, inr, and_parts, ⊤, AllByRecursion, list_all, option_map_or, is_ascending, Profile, Together, In, all_at}
+use Rattle.nntp_facts.proofs.Base.{each_of, in_front, in_back, in_contains, contains_in, Kept, IsKept, slice_get, MatchOption, length-append, lines_in, Placed}
+use Rattle.nntp_facts.proofs.Base.{SomeHas, IsFound, below, told_with, FitsThere, size, size-append, in_cases, AreHeld, places_of, nat_tests, nat_lt}
 use Rattle.nntp_facts.proofs.{Keeping.{CoresFound.{nothing_together}, ToldAnswers.{told_size, with_place, fits_at}}, PointsFound.PointsChained.{none_at_all}}
 use Rattle.nntp_facts.specs.Inner.{Told.{AreToldWith, PlacesTold}, Points.{Answers, with_numbers}}
 use Rattle.nntp_theory.{proofs.Conflicts.{told_together, with_told, from_below}, specs.{Conflict.{told, IsCore, IsEndOfCore, Core}, Inner.Conflict.{HasLast}}}

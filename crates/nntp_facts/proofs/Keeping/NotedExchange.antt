@@ -1,13 +1,14 @@
 -- Noting an exchange behind earlier sessions: when it is permitted behind those that were accepted, and what stands then.
-use Rattle.nntp_facts.proofs.Base.{Asked, Response, ◌≡◌, ◌+◌, ◌<◌, ◌^◌, Bool, false, true, List, [], ◌∷◌, ◌++◌, map, refl, sym, ap, ap₂, subst, ◌∙◌, arith}
-use Rattle.nntp_facts.proofs.Base.{append_assoc, length-append, AllByRecursion, profile_of, start, fits, Visible, Profile, Paired, asked_at, asked_of}
-use Rattle.nntp_facts.proofs.Base.{responses_of, lines_in, Fact, facts_of, ThereIs, FitsAll, size, IsWellFormed, Together, Join, said_behind, AreFew}
-use Rattle.nntp_facts.proofs.Base.{facts_of_all, exchanged, ArePermittedBehind, Contradiction, all_both, all_back, any_back, all_front, all_from, any_in}
-use Rattle.nntp_facts.proofs.Base.{facts_next, as_many, ends, stand_each, facts_behind, Marks, Position, shows_group, same_itself, Kept, IsKept, Saying, Tells}
-use Rattle.nntp_facts.proofs.Base.{FactsKept, IsNotedBehind, ◌↔◌, visible_after, IsSpelled, position_after, facts_from, Nowhere, said_by, SomePermitsEach}
-use Rattle.nntp_facts.proofs.Base.{Consistent, OutOfPlace, facts_of_session, visible_from, MayFollow, of_these, permitted_next, visible_next, position_next}
-use Rattle.nntp_facts.{proofs.Base.{with_pair, Among, HasNoted, still_stands, small_behind, spelled_formed, if_some}, specs.Inner.Saying.{IsSelectedShown}}
-use Rattle.nntp_facts.specs.Inner.{Kept.{AreAdded}, Noted.{HasNotedBehind, IsDue, MayBeNoted, said_then}}
+use Rattle.nntp_facts.proofs.Base.{Asked, Response, ◌≡◌, ◌+◌, ◌<◌, ◌^◌, Bool, false, true, List, [], ◌∷◌, ◌++◌, map, refl, sym, ap, subst, ◌∙◌, arith}
+use Rattle.nntp_facts.proofs.Base.{append_assoc, AllByRecursion, start, fits, Visible, Profile, Fact, facts_of, ThereIs, IsWellFormed, Together, Join, all_both}
+use Rattle.nntp_facts.proofs.Base.{all_back, all_from, any_in, Marks, Position, shows_group, same_itself, Kept, IsKept, Saying, Tells, ◌↔◌, ap₂, length-append}
+use Rattle.nntp_facts.proofs.Base.{profile_of, Paired, asked_at, asked_of, responses_of, lines_in, FitsAll, size, said_behind, AreFew, facts_of_all, exchanged}
+use Rattle.nntp_facts.proofs.Base.{ArePermittedBehind, Contradiction, any_back, all_front, facts_next, as_many, ends, stand_each, facts_behind, FactsKept}
+use Rattle.nntp_facts.proofs.Base.{IsNotedBehind, visible_after, IsSpelled, position_after, facts_from, Nowhere, said_by, SomePermitsEach, Consistent}
+use Rattle.nntp_facts.proofs.Base.{OutOfPlace, facts_of_session, visible_from, MayFollow, of_these, permitted_next, visible_next, position_next, with_pair}
+use Rattle.nntp_facts.{proofs.Base.{Among, HasNoted, still_stands, small_behind, spelled_formed, if_some}, specs.Inner.Noted.{HasNotedBehind, IsDue}}
+use Rattle.nntp_facts.specs.Inner.Noted.{MayBeNoted, said_then}
+use Rattle.nntp_kept.specs.Inner.{Saying.{IsSelectedShown}, Kept.{AreAdded}}
 
 -- answers that fit leave a group selected that a 211 selected
 left_stands : (profile : Profile) (all : List Fact) (v : Visible) (at : Position) (ps : List Asked) (answers : List Response) → HasNoted profile.marks all v → FitsAll profile v ps answers

@@ -1,7 +1,7 @@
 -- Exchanges of several sessions are noted one after the other: the next one is permitted exactly if it fits its own session and what it says joins what all said.
-use Rattle.nntp_facts.proofs.Base.{◌≡◌, ◌+◌, ◌<◌, ◌^◌, List, [], ◌∷◌, ◌++◌, length, map, refl, sym, ap, subst, arith, append-nil, length-append, Profile, start}
-use Rattle.nntp_facts.proofs.Base.{Paired, said_behind, AreFew, exchanged, Answered, all_both, facts_behind, IsKept, FactsKept, map-append, Run, PermitsEach}
-use Rattle.nntp_facts.specs.Inner.Noted.{HasNotedBehind, begun}
+use Rattle.nntp_facts.proofs.Base.{◌≡◌, ◌+◌, ◌<◌, ◌^◌, List, [], ◌∷◌, ◌++◌, length, map, refl, sym, ap, subst, arith, append-nil, Profile, start, all_both}
+use Rattle.nntp_facts.proofs.Base.{IsKept, length-append, Paired, said_behind, AreFew, exchanged, Answered, facts_behind, FactsKept, map-append, Run}
+use Rattle.nntp_facts.{proofs.Base.{PermitsEach}, specs.Inner.Noted.{HasNotedBehind, begun}}
 
 -- ---- the facts of sessions
 

@@ -1,8 +1,8 @@
 -- A contradiction conflicts with what the accepted answers of all sessions say.
 use Rattle.nntp_facts.proofs.Base.{◌≡◌, ◌<◌, ◌^◌, IsTrue, List, [], ◌∷◌, ◌++◌, Option, Some, map, refl, sym, ap, subst, ◌∙◌, arith, append_assoc, inl, inr}
-use Rattle.nntp_facts.proofs.Base.{AllByRecursion, Asked, Response, Marks, Name, Visible, start, fits, Profile, Paired, asked_at, asked_of, responses_of}
-use Rattle.nntp_facts.proofs.Base.{lines_in, Fact, Holds, group_of, FitsAll, Contradiction, Answered, facts_of_all, size, said_behind, Together, exchanged}
-use Rattle.nntp_facts.proofs.Base.{ArePermittedBehind, Placed, the_group, In, all_from, all_at, all_both, all_front, all_back, in_front, in_back, in_cases}
+use Rattle.nntp_facts.proofs.Base.{AllByRecursion, Asked, Response, Marks, Name, Visible, start, fits, Profile, Fact, group_of, Together, In, all_from, all_at}
+use Rattle.nntp_facts.proofs.Base.{all_both, all_back, in_front, in_back, Paired, asked_at, asked_of, responses_of, lines_in, Holds, FitsAll, Contradiction}
+use Rattle.nntp_facts.proofs.Base.{Answered, facts_of_all, size, said_behind, exchanged, ArePermittedBehind, Placed, the_group, all_front, in_cases}
 use Rattle.nntp_facts.proofs.Base.{size-append, stand_each, facts_behind, as_many, ends, facts_next, FactsKept, IsNotedBehind, AreHeld, placed_behind}
 use Rattle.nntp_facts.{proofs.Keeping.{NotedExchange.{stand_together}, ToldAnswers.{told_size}}, specs.Inner.{Noted.{HasNotedBehind, IsDue}, Points.{held_by}}}
 use Rattle.nntp_theory.{specs.{Conflict.{told, said as said_there}, Inner.Answered.{FitEach}}, proofs.Conflicts.{there_said, group_fitting}}

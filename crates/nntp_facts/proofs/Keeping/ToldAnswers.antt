@@ -1,48 +1,22 @@
 -- Noting what answers say by themselves.
-use Rattle.nntp_facts.proofs.Base.{arith, Marks, zero, suc, ◌+◌, ◌^◌, ◌<◌, ◌≤◌, ◌≡◌, ℕ, Bool, true, false, IsTrue, Option, None, Some, sym, ap, subst, ◌∙◌}
-use Rattle.nntp_facts.proofs.Base.{List, [], ◌∷◌, ◌++◌, length, length-append, append-nil, append_assoc, or_left, flat_map-append, IfSome, unwrap_or}
-use Rattle.nntp_facts.proofs.Base.{option_map, slice_get, AllByRecursion, option_map_or, Asked, Response, lines_in, Name, Visible, start, fits, Profile}
-use Rattle.nntp_facts.proofs.Base.{numbers_of, Position, Fact, Holds, here, facts_of, group_of, is_shown_group, size, Together, Join, IsWellFormed, FitsThere}
-use Rattle.nntp_facts.proofs.Base.{Placed, said, the_group, SomeHas, told_with, any_back, all_front, size-append, together_more, same_itself, Kept, IsKept}
-use Rattle.nntp_facts.{proofs.{Base.{Saying, OfGroup, Tells, ◌↔◌}, Keeping.NotedExchange.{Adds}}, specs.Inner.Saying.{TellsHere, IsShownThen, IsSelectedShown}}
-use Rattle.nntp_facts.specs.Inner.{Saying.{TellsThere, there_facts}, Kept.{AreAdded}, Told.{AreTold, AreToldWith, PlacesTold}}
+use Rattle.nntp_facts.proofs.Base.{arith, Marks, ◌+◌, ◌^◌, ◌<◌, ◌≤◌, ◌≡◌, ℕ, Bool, true, false, IsTrue, Option, None, Some, sym, ap, subst, ◌∙◌, List, [], ◌∷◌}
+use Rattle.nntp_facts.proofs.Base.{◌++◌, length, append-nil, append_assoc, or_left, flat_map-append, IfSome, unwrap_or, option_map, slice_get, AllByRecursion}
+use Rattle.nntp_facts.proofs.Base.{option_map_or, Asked, Response, Name, Visible, start, fits, Profile, numbers_of, Position, Fact, here, facts_of, group_of}
+use Rattle.nntp_facts.proofs.Base.{is_shown_group, Together, Join, IsWellFormed, together_more, same_itself, Kept, IsKept, Saying, OfGroup, Tells, ◌↔◌, zero}
+use Rattle.nntp_facts.proofs.Base.{suc, length-append, lines_in, Holds, size, FitsThere, Placed, said, the_group, SomeHas, told_with, any_back, all_front}
+use Rattle.nntp_facts.{proofs.{Base.{size-append}, Keeping.NotedExchange.{Adds}}, specs.Inner.Told.{AreTold, AreToldWith, PlacesTold}}
+use Rattle.nntp_kept.specs.Inner.{Saying.{TellsHere, IsShownThen, IsSelectedShown, TellsThere, there_facts}, Kept.{AreAdded}}
 use Rattle.std.proofs.{Common.{◌*◌}, Math.Path.{ap₂}}
 use Rattle.nntp_theory.proofs.{Together.{FactsOfASpoolStand.{stand}, FactsJoin.{answer_agrees}}, Ids.SizeOfASession.{answer_size}}
 use Rattle.nntp_theory.{proofs.Session.GroupOfAnAnswer.{same_selected}, specs.{Conflict.{told, told_at}, Inner.Together.{AgreeWithin}}}
 
--- ---- the group of a saying
+-- ---- the group of an answer
 
 -- that there is such a group agrees with itself
 the_group_agrees : (profile : Profile) (group : Option Name) → AgreeWithin (the_group profile group)
 the_group_agrees profile group = grind arith
 
--- facts that show the selected group alone do, behind others
-shown_there : (facts : List Fact) (selected : Option Name) → IfSome selected (λ name. is_shown_group (facts ++ there_facts selected) name ≡ true)
-shown_there facts selected = grind (arith, any_back, or_left, same_itself)
-
 module _ (selected : Option Name) (s : Saying) (more : List Fact) (t : TellsThere selected s more) where
-  -- it tells them behind the selected group alone
-  h : TellsHere (unwrap_or selected []) (there_facts selected) s more
-  h = t (there_facts selected) (shown_there [] selected)
-
-  -- the group that is said to be there
-  pub group_said : (name : Name) → s.there_is ≡ Some name → group_of more ≡ Some name
-  group_said name e = grind (arith, h)
-
-  -- none
-  pub none_said : s.group ≡ None → group_of more ≡ None
-  none_said e = sym (subst (λ o. option_map (λ g. g.name) o ≡ group_of more) e h.group)
-
-  -- it says there is the group, or one is selected
-  some_selected : (g : OfGroup) → s.there_is ≡ None → s.group ≡ Some g → selected ≡ None → ⊥
-  some_selected g none e here =
-      let u = t [] (subst (λ o. IfSome o (λ name. is_shown_group [] name ≡ true)) (sym here) tt) in
-      grind (arith, u.tells.may.shown, none, e)
-
-  -- and so the selected group is the one
-  pub selected_spoken : (g : OfGroup) → s.there_is ≡ None → s.group ≡ Some g → selected ≡ group_of more
-  selected_spoken g none e = grind (arith, h, some_selected)
-
   -- behind others, and that there is that group, it tells them
   pub told_behind : (profile : Profile) (facts : List Fact) → Tells (facts ++ the_group profile (group_of more)) s more
   told_behind profile facts = record {

@@ -1,12 +1,13 @@
 -- Points that are about articles, where what an answer says conflicts with what is kept.
-use Rattle.nntp_facts.proofs.Base.{ℕ, true, false, not, cond, IsTrue, List, ◌≡◌, ◌++◌, ◌||◌, ◌⊎◌, Option, None, Some, refl, sym, ap, subst, ◌∙◌, arith}
-use Rattle.nntp_facts.proofs.Base.{true≢false, cases_Bool, or_left, or_right, list_any-append, IfSome, IsFalse, MatchOption, list_any, option_map_or, same_text}
-use Rattle.nntp_facts.proofs.Base.{get, OverviewValue, What, Range, Id, Line, is_same, head_fits, Profile, Fact, first_given, head_in, body_in, shows_article}
-use Rattle.nntp_facts.proofs.Base.{denies_article, SaidOfArticle, said_nothing, AreSame, Point, Article, HeadOf, BodyOf, ConflictAt, In, any_in, found_in}
-use Rattle.nntp_facts.proofs.Base.{first_found, none_there, of_rank, same_itself, apart_both, give_same_of_both, Kept, said_kept, OfArticle, Sends, MayBeOf}
-use Rattle.nntp_facts.proofs.{Base.{kept_by, said_listed, IsPointOf}, Keeping.{OverviewsTold.{Overviews, plain_by_article}, KeptArticles.{shown_kept}}}
-use Rattle.nntp_facts.proofs.{Keeping.KeptArticles.{denied_kept}, PointsFound.{Statements.{article_told}, KindsOfPoints.{one_given}}}
-use Rattle.nntp_facts.specs.Inner.{KeptSaying.{said_in}, Points.{Statement, IsBeside, said_by}, Articles.{is_there}}
+use Rattle.nntp_facts.proofs.Base.{ℕ, true, false, not, cond, IsTrue, List, ◌≡◌, ◌++◌, ◌||◌, Option, None, Some, refl, sym, ap, subst, ◌∙◌, arith, true≢false}
+use Rattle.nntp_facts.proofs.Base.{or_left, or_right, list_any-append, IfSome, IsFalse, MatchOption, list_any, option_map_or, same_text, get, OverviewValue}
+use Rattle.nntp_facts.proofs.Base.{What, Range, Id, Line, is_same, Profile, Fact, first_given, head_in, body_in, shows_article, denies_article, SaidOfArticle}
+use Rattle.nntp_facts.proofs.Base.{said_nothing, AreSame, In, any_in, found_in, first_found, same_itself, Kept, said_kept, OfArticle, Sends, MayBeOf, kept_by}
+use Rattle.nntp_facts.proofs.Base.{said_listed, ◌⊎◌, cases_Bool, head_fits, Point, Article, HeadOf, BodyOf, ConflictAt, none_there, of_rank, apart_both}
+use Rattle.nntp_facts.proofs.{Base.{give_same_of_both, IsPointOf}, PointsFound.{Statements.{article_told}, KindsOfPoints.{one_given}}}
+use Rattle.nntp_facts.specs.Inner.Points.{Statement, IsBeside}
+use Rattle.nntp_kept.{specs.Inner.{KeptSaying.{said_by, said_in}, Articles.{is_there}}, proofs.Keeping.OverviewsTold.{Overviews, plain_by_article}}
+use Rattle.nntp_kept.proofs.Keeping.KeptArticles.{shown_kept, denied_kept}
 
 -- ---- the parts of an article
 

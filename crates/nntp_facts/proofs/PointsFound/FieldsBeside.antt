@@ -1,12 +1,12 @@
 -- Points that are about headers, where what an answer tells of them conflicts with what is kept.
 use Rattle.nntp_facts.proofs.Base.{◌≡◌, true, false, IsTrue, List, [], ◌∷◌, ◌++◌, Option, None, Some, MatchOption, refl, sym, ap, subst, ◌∙◌, arith, true≢false}
-use Rattle.nntp_facts.proofs.Base.{IfSome, option_map, is_some, AllByRecursion, option_map_or, get, OverviewValue, Fields, What, Range, Id, Line}
-use Rattle.nntp_facts.proofs.Base.{fields_of_head, words_in, Field, Profile, head_fits, only, Fact, first_given, fields_in, fields_of_overview, GiveOne}
-use Rattle.nntp_facts.proofs.Base.{SaidOfArticle, AreSame, Point, ConflictAt, words_told, if_some, In, all_at, all_from, part_first, of_rank, give_same_of_both}
-use Rattle.nntp_facts.proofs.Base.{told_by, Kept, said_kept, head_sent, OfArticle, Sends, Describes, MayBeOf, said_listed, kept_by, IsPointOf}
-use Rattle.nntp_facts.proofs.{Keeping.{OverviewsTold.{of_range}, ListedOverviews.{own_agree}}, PointsFound.Statements.{article_told}}
-use Rattle.nntp_facts.{proofs.PointsFound.{KindsOfPoints.{one_given}, ArticlesBeside.{own, others, said, said_plain}}, specs.Inner.KeptSaying.{said_in}}
-use Rattle.nntp_facts.specs.Inner.Points.{IsBeside, IsFieldOf, IsFieldAmong, IsOtherField, OneTellsOther, Statement, said_by}
+use Rattle.nntp_facts.proofs.Base.{IfSome, option_map, is_some, AllByRecursion, option_map_or, get, OverviewValue, Fields, What, Range, Id, Line, words_in}
+use Rattle.nntp_facts.proofs.Base.{Field, Profile, only, Fact, first_given, fields_in, fields_of_overview, SaidOfArticle, AreSame, In, all_at, all_from}
+use Rattle.nntp_facts.proofs.Base.{told_by, Kept, said_kept, head_sent, OfArticle, Sends, Describes, MayBeOf, said_listed, kept_by, fields_of_head, head_fits}
+use Rattle.nntp_facts.proofs.Base.{GiveOne, Point, ConflictAt, words_told, if_some, part_first, of_rank, give_same_of_both, IsPointOf}
+use Rattle.nntp_facts.proofs.PointsFound.{Statements.{article_told}, KindsOfPoints.{one_given}, ArticlesBeside.{own, others, said, said_plain}}
+use Rattle.nntp_facts.specs.Inner.Points.{IsBeside, IsFieldOf, IsFieldAmong, IsOtherField, OneTellsOther, Statement}
+use Rattle.nntp_kept.{specs.Inner.KeptSaying.{said_by, said_in}, proofs.Keeping.{OverviewsTold.{of_range}, ListedOverviews.{own_agree}}}
 
 -- ---- of one header what is given of all
 

@@ -1,10 +1,11 @@
 -- Points that are about the ids at numbers, where what an answer says conflicts with what is kept.
 use Rattle.nntp_facts.proofs.Base.{arith, ℕ, Bool, true, cond, List, [], ◌∷◌, ◌≡◌, ◌++◌, ◌==◌, IsTrue, Option, None, Some, refl, sym, eq-eqb, eqb-true, IfSome}
 use Rattle.nntp_facts.proofs.Base.{MatchOption, AllByRecursion, option_map_or, same_text, OverviewValue, Range, Id, Name, is_same, Profile, Fact, OverviewsAre}
-use Rattle.nntp_facts.proofs.Base.{first_given, id_in, number_in, GiveSame, AgreesWithItself, Point, IdOf, PlaceOf, rank, ConflictAt, if_some, all_at, all_from}
-use Rattle.nntp_facts.proofs.Base.{first_found, none_there, of_rank, same_itself, apart_agree, give_same_of_both, or_none, Kept, OfGroup, IsPointOf}
-use Rattle.nntp_facts.proofs.{Keeping.OverviewsTold.{of_range}, PointsFound.{KindsOfPoints.{one_given}, Statements.{id_given, place_given}}}
-use Rattle.nntp_facts.specs.Inner.Points.{Statement, IsBeside, other_id_at, other_place_of}
+use Rattle.nntp_facts.proofs.Base.{first_given, id_in, number_in, AgreesWithItself, all_at, all_from, first_found, same_itself, apart_agree, or_none, Kept}
+use Rattle.nntp_facts.proofs.Base.{OfGroup, GiveSame, Point, IdOf, PlaceOf, rank, ConflictAt, if_some, none_there, of_rank, give_same_of_both, IsPointOf}
+use Rattle.nntp_facts.{proofs.PointsFound.{KindsOfPoints.{one_given}, Statements.{id_given, place_given}}, specs.Inner.Points.{Statement, IsBeside}}
+use Rattle.nntp_facts.specs.Inner.Points.{other_id_at, other_place_of}
+use Rattle.nntp_kept.proofs.Keeping.OverviewsTold.{of_range}
 
 -- the test of what is kept gives the point where that is another
 other_id : (o : Option Id) (id : Id) (p : Point) → MatchOption (cond (option_map_or (λ y. is_same y id) o true) None (Some p)) (IfSome o (λ y. id ≡ y)) (λ q. (q ≡ p) × (IfSome o (λ y. id ≡ y) → ⊥))

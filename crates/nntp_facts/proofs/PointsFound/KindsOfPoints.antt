@@ -1,14 +1,14 @@
 -- Points of each kind, where what an answer says conflicts with what is kept.
-use Rattle.nntp_facts.proofs.Base.{arith, ℕ, Bool, true, false, not, IsTrue, List, [], ◌≡◌, ◌∷◌, ◌++◌, ◌<◌, ◌⊎◌, Option, None, Some, inl, inr, refl, sym, ap}
-use Rattle.nntp_facts.proofs.Base.{subst, ◌∙◌, append-nil, true≢false, cases_Bool, and_parts, or_left, or_right, not-true, false_from_ne_true, list_any-append}
-use Rattle.nntp_facts.proofs.Base.{IfSome, IsFalse, MatchOption, option_map, AllByRecursion, list_any, list_all, option_map_or, same_text, ActiveValue, Lenient}
-use Rattle.nntp_facts.proofs.Base.{Name, is_same, Profile, Ask, Bounds, Estimates, Fact, ThereIs, Asks, GroupsAre, group_of, asks_of, shows_group}
-use Rattle.nntp_facts.proofs.Base.{is_shown_group, is_known, is_denied, demand, IsGivenNumber, is_possible, MeetsDemand, GiveOne, denies_group, widest}
-use Rattle.nntp_facts.proofs.Base.{the_group, Point, Step, Group, Number, Count, First, rank, ConflictAt, AreTooMany, GiveSame, all_at, all_from, found_in}
-use Rattle.nntp_facts.proofs.Base.{at_point, of_rank, asks_append, same_itself, apart_both, give_one_both, Says, Kept, OfGroup, asked_id, is_listed, MayList}
-use Rattle.nntp_facts.proofs.{Base.{NoneIsMissing, IsPointOf, or-false}, Keeping.ListedGroups.{no_bounds, bounds_at}, PointsFound.Statements.{shown_told}}
-use Rattle.nntp_facts.{proofs.PointsFound.Statements.{denied_told, asks_listed, asks_told}, specs.Inner.{Saying.{IsAlone}, Points.{Statement, TellsAlone}}}
-use Rattle.nntp_facts.specs.Inner.Points.{IsPointIn, IsBeside, IsAbout, is_impossible, shows_name, denies_name, bounds_of}
+use Rattle.nntp_facts.proofs.Base.{arith, ℕ, Bool, true, false, not, IsTrue, List, [], ◌≡◌, ◌∷◌, ◌++◌, ◌<◌, Option, None, Some, inl, inr, refl, sym, ap, subst}
+use Rattle.nntp_facts.proofs.Base.{◌∙◌, append-nil, true≢false, and_parts, or_left, or_right, not-true, false_from_ne_true, list_any-append, IfSome, IsFalse}
+use Rattle.nntp_facts.proofs.Base.{MatchOption, option_map, AllByRecursion, list_any, list_all, option_map_or, same_text, ActiveValue, Name, is_same, Profile}
+use Rattle.nntp_facts.proofs.Base.{Ask, Bounds, Estimates, Fact, ThereIs, Asks, GroupsAre, group_of, asks_of, shows_group, is_shown_group, is_denied, demand}
+use Rattle.nntp_facts.proofs.Base.{IsGivenNumber, is_possible, denies_group, all_at, all_from, found_in, asks_append, same_itself, Says, Kept, OfGroup}
+use Rattle.nntp_facts.proofs.Base.{asked_id, is_listed, MayList, NoneIsMissing, or-false, ◌⊎◌, cases_Bool, Lenient, is_known, MeetsDemand, GiveOne, widest}
+use Rattle.nntp_facts.proofs.Base.{the_group, Point, Step, Group, Number, Count, First, rank, ConflictAt, AreTooMany, GiveSame, at_point, of_rank, apart_both}
+use Rattle.nntp_facts.proofs.{Base.{give_one_both, IsPointOf}, PointsFound.Statements.{shown_told, denied_told, asks_listed, asks_told}}
+use Rattle.nntp_facts.specs.Inner.Points.{Statement, TellsAlone, IsPointIn, IsBeside, IsAbout, is_impossible, shows_name, denies_name}
+use Rattle.nntp_kept.{specs.Inner.{ListedGroups.{bounds_of}, Saying.{IsAlone}}, proofs.Keeping.ListedGroups.{no_bounds, bounds_at}}
 
 -- an ask can't be met
 abbrev pub cannot : Ask → Bool

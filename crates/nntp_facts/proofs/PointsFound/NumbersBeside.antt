@@ -1,7 +1,7 @@
 -- Points that are about the numbers of a group.
-use Rattle.nntp_facts.proofs.Base.{arith, ℕ, ◌≡◌, ◌<◌, ◌++◌, ◌∷◌, List, subst, sym, ◌∙◌, true≢false, cases_Bool, greatest, Limit, Lenient, Name, Profile, Ask}
-use Rattle.nntp_facts.proofs.Base.{Estimates, Fact, asks_of, denies, demand, IsGivenNumber, MeetsDemand, AreApart, widest, Point, Number, Count, rank}
-use Rattle.nntp_facts.{proofs.Base.{ConflictAt, AreTooMany, any_back, AreBounded, NoneBefore, rank_of_numbers, NumbersKind}, specs.Inner.Points.{IsAbout}}
+use Rattle.nntp_facts.proofs.Base.{arith, ℕ, ◌≡◌, ◌<◌, ◌++◌, ◌∷◌, List, subst, sym, ◌∙◌, true≢false, Name, Profile, Ask, Estimates, Fact, asks_of, denies}
+use Rattle.nntp_facts.proofs.Base.{demand, IsGivenNumber, AreBounded, cases_Bool, greatest, Limit, Lenient, MeetsDemand, AreApart, widest, Point, Number, Count}
+use Rattle.nntp_facts.{proofs.Base.{rank, ConflictAt, AreTooMany, any_back, NoneBefore, rank_of_numbers, NumbersKind}, specs.Inner.Points.{IsAbout}}
 
 -- their ranks are these
 pub above_one : (kind : NumbersKind) → 1 < rank_of_numbers kind

@@ -1,8 +1,8 @@
 -- Kinds of points that are looked for one after the other.
 use Rattle.nntp_facts.proofs.Base.{get_or, ◌≡◌, ℕ, ◌+◌, ◌<◌, ◌≤◌, ◌++◌, ◌∙◌, ap, arith, List, [], ◌∷◌, Option, inl, inr, sym, subst, AllByRecursion, option_map}
-use Rattle.nntp_facts.proofs.Base.{MatchOption, Profile, numbers_of, Lenient, Fact, IsWellFormed, Together, FitsThere, Placed, told_with, Point, ConflictAt}
-use Rattle.nntp_facts.{proofs.Base.{all_at, all_from, all_both, AreHeld, IsPointOf, NoneBefore, point_of}, specs.Inner.Points.{Answers, Statement, TellsAlone}}
-use Rattle.nntp_facts.specs.{Inner.{Points.{IsBeside}, StatementView.{rank_of}}, declared.{point.Point.{Point as CodePoint}, points.Kind.{Kind}}}
+use Rattle.nntp_facts.proofs.Base.{MatchOption, Profile, numbers_of, Fact, IsWellFormed, Together, all_at, all_from, all_both, Lenient, FitsThere, Placed}
+use Rattle.nntp_facts.{proofs.Base.{told_with, Point, ConflictAt, AreHeld, IsPointOf, NoneBefore, point_of}, specs.Inner.Points.{Answers, Statement}}
+use Rattle.nntp_facts.specs.{Inner.{Points.{TellsAlone, IsBeside}, StatementView.{rank_of}}, declared.{point.Point.{Point as CodePoint}, points.Kind.{Kind}}}
 use Rattle.nntp_theory.{specs.Conflict.{told, IsFirstPoint}, proofs.{Conflicts.{with_told, told_fitting, told_placed}, PointsOfConflict.{stand_or_conflict}}}
 use Rattle.nntp_facts.specs.declared.points.Kind.TheVariants as kind
 use Rattle.nntp_facts.specs.declared.points.NumbersKind.TheVariants as numbers

@@ -1,13 +1,13 @@
 -- What an answer tells by itself, the group of which it speaks, and what its facts say, read off what is looked at.
 use Rattle.nntp_facts.proofs.Base.{◌≡◌, ℕ, true, false, ◌||◌, ◌&&◌, not, cond, List, [], ◌∷◌, ◌++◌, Option, None, Some, refl, sym, ap, subst, ◌∙◌, append-nil}
 use Rattle.nntp_facts.proofs.Base.{arith, list_any-append, or_left, IfSome, option_map, unwrap_or, list_any, AllByRecursion, option_map_or, ActiveValue}
-use Rattle.nntp_facts.proofs.Base.{Lenient, matches_name, IsGroupName, Id, Name, is_same, Profile, Estimates, Fact, GroupsAre, group_of, asks_of, shows_group}
-use Rattle.nntp_facts.proofs.Base.{is_shown_group, first_given, id_in, denies_group, number_in, said_of, IsWellFormed, widest, the_group, Placed, said}
-use Rattle.nntp_facts.proofs.Base.{asks_append, same_itself, in_front, in_back, all_at, all_both, Saying, asked_id, facts_in, MayList, is_listed, or-false}
-use Rattle.nntp_facts.proofs.Keeping.{PartsJoin.{no_group_is}, OverviewsTold.{plain_told, plain_alone, shown_by_told, denied_by_told, said_by_told}}
-use Rattle.nntp_facts.proofs.Keeping.{OverviewsTold.{asks_by_told, ids_by_told, places_by_told}, ToldAnswers.{group_said, none_said, selected_spoken}}
-use Rattle.nntp_facts.specs.Inner.{Saying.{TellsHere, facts_told, IsAlone, TellsThere}, Points.{Statement, TellsAlone, shows_name, denies_name, id_told}}
-use Rattle.nntp_facts.specs.Inner.Points.{place_told, said_by, bounds_of}
+use Rattle.nntp_facts.proofs.Base.{matches_name, IsGroupName, Id, Name, is_same, Profile, Estimates, Fact, GroupsAre, group_of, asks_of, shows_group}
+use Rattle.nntp_facts.proofs.Base.{is_shown_group, first_given, id_in, denies_group, number_in, said_of, IsWellFormed, asks_append, same_itself, in_front}
+use Rattle.nntp_facts.proofs.Base.{in_back, all_at, all_both, Saying, asked_id, facts_in, MayList, is_listed, or-false, Lenient, widest, the_group, Placed}
+use Rattle.nntp_facts.{proofs.Base.{said}, specs.Inner.Points.{Statement, TellsAlone, shows_name, denies_name, id_told, place_told}}
+use Rattle.nntp_kept.proofs.Keeping.{GroupOfASaying.{group_said, none_said, selected_spoken}, PartsJoin.{no_group_is}, OverviewsTold.{plain_told, plain_alone}}
+use Rattle.nntp_kept.proofs.Keeping.OverviewsTold.{shown_by_told, denied_by_told, said_by_told, asks_by_told, ids_by_told, places_by_told}
+use Rattle.nntp_kept.specs.Inner.{KeptSaying.{said_by}, ListedGroups.{bounds_of}, Saying.{TellsHere, facts_told, IsAlone, TellsThere}}
 use Rattle.nntp_theory.{specs.Conflict.{told}, proofs.Together.FactsJoin.{answer_agrees}}
 
 -- ---- what it tells

@@ -1,6 +1,6 @@
 -- When an exchange may be noted, what is noted of it behind earlier sessions, and how it is judged.
-use Rattle.nntp_facts.proofs.Base.{ℕ, List, [], arith, ◌≡◌, true, ◌∷◌, ◌++◌, map, Some, sym, ap, subst, ◌∙◌, true≢false, Profile, start, fits, Paired, asked_at}
-use Rattle.nntp_facts.proofs.Base.{asked_of, responses_of, exchanged, ArePermittedBehind, SomePermitsEach, Consistent, index_in_session, all_back, of_these}
+use Rattle.nntp_facts.proofs.Base.{ℕ, List, [], arith, ◌≡◌, true, ◌∷◌, ◌++◌, map, Some, sym, ap, subst, ◌∙◌, true≢false, Profile, start, fits, all_back, Paired}
+use Rattle.nntp_facts.proofs.Base.{asked_at, asked_of, responses_of, exchanged, ArePermittedBehind, SomePermitsEach, Consistent, index_in_session, of_these}
 use Rattle.nntp_facts.{proofs.Base.{with_pair, as_many, FactsKept, IsNotedBehind, ClientStream}, specs.Inner.Noted.{HasNoted, IsDue, HasNotedBehind}}
 use Rattle.nntp_pair.specs.{Pairing.{Unpaired, IsNext, streams}, declared.class.Class.TheVariants.{OutOfPlace, Contradiction}}
 use Rattle.nntp_theory.specs.{Permitted.{ArePermitted}, Reading.{Judged, accepted_of, AreJudged, Accepted, Refused, IsJudged, class_behind}}

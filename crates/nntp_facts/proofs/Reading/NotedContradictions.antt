@@ -1,6 +1,6 @@
 -- What is noted to be a contradiction conflicts with the accepted answers.
 use Rattle.nntp_facts.proofs.Base.{◌≡◌, ◌≤◌, List, [], ◌∷◌, ◌++◌, length, Some, refl, sym, ap, subst, ◌∙◌, arith, AllByRecursion, Asked, Response, Profile}
-use Rattle.nntp_facts.proofs.Base.{Visible, visible_after, start, Paired, asked_at, asked_of, responses_of, Position, Nowhere, position_after, Contradiction}
+use Rattle.nntp_facts.proofs.Base.{Visible, start, Position, visible_after, Paired, asked_at, asked_of, responses_of, Nowhere, position_after, Contradiction}
 use Rattle.nntp_facts.proofs.Base.{visible_from, position_from, FitsThere, exchanged, placed_behind, told_with, SomeHas, below, permits_alone, as_many, ends}
 use Rattle.nntp_facts.{proofs.Base.{FactsKept}, specs.Inner.Noted.{HasNoted, IsNoted, IsDue}}
 use Rattle.nntp_theory.{specs.{Classes.{asked_next}, Inner.Permits.{SomePermits}, Conflict.{placed_from, placed_of}}, proofs.Conflicts.{session_fits}}

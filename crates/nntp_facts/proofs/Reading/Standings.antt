@@ -1,7 +1,7 @@
 -- Where a session stands is what its answers leave visible, and the position.
-use Rattle.nntp_facts.proofs.Base.{◌≡◌, ◌∙◌, ap, refl, List, [], ◌∷◌, ◌++◌, arith, Visible, visible_after, Paired, asked_at, asked_of, responses_of}
-use Rattle.nntp_facts.proofs.Base.{position_after, Position, visible_from, position_from, placed_behind, stands_of}
-use Rattle.nntp_facts.specs.{declared.{standing.Standing.{Standing}, placed.Placed.{Placed}}, Standing.{standing_after, standing_from, standing}}
+use Rattle.nntp_facts.proofs.Base.{◌≡◌, ◌∙◌, ap, refl, List, [], ◌∷◌, ◌++◌, arith, Visible, Position, visible_after, Paired, asked_at, asked_of, responses_of}
+use Rattle.nntp_facts.{proofs.Base.{position_after, visible_from, position_from, placed_behind, stands_of}, specs.declared.standing.Standing.{Standing}}
+use Rattle.nntp_facts.specs.{declared.placed.Placed.{Placed}, Standing.{standing_after, standing_from, standing}}
 
 pub name_after : (pair : Paired) (s : Standing) (v : Visible) → s.selected ≡ v.selected
     → (standing_after s pair).selected ≡ (visible_after v (asked_at pair.place) pair.response).selected

@@ -7,7 +7,8 @@ use Rattle.nntp_pair.specs.{Pairing.{Paired, asked_at, asked_of, responses_of}, 
 use Rattle.nntp_said.specs.{declared.position.Position.{Position, TheVariants.{Nowhere}}, Facts.{Fact, facts_of}, Asks.{position_after}}
 use Rattle.nntp_theory.specs.{Classes.{visible_from, position_from}, declared.noted.Noted.{Noted, TheVariants.{Consistent, OutOfPlace, Contradiction}}}
 use Rattle.nntp_theory.specs.{Permitted.{ArePermittedBehind}, Inner.Exchanged.{said_behind, AreFew}}
-use Rattle.nntp_facts.specs.{Inner.Kept.{Kept, IsKept}, declared.facts_error.FactsError.{FactsError, TheVariants.{Memory}}}
+use Rattle.nntp_kept.specs.Inner.Kept.{Kept, IsKept}
+use Rattle.nntp_facts.specs.declared.facts_error.FactsError.{FactsError, TheVariants.{Memory}}
 
 -- the limit and the marks, how many exchanges of the session were accepted, the visible state and the place in the selected group that they leave, what those of all sessions say, and whether memory
 -- was refused

@@ -1,14 +1,14 @@
 -- What a bad answer and accepted ones say, each by itself, as points of conflict are looked for.
 use Rattle.std.specs.Prelude.{◌≡◌, true, false, ◌<◌, ◌||◌, ◌&&◌, ◌==◌, not, ℕ, Bool, List, [], ◌∷◌, ◌++◌, Option, None, Some, option_map, if◌then◌else◌, ◌≢◌}
-use Rattle.std.specs.{Prelude.{◌⊎◌, MatchOption}, List.{AllByRecursion, flat_map}, Option.{option_map_or}, FinMap.{get}}
+use Rattle.std.specs.{Prelude.{◌⊎◌, MatchOption}, List.{AllByRecursion}, Option.{option_map_or}, FinMap.{get}}
 use Rattle.nntp_article.specs.{Article.{Parts.{Id}, Fields.{words_in}}, Session.{Spool.{Name}, Machine.{is_same}}, declared.article.field.Field.{Field}}
 use Rattle.nntp_article.specs.{declared.session.profile.Profile.{Profile}, Inner.Misfit.{numbers_of}}
-use Rattle.nntp_wire.specs.{Listing.{Fields, ActiveValue, OverviewValue}, Decided.{matches_name}}
-use Rattle.nntp_said.specs.{Asks.{Ask, Bounds}, Facts.{Fact, group_of}}
-use Rattle.nntp_theory.specs.{Inner.{Together.{IsWellFormed, AgreeWithin, Together, SaidOfArticle, AreSame}, Conflict.{FitsThere}}, Conflict.{Placed, told}}
-use Rattle.nntp_theory.specs.Conflict.{with_group, Point, Number, Count, First, IdOf, PlaceOf, FieldOf, rank, ConflictAt}
-use Rattle.nntp_facts.specs.Inner.{Kept.{id_of, place_of, Kept, IsKept, said_kept}, ListedGroups.{is_listed}, ListedOverviews.{id_listed, place_listed}}
-use Rattle.nntp_facts.specs.Inner.{Noted.{FactsKept, profile_kept}, KeptSaying.{said_in, said_listed}, Saying.{Saying, Tells}}
+use Rattle.nntp_wire.specs.{Listing.{Fields, OverviewValue}, Decided.{matches_name}}
+use Rattle.nntp_said.specs.Facts.{Fact, group_of}
+use Rattle.nntp_theory.specs.{Inner.{Together.{IsWellFormed, AgreeWithin, Together, AreSame}, Conflict.{FitsThere}}, Conflict.{Placed, told, with_group, Point}}
+use Rattle.nntp_theory.specs.Conflict.{Number, Count, First, IdOf, PlaceOf, FieldOf, rank, ConflictAt}
+use Rattle.nntp_kept.specs.Inner.{Kept.{Kept, IsKept, said_kept}, ListedGroups.{is_listed}, KeptSaying.{id_said, place_said}, Saying.{Saying, Tells}}
+use Rattle.nntp_facts.specs.Inner.Noted.{FactsKept, profile_kept}
 
 -- ---- what the last answer of a conflict says
 
@@ -43,29 +43,13 @@ abbrev pub denies_name : Name → Statement → Bool
 denies_name name t = option_map_or (λ g. is_same g name) t.saying.there_is_no false || option_map_or (λ l. option_map_or (λ w. matches_name w name) l.0 true && not
     (is_listed l.1 name)) t.saying.groups false
 
--- the id that a saying shows at a number of its group, by an overview or otherwise
-abbrev pub id_said : Saying → Option (ℕ × Id) → ℕ → Option Id
-id_said s id n = option_map_or (λ o. id_listed o.1 n) s.overviews (id_of id n)
-
 -- the id that it shows at the number
 abbrev pub id_told : Name → ℕ → Statement → Option Id
 id_told name n t = option_map_or (λ g. if is_same g.name name then id_said t.saying g.id n else None) t.saying.group None
 
--- the number at which a saying shows an id of its group
-abbrev pub place_said : Saying → Option (ℕ × Id) → Id → Option ℕ
-place_said s at id = option_map_or (λ o. place_listed o.1 id) s.overviews (place_of at id)
-
 -- the number at which it shows the id
 abbrev pub place_told : Name → Id → Statement → Option ℕ
 place_told name id t = option_map_or (λ g. if is_same g.name name then place_said t.saying g.id id else None) t.saying.group None
-
--- what it says of an id: by overviews that it has an article, or otherwise
-abbrev pub said_by : Saying → Id → SaidOfArticle
-said_by s id = option_map_or (λ o. said_listed o.1 id) s.overviews (said_in s.article id)
-
--- the bounds between which the group is listed
-abbrev pub bounds_of : Name → List ActiveValue → List Ask
-bounds_of name lines = flat_map (λ line. if is_same line.name name then Bounds line.low line.high ∷ [] else []) lines
 
 -- the number as a point, if it has another id than this
 abbrev pub other_id_at : (ℕ → Option Id) → Name → ℕ × Id → Option Point

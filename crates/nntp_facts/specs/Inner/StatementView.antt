@@ -3,8 +3,8 @@ use Rattle.std.specs.Prelude.{List, ℕ, option_map}
 use Rattle.nntp_theory.specs.Conflict.{Placed}
 use Rattle.nntp_facts.specs.declared.points.{Listing.{Listing}, Conflict.{Conflict}, Refusal.{Refusal}, statement.Statement.{Statement}}
 use Rattle.nntp_facts.specs.declared.points.{NumbersKind.{NumbersKind, TheVariants.{Number, Count, First}}, Kind.{Kind, TheVariants.{Step, Group, Numbers}}}
-use Rattle.nntp_facts.specs.{declared.points.Kind.TheVariants.{IdOf, PlaceOf, Article, HeadOf, BodyOf, FieldOf}, Inner.SayingView.{saying_of}}
-use Rattle.nntp_facts.specs.Standing.{stands_of}
+use Rattle.nntp_facts.specs.{declared.points.Kind.TheVariants.{IdOf, PlaceOf, Article, HeadOf, BodyOf, FieldOf}, Standing.{stands_of}}
+use Rattle.nntp_kept.specs.Inner.SayingView.{saying_of}
 use Rattle.nntp_article.specs.{Session.Limit.{profile_of}, Inner.Listed.{lists}}
 use Rattle.nntp_facts.specs.Inner.Points as points
 

@@ -3,7 +3,7 @@ use Rattle.std.specs.Prelude.{ℕ, ◌+◌, ◌*◌, ◌^◌, ◌≤◌, Bool, t
 use Rattle.nntp_article.specs.declared.session.profile.Profile.{Profile}
 use Rattle.nntp_said.specs.Facts.{Fact}
 use Rattle.nntp_theory.specs.{Inner.{Given.{size}, Together.{Together}}, Conflict.{Placed, SomeHas, told_with}}
-use Rattle.nntp_facts.specs.Inner.Kept.{Kept, IsKept}
+use Rattle.nntp_kept.specs.Inner.Kept.{Kept, IsKept}
 
 -- more facts, which are few, are kept beside those before, where all stands together; and else no spool has all of it
 abbrev pub AreTold : Profile → List Fact → List Fact → Kept → Bool → Type 0

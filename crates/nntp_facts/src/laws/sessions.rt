@@ -6,8 +6,8 @@ ghost use Rattle.nntp_theory.specs.{Permitted.{ArePermittedBehind}, declared.not
 ghost use Rattle.nntp_theory.specs.{declared.noted.Noted.TheVariants.{Contradiction}, Reading.{Accepted, Refused, IsJudged, class_behind}};
 ghost use Rattle.nntp_pair.specs.{declared.class.Class.TheVariants.{OutOfPlace, Contradiction as Contradicts}, Pairing.{Paired, Unpaired, IsNext, asked_of}};
 ghost use Rattle.nntp_pair.specs.Pairing.{responses_of};
-ghost use Rattle.nntp_facts.specs.Inner.{Noted.{FactsKept, HasNotedBehind, IsNotedBehind, begun, advanced, said_then, MayBeNoted}, Kept.{Kept, IsKept}};
-ghost use Rattle.nntp_facts.specs.Inner.Saying.{IsSelectedShown};
+ghost use Rattle.nntp_facts.specs.Inner.Noted.{FactsKept, HasNotedBehind, IsNotedBehind, begun, advanced, said_then, MayBeNoted};
+ghost use Rattle.nntp_kept.specs.Inner.{Kept.{Kept, IsKept}, Saying.{IsSelectedShown}};
 
 pub use nntp_theory::laws::sessions::{
     next_answer_joins_all_sessions, sessions_are_permitted_by_facts,

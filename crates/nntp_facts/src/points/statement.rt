@@ -5,7 +5,7 @@ ghost use Rattle.nntp_theory.specs.{Inner.Conflict.{FitsThere}, Conflict.{told}}
 ghost use Rattle.nntp_facts.specs.{Inner.{Points.{TellsAlone}, StatementView.{statement_of}}, Standing.{stands_of}};
 
 use crate::placed::Placed;
-use crate::saying::Saying;
+use nntp_kept::Saying;
 use nntp_wire::{GroupName, Marks};
 
 /// What an answer says, and the group of which it speaks.

@@ -4,7 +4,7 @@ use Rattle.std.specs.Coded.{coded_list, coded_bool, coded_option}
 use mathlib.Core.Logic.{inl, inr}
 use Rattle.nntp_wire.specs.{Session.{ClientStream}, declared.overviews.Overviews.{Overviews, TheVariants.{Opaque, Judged}}}
 use Rattle.nntp_pair.specs.{Inner.Feeding.{Fed}, declared.class.Class.{Class, TheVariants.{Surplus, Cut, Malformed, OutOfPlace, Contradiction}}}
-use Rattle.nntp_facts.specs.Inner.{KeptView.{coded_facts}, Noted.{FactsKept}}
+use Rattle.nntp_facts.specs.Inner.{FactsView.{coded_facts}, Noted.{FactsKept}}
 use Rattle.nntp_store.specs.{Limited.{LimitedSpool}, Inner.Limited.{coded_limited}}
 use Rattle.nntp_verdict.specs.{Inner.Checking.{Checked, judging, decided, failed}, Verdict.{JudgementOfAll, consistent_of_all, bad_of_all}}
 

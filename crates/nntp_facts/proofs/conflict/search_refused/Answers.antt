@@ -1,4 +1,4 @@
-use Rattle.nntp_facts.proofs.{Base.{◌++◌, ◌-◌, ◌≡◌, arith, below}, Keeping.CoresFound.{below_told, place_found, last_found}}
+use Rattle.nntp_facts.proofs.{Base.{◌++◌, ◌≡◌, arith, ◌-◌, below}, Keeping.CoresFound.{below_told, place_found, last_found}}
 use Rattle.nntp_facts.proofs.conflict.search_refused.Goals as goal
 
 pub returns-then-not-branch-clause-found : goal.returns-then-not-branch-clause-found
@@ -12,7 +12,7 @@ pub loop-place-preserved : goal.loop-place-preserved
 loop-place-preserved g c bad places fits told =
     let place = c.loop-place.place in
     let next = c.in_ok-tell_at.ensures bad (places ++ below place) fits (c.loop-place.invariant bad places fits told) in
-    below_told _ bad _ places place c.tell_at.new.self (rw c.if-not-branch.false at next)
+    below_told _ bad _ places place c.tell_at.new.kept (rw c.if-not-branch.false at next)
 
 pub returns-clause-found : goal.returns-clause-found
 returns-clause-found g c bad places fits told within short part =

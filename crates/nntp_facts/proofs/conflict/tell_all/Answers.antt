@@ -8,12 +8,12 @@ returns-then-not-branch g c none fits =
     let bad = stands_of c.args.bad.now in
     let answers = map stands_of c.args.answers.now in
     let first = c.in_ok-tell.ensures [] none (nothing_together profile) fits.0 in
-    more_conflict profile bad answers [] c.args.places.now (λ k i. absurd i) (bad_told profile bad answers c.tell.new.self false (rw c.if-not-branch.true at first))
+    more_conflict profile bad answers [] c.args.places.now (λ k i. absurd i) (bad_told profile bad answers c.tell.new.kept false (rw c.if-not-branch.true at first))
 
 pub loop-place-init : goal.loop-place-init
 loop-place-init g c none fits =
     let first = c.in_ok-tell.ensures [] none (nothing_together (profile_of c.args.limit c.args.marks)) fits.0 in
-    bad_told _ _ _ c.tell.new.self true (rw c.if-not-branch.false at first)
+    bad_told _ _ _ c.tell.new.kept true (rw c.if-not-branch.false at first)
 
 pub returns-then-not-branch-2 : goal.returns-then-not-branch-2
 returns-then-not-branch-2 g c none fits =
@@ -23,10 +23,10 @@ returns-then-not-branch-2 g c none fits =
     let places = c.args.places.now in
     let i = c.loop-place.place-index in
     let next = c.in_ok-tell_at.ensures bad (take i places) fits.1 (c.loop-place.invariant none fits) in
-    next_conflict profile bad answers places (i + 1) (next_told profile bad answers places i c.tell_at.new.self false c.loop-place-test.true (rw c.if-not-branch-2.true at next))
+    next_conflict profile bad answers places (i + 1) (next_told profile bad answers places i c.tell_at.new.kept false c.loop-place-test.true (rw c.if-not-branch-2.true at next))
 
 pub loop-place-preserved : goal.loop-place-preserved
 loop-place-preserved g c none fits =
     let i = c.loop-place.place-index in
     let next = c.in_ok-tell_at.ensures (stands_of c.args.bad.now) (take i c.args.places.now) fits.1 (c.loop-place.invariant none fits) in
-    next_told _ _ _ c.args.places.now i c.tell_at.new.self true c.loop-place-test.true (rw c.if-not-branch-2.false at next)
+    next_told _ _ _ c.args.places.now i c.tell_at.new.kept true c.loop-place-test.true (rw c.if-not-branch-2.false at next)

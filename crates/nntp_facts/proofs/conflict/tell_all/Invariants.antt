@@ -1,4 +1,4 @@
-use Rattle.nntp_facts.{proofs.Base.{[], ◌∷◌, map, take, AllByRecursion, profile_of, FitsThere, IsKept, stands_of}, specs.Inner.Told.{AreToldWith}}
+use Rattle.nntp_facts.{proofs.Base.{[], ◌∷◌, map, take, AllByRecursion, IsKept, profile_of, FitsThere, stands_of}, specs.Inner.Told.{AreToldWith}}
 use Rattle.nntp_facts.proofs.conflict.tell_all.Given as goal
 
 abbrev pub invariant-loop-place : goal.invariant-loop-place

@@ -1,4 +1,4 @@
-use Rattle.nntp_facts.{proofs.Base.{List, profile_of, Profile, Fact, AreHeld, NoneBefore}, specs.Inner.StatementView.{listing_of}}
+use Rattle.nntp_facts.{proofs.Base.{List, Profile, Fact, profile_of, AreHeld, NoneBefore}, specs.Inner.StatementView.{listing_of}}
 use Rattle.nntp_facts.proofs.points.first_point.Given as goal
 
 -- at no point of the kinds so far the facts conflict

@@ -1,4 +1,5 @@
-use Rattle.nntp_facts.proofs.{Base.{arith, said_behind}, Keeping.{GroupReaders.{groups_shown}, NotedExchange.{stand_together}}}
+use Rattle.nntp_facts.proofs.{Base.{arith, said_behind}, Keeping.NotedExchange.{stand_together}}
+use Rattle.nntp_kept.proofs.Keeping.GroupReaders.{groups_shown}
 use Rattle.nntp_facts.proofs.facts.Facts.groups.Goals as goal
 
 pub returns : goal.returns

@@ -1,4 +1,4 @@
-use Rattle.nntp_facts.proofs.{Base.{◌≡◌, true, sym, ap, subst, ◌∙◌, arith, is_none, asked, response, lists_of, fits_by_reason}, Keeping.NotedExchange.{unfit}}
+use Rattle.nntp_facts.proofs.{Base.{◌≡◌, true, sym, ap, subst, ◌∙◌, arith, asked, response, lists_of, is_none, fits_by_reason}, Keeping.NotedExchange.{unfit}}
 use Rattle.nntp_facts.{proofs.Keeping.NotedExchange.{weighed, refused, accepted}, specs.Inner.Noted.{profile_kept, HasNotedBehind}}
 use Rattle.nntp_facts.proofs.facts.Facts.note_listing.Goals as goal
 

@@ -1,5 +1,5 @@
-use Rattle.nntp_facts.proofs.Base.{get_or, rules, refl, ◌≡◌, ◌<◌, ◌^◌, ◌++◌, ◌∷◌, [], length, map, Some, sym, ap, subst, ◌∙◌, arith, length-append}
-use Rattle.nntp_facts.proofs.Base.{slice_get-get_or, length-map, get_or-map, profile_of, AreHeld, stands_of, places_of, told_with, if_two}
+use Rattle.nntp_facts.proofs.Base.{get_or, rules, refl, ◌≡◌, ◌<◌, ◌^◌, ◌++◌, ◌∷◌, [], length, map, Some, sym, ap, subst, ◌∙◌, arith, length-map, length-append}
+use Rattle.nntp_facts.proofs.Base.{slice_get-get_or, get_or-map, profile_of, AreHeld, stands_of, places_of, told_with, if_two}
 use Rattle.nntp_facts.proofs.Keeping.HeldAnswers.{no_places, core_conflicts, held_alone, held_behind, last_there, others_stand, told_front}
 use Rattle.nntp_facts.proofs.points.Conflict.of.Goals as goal
 

@@ -1,7 +1,7 @@
 use Rattle.std.proofs.Common.{List}
 use Rattle.nntp_article.specs.Session.Spool.{Spool as SpoolValue}
 use Rattle.nntp_said.specs.Facts.{Fact}
-use Rattle.nntp_facts.specs.Inner.Readers.{AreShownGroups}
+use Rattle.nntp_kept.specs.Inner.Readers.{AreShownGroups}
 use Rattle.nntp_witness.specs.Inner.{Witness.{HaveArticles, IsGivenSpool}, Making.{GroupsLeft}}
 use Rattle.nntp_witness.proofs.maker.SpoolMaker.of_groups.Given as goal
 

@@ -1,5 +1,6 @@
 use Rattle.nntp_facts.proofs.{Base.{◌∙◌, sym, subst, ap, start, numbers_of, saying_of, stands_of, said}, Keeping.ToldAnswers.{there_told}}
-use Rattle.nntp_facts.{proofs.PointsFound.Statements.{told_alone}, specs.Inner.Saying.{TellsThere}}
+use Rattle.nntp_facts.proofs.PointsFound.Statements.{told_alone}
+use Rattle.nntp_kept.specs.Inner.Saying.{TellsThere}
 use Rattle.nntp_facts.proofs.points.statement.Statement.of.Goals as goal
 
 pub returns : goal.returns

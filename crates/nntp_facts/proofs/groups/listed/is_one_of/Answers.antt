@@ -1,5 +1,0 @@
-use Rattle.nntp_facts.proofs.{Base.{◌∙◌}, Keeping.KeptNames.{is_key}}
-use Rattle.nntp_facts.proofs.groups.listed.is_one_of.Goals as goal
-
-pub returns : goal.returns
-returns g c = c.contains.ensures ∙ is_key (λ k. k.now) c.args.name.now c.args.names.now.keys

@@ -1,0 +1,15 @@
+pub mod ArticleView
+pub mod Articles
+pub mod Between
+pub mod GroupHeld
+pub mod GroupView
+pub mod IdsHeld
+pub mod Kept
+pub mod KeptSaying
+pub mod KeptView
+pub mod ListedGroups
+pub mod ListedOverviews
+pub mod Readers
+pub mod ReadersView
+pub mod Saying
+pub mod SayingView
