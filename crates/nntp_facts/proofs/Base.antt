@@ -9,12 +9,12 @@ pub use Rattle.nntp_kept.proofs.Base.{Profile, Field, head_sent, said_kept, AreK
 pub use Rattle.nntp_kept.proofs.Base.{MayList, is_listed, NoneIsMissing, OfGroup, Saying, asked_id, facts_in, Sends, Tells, OfArticle, AreListed, MayBeOf, Exists}
 pub use Rattle.nntp_kept.proofs.Base.{Describes, Lacks, article_said, id_at, of_group, saying_of, Says, IsSummary, AreBounded, Ask, Bounds, Estimates, Fact}
 pub use Rattle.nntp_kept.proofs.Base.{GroupsAre, ThereIs, Asks, OverviewsAre, facts_of, group_of, here, Position, shown_named, any_in, found_in, In, all_at}
-pub use Rattle.nntp_kept.proofs.Base.{all_from, in_front, in_back, contains_in, in_contains, each_of, all_both, all_back, first_found, if_ok, asks_append}
+pub use Rattle.nntp_kept.proofs.Base.{all_from, in_front, in_back, contains_in, in_contains, each_of, all_both, all_back, first_found, any_back, if_ok, asks_append}
 pub use Rattle.nntp_kept.proofs.Base.{together_more, same_itself, or_none, apart_agree, told_by, shows_group, is_shown_group, asks_of, first_given, id_in}
 pub use Rattle.nntp_kept.proofs.Base.{fields_of_overview, fields_in, is_denied, demand, IsGivenNumber, denies, head_in, body_in, said_of, Together, AreSame}
 pub use Rattle.nntp_kept.proofs.Base.{said_nothing, SaidOfArticle, IsWellFormed, Join, AgreesWithItself, shows_article, denies_group, number_in, denies_article}
 pub use Rattle.nntp_kept.proofs.Base.{is_possible, Asked, Response, matches_name, asked, response, ActiveValue, Fields, OverviewValue, active_groups, overviews_of}
-pub use Rattle.nntp_kept.{proofs.Base.{IsGroupName, What, Marks, Range, any_back}, specs.Inner.SayingView.{overviews_said}}
+pub use Rattle.nntp_kept.{proofs.Base.{IsGroupName, What, Marks, Range}, specs.Inner.SayingView.{overviews_said}}
 pub use Rattle.std.proofs.{Common.{zero, suc, length-append, ap₂, ◌⊎◌, ◌-◌}, lemmas.{Bool.{cases_Bool, Decides.{nat_tests}}, List.{map-append, get_or-map}}}
 pub use Rattle.std.{proofs.lemmas.{List.{take_more}, Option.{slice_get-get_or}}, specs.{Prelude.{nat_lt, is_none}, Bool.{then_some}}}
 pub use Rattle.nntp_article.{proofs.SessionLemmas.Misfits.{fits_by_reason}, specs.{Article.Fields.{fields_of_head}, Session.Limit.{profile_of}}}

@@ -6,6 +6,7 @@ use Rattle.nntp_facts.proofs.Base.{is_shown_group, Together, Join, IsWellFormed,
 use Rattle.nntp_facts.proofs.Base.{suc, length-append, lines_in, Holds, size, FitsThere, Placed, said, the_group, SomeHas, told_with, any_back, all_front}
 use Rattle.nntp_facts.{proofs.{Base.{size-append}, Keeping.NotedExchange.{Adds}}, specs.Inner.Told.{AreTold, AreToldWith, PlacesTold}}
 use Rattle.nntp_kept.specs.Inner.{Saying.{TellsHere, IsShownThen, IsSelectedShown, TellsThere, there_facts}, Kept.{AreAdded}}
+use Rattle.nntp_kept.proofs.Keeping.GroupOfASaying.{shown_there}
 use Rattle.std.proofs.{Common.{◌*◌}, Math.Path.{ap₂}}
 use Rattle.nntp_theory.proofs.{Together.{FactsOfASpoolStand.{stand}, FactsJoin.{answer_agrees}}, Ids.SizeOfASession.{answer_size}}
 use Rattle.nntp_theory.{proofs.Session.GroupOfAnAnswer.{same_selected}, specs.{Conflict.{told, told_at}, Inner.Together.{AgreeWithin}}}
