@@ -84,3 +84,7 @@ word_told left more word text one two whole room mid end is first mid-is second 
     let all : one ++ escaped (take mid (word ++ words)) ≡ text ++ escaped (take room (space ∷ word ++ words)) =
     room_told text one (space ∷ word ++ words) (space ∷ []) (word ++ words) room mid first mid-is refl in
     behind ∙ all ∙ ap (λ ws. text ++ escaped (take room (flat_map (λ w. space ∷ w) ws))) (sym is) ∙ h
+
+-- what holds anyway holds where there is no error
+pub surely : {A E P : Type 0} (r : Result A E) → P → OnOk r P
+surely r p = grind arith

@@ -1,4 +1,4 @@
-use Rattle.std.{proofs.{lemmas.Result.{on_ok_weaker}, Common.{◌∙◌, ap, sym}}, specs.Prelude.{codes}}
+use Rattle.std.{proofs.{Common.{arith, ◌∙◌, ap, sym}, lemmas.{Grind.{common_steps}, Result.{on_ok_weaker}}}, specs.Prelude.{codes}}
 use Rattle.nntp_facts.specs.Inner.PointView.{point_of}
 use Rattle.nntp_explain.{specs.Reasons.{about_line, octets_line}, proofs.SaidLines.{line_told}}
 use Rattle.nntp_explain.proofs.reasons.put_about.Goals as goal
@@ -22,3 +22,9 @@ returns-in-Article g c =
     (λ put. line_told c.args.text.now.items (codes "about article ") c.in-Article.id.now (about_line (point_of c.args.point.now)) c.put_escaped_line-in-Article.new.text.items put
     (ap (λ p. about_line (point_of p)) (sym c.in-Article.is)))
     c.put_escaped_line-in-Article.ensures
+
+pub returns-in-First : goal.returns-in-First
+returns-in-First g c = grind (arith, common_steps)
+
+pub returns-in-Count : goal.returns-in-Count
+returns-in-Count g c = grind (arith, common_steps)

@@ -1,4 +1,4 @@
-use Rattle.std.proofs.Common.{rules}
+use Rattle.std.proofs.{Common.{arith, rules}, lemmas.Grind.{common_steps}}
 use Rattle.nntp_explain.proofs.SaidLines.{words_begin, word_told}
 use Rattle.nntp_explain.proofs.said_fields.put_words.Goals as goal
 
@@ -13,3 +13,6 @@ loop-word-preserved g c = (
       c.loop-word.room c.in_ok-room-2.room c.in_ok-room-3.room c.in-Some.ensures.steps c.in_ok-room-2.ensures.front c.in_ok-room-2.ensures.left
       c.in_ok-room-3.ensures.front c.in_ok-room-3.ensures.left c.loop-word.invariant.2,
 )
+
+pub returns : goal.returns
+returns g c = grind (arith, common_steps)

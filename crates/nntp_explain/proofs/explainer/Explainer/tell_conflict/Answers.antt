@@ -1,7 +1,7 @@
-use Rattle.std.proofs.{lemmas.Result.{on_ok_weaker}, Common.{◌∙◌, ◌++◌, ◌∷◌, [], ap, subst, sym}}
+use Rattle.std.proofs.{Common.{arith, refl, inl, ◌∙◌, ◌++◌, ◌∷◌, [], ap, subst, sym}, lemmas.{Grind.{common_steps}, Result.{on_ok_weaker}}}
 use Rattle.nntp_facts.specs.{Inner.Noted.{profile_kept}, Standing.{stands_of}}
 use Rattle.nntp_theory.proofs.Members.{all_at, all_both, in_contains}
-use Rattle.nntp_explain.{specs.Inner.{Explaining.{ToldContradiction}, ExplainingView.{AreReasons, TellsConflict, kept_of}}, proofs.SaidLines.{extended}}
+use Rattle.nntp_explain.{specs.Inner.{Explaining.{ToldContradiction}, ExplainingView.{AreReasons, TellsConflict, kept_of}}, proofs.SaidLines.{extended, surely}}
 use Rattle.nntp_explain.proofs.ContradictionReasons.{told_again, told_short, told_whole}
 use Rattle.nntp_explain.proofs.explainer.Explainer.tell_conflict.Goals as goal
 
@@ -45,3 +45,24 @@ returns-clause-text g c facts refused =
     let whole = c.deref-2.ensures.value ∙ goes.1 ∙ ap (λ t. t ++ goes.0) c.new-reason.ensures.items in
     let told = told_whole (kept_of self) facts (stands_of c.args.bad) goes.0 c.args.looked_for (c.in_ok-is_cut_short.ensures.whole c.if-branch.false) goes.2 in
     (goes.0, c.in_ok-extend_from_slice.ensures.items ∙ ap (λ t. self.text.items ++ t) whole, told)
+
+pub returns-then-branch-clause-kept : goal.returns-then-branch-clause-kept
+returns-then-branch-clause-kept g c = surely c.extend_from_slice-then-branch.result refl
+
+pub returns-then-branch-clause-reasons : goal.returns-then-branch-clause-reasons
+returns-then-branch-clause-reasons g c = surely c.extend_from_slice-then-branch.result c.requires.reasons
+
+pub returns-then-branch-clause-adds : goal.returns-then-branch-clause-adds
+returns-then-branch-clause-adds g c = surely c.extend_from_slice-then-branch.result (inl refl)
+
+pub returns-in-Some-clause-reasons : goal.returns-in-Some-clause-reasons
+returns-in-Some-clause-reasons g c = surely c.extend_from_slice.result c.requires.reasons
+
+pub returns-in-Some-clause-kept : goal.returns-in-Some-clause-kept
+returns-in-Some-clause-kept g c = surely c.extend_from_slice.result refl
+
+pub returns-in-Some-clause-adds : goal.returns-in-Some-clause-adds
+returns-in-Some-clause-adds g c = surely c.extend_from_slice.result (inl refl)
+
+pub returns-clause-adds : goal.returns-clause-adds
+returns-clause-adds g c = grind (arith, common_steps)
