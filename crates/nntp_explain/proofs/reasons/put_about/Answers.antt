@@ -1,4 +1,4 @@
-use Rattle.std.{proofs.{Common.{arith, ◌∙◌, ap, sym}, lemmas.{Grind.{common_steps}, Result.{on_ok_weaker}}}, specs.Prelude.{codes}}
+use Rattle.std.{proofs.{Common.{◌∙◌, ap, sym}, lemmas.Result.{on_ok_weaker}}, specs.Prelude.{codes}}
 use Rattle.nntp_facts.specs.Inner.PointView.{point_of}
 use Rattle.nntp_explain.{specs.Reasons.{about_line, octets_line}, proofs.SaidLines.{line_told}}
 use Rattle.nntp_explain.proofs.reasons.put_about.Goals as goal
@@ -24,7 +24,15 @@ returns-in-Article g c =
     c.put_escaped_line-in-Article.ensures
 
 pub returns-in-First : goal.returns-in-First
-returns-in-First g c = grind (arith, common_steps)
+returns-in-First g c =
+    on_ok_weaker c.put_escaped_line-in-First.result
+    (λ put. line_told c.args.text.now.items (codes "about first ") c.in-First.name.now (about_line (point_of c.args.point.now)) c.put_escaped_line-in-First.new.text.items put
+    (ap (λ p. about_line (point_of p)) (sym c.in-First.is)))
+    c.put_escaped_line-in-First.ensures
 
 pub returns-in-Count : goal.returns-in-Count
-returns-in-Count g c = grind (arith, common_steps)
+returns-in-Count g c =
+    on_ok_weaker c.put_escaped_line-in-Count.result
+    (λ put. line_told c.args.text.now.items (codes "about count ") c.in-Count.name.now (about_line (point_of c.args.point.now)) c.put_escaped_line-in-Count.new.text.items put
+    (ap (λ p. about_line (point_of p)) (sym c.in-Count.is)))
+    c.put_escaped_line-in-Count.ensures
