@@ -1,7 +1,8 @@
-use Rattle.std.proofs.{Common.{arith, rules}, lemmas.Iterator.Consumers.{YieldsList-at, YieldsList-from_rest, YieldsList-from_filter, count_from_yields_List}}
-use Rattle.std.{proofs.lemmas.{List.{Folds.{fold-map}, Sums.{length-filter}}, Grind.{common_steps}}, specs.String.{string_bytes}}
+use Rattle.std.proofs.{Common.{arith, rules, sym, ap, ◌∙◌}, lemmas.Iterator.Consumers.{YieldsList-at, YieldsList-from_rest, YieldsList-from_filter}}
+use Rattle.std.proofs.lemmas.{Iterator.Consumers.{count_from_yields_List}, List.{Folds.{fold-map}, Sums.{length-filter}}, Grind.{common_steps}}
+use Rattle.std.specs.{List.{count_by}, String.{string_bytes}}
 use borrow.Author.Tests.{tests}
-use Rattle.nntp_article.specs.Session.Spool.{Name, Numbers}
+use Rattle.nntp_article.specs.{Inner.ShownMap.{shown_entry}, Session.Spool.{Name, Numbers}}
 use Rattle.nntp_wire.specs.Inner.Decided.{is_asked}
 use Rattle.nntp_store.proofs.ShownMaps.{group_entries}
 use Rattle.nntp_store.proofs.value.content.Content.count_asked.Goals as goal
@@ -14,7 +15,8 @@ returns g c =
     (YieldsList-from_filter _ (λ e. asked (string_bytes e.0, e.1))
     (YieldsList-at c.filter.ensures.source (YieldsList-from_rest es c.iter.ensures.rest)) c.filter.ensures.closure
     (λ x b q k. search (rules, tests))) in
-    grind (arith, length-filter, fold-map, group_entries)
+    let shown = ap (count_by asked) (group_entries es c.args.self.now.groups (ap (λ s. s.groups) c.self.view_is) c.iter.ensures.ordered) in
+    counted ∙ length-filter (λ e. asked (string_bytes e.0, e.1)) es ∙ sym (fold-map _ (shown_entry string_bytes (λ N. N)) 0 es) ∙ shown
 
 pub count-requires-clause-fits : goal.count-requires-clause-fits
 count-requires-clause-fits g c = grind (arith, common_steps)
