@@ -1,7 +1,8 @@
 -- What values of the reader show.
-use Rattle.std.specs.{Prelude.{ℕ, List, [], Option, None, Some}, Borrow.{Bor}}
+use Rattle.std.specs.{Prelude.{ℕ, Bool, List, [], Option, None, Some, Result, Ok}, Borrow.{Bor}}
 use Rattle.nntp_store.specs.declared.text.place.{Place.{Place as PlaceInCode}, Opening.{Opening}, NumberLine.{NumberLine}, Turn.{Turn as TurnInCode}}
-use Rattle.nntp_store.specs.{Reading.{Place, Turn, On, Done, segments_of}, Fields.{OpeningValue, Group, Article, End, fields_of, value_of}}
+use Rattle.nntp_store.specs.{declared.text.read_fault.ReadFault.{ReadFault}, Reading.{◌>>=◌, Place, Turn, On, Done, segments_of}, Fields.{OpeningValue, Group}}
+use Rattle.nntp_store.specs.Fields.{Article, End, fields_of, value_of}
 use Rattle.nntp_article.specs.{Article.Parts.{Id}, Session.Spool.{Spool}}
 use Rattle.nntp_store.specs.declared.text.place.Opening.TheVariants as InCode
 use Rattle.nntp_store.specs.declared.text.place.Turn.TheVariants as turns
@@ -29,3 +30,7 @@ number_line_shown l = (value_of l.digits.now, l.id.now)
 abbrev pub turn_shown : {A : Type 0} → Spool → TurnInCode A → Turn
 turn_shown S (turns.On articles place) = On articles S (place_shown place)
 turn_shown S (turns.Done content place) = Done content (place_shown place)
+
+-- the text goes on from what was read, behind an article or not
+abbrev pub turn_of : Bool → Result (Spool × Place) ReadFault → Result Turn ReadFault
+turn_of articles read = read >>= λ s. Ok (On articles s.0 s.1)

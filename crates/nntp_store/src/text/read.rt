@@ -1,9 +1,9 @@
 //! The parts of a spool's text, read line by line.
-ghost use Rattle.std.specs.Prelude.{◌≡◌, false, IfOk, IfErr};
+ghost use Rattle.std.specs.Prelude.{◌≡◌, true, false, IfOk, IfErr};
 ghost use Rattle.nntp_store.specs.Inner.Reading.{Gives};
 ghost use Rattle.nntp_store.specs.Reading.{barred_line_at, barred_lines_at, number_in, number_at, numbers_at, group_at};
 ghost use Rattle.nntp_store.specs.Reading.{article_at, item_at, items_at, end_at, content_at, wide_at, limit_at, spool_at};
-ghost use Rattle.nntp_store.specs.Inner.ReadingView.{place_shown, turn_shown};
+ghost use Rattle.nntp_store.specs.Inner.ReadingView.{place_shown, turn_shown, turn_of};
 ghost use Rattle.nntp_store.specs.Content.{no_spool};
 ghost use Rattle.nntp_store.specs.Limited.{LimitedSpool, IsWithinLimit};
 ghost use Rattle.nntp_store.specs.Text.{spool_text};
@@ -125,8 +125,8 @@ fn group_at<'a, A: Allocator + Copy, T: Allocator + Copy>(
     count: u64,
     gathered: &mut Gathered<A, T>,
     place: Place<'a>,
-) -> Result<Place<'a>, ReadError>
-    ensures { Gives (λ next. (gathered.new, place_shown next)) result (group_at limit line name.now count gathered.old (place_shown place.entry)) }
+) -> Result<Turn<'a, A>, ReadError>
+    ensures { Gives (turn_shown gathered.new) result (turn_of false (group_at limit line name.now count gathered.old (place_shown place.entry))) }
 {
     let Some(name) = name_of(name) else {
         return Err(fault(line, Kind::Name));
@@ -136,7 +136,10 @@ fn group_at<'a, A: Allocator + Copy, T: Allocator + Copy>(
     }
     let (numbers, next) = numbers_at(alloc, limit, count, place)?;
     gathered.add_group(alloc, name, numbers)?;
-    Ok(next)
+    Ok(Turn::On {
+        articles: false,
+        place: next,
+    })
 }
 
 /// Reads an article, behind its first line.
@@ -150,8 +153,8 @@ fn article_at<'a, A: Allocator + Copy, T: Allocator + Copy>(
     gathered: &mut Gathered<A, T>,
     lines: &mut ArticleLines<T>,
     place: Place<'a>,
-) -> Result<Place<'a>, ReadError>
-    ensures { Gives (λ next. (gathered.new, place_shown next)) result (article_at line id.now heads bodies gathered.old (place_shown place.entry)) }
+) -> Result<Turn<'a, A>, ReadError>
+    ensures { Gives (turn_shown gathered.new) result (turn_of true (article_at line id.now heads bodies gathered.old (place_shown place.entry))) }
 {
     let Some(id) = id_of(id) else {
         return Err(fault(line, Kind::Id));
@@ -165,7 +168,10 @@ fn article_at<'a, A: Allocator + Copy, T: Allocator + Copy>(
         return Err(fault(line, Kind::Head));
     }
     gathered.add_article(alloc, id, &lines.head, &lines.body)?;
-    Ok(next)
+    Ok(Turn::On {
+        articles: true,
+        place: next,
+    })
 }
 
 /// Reads the end, behind its line. What was gathered is taken.
@@ -208,18 +214,10 @@ fn item_at<'a, A: Allocator + Copy, T: Allocator + Copy>(
             if articles {
                 return Err(fault(place.line, Kind::Shape));
             }
-            let place = group_at(alloc, limit, place.line, name, count, gathered, next)?;
-            Ok(Turn::On {
-                articles: false,
-                place,
-            })
+            group_at(alloc, limit, place.line, name, count, gathered, next)
         }
         Opening::Article { id, heads, bodies } => {
-            let place = article_at(alloc, place.line, id, heads, bodies, gathered, lines, next)?;
-            Ok(Turn::On {
-                articles: true,
-                place,
-            })
+            article_at(alloc, place.line, id, heads, bodies, gathered, lines, next)
         }
         Opening::End => ends_at(alloc, scratch, place.line, gathered, next),
     }

@@ -2,7 +2,7 @@ use Rattle.std.proofs.Common.{◌≡◌, ℕ, true, false, List, Ok, refl}
 use Rattle.nntp_article.specs.{Article.Parts.{Line, Id}, Session.Spool.{Spool}}
 use Rattle.nntp_wire.specs.Decided.{is_message_id}
 use Rattle.nntp_store.specs.{declared.text.read_fault.ReadError.{ReadError}, Ascending.{is_last}, Content.{with_article, is_head_of}, Inner.Reading.{Fails}}
-use Rattle.nntp_store.specs.Reading.{Place, barred_lines_at, article_at}
+use Rattle.nntp_store.specs.{Inner.ReadingView.{turn_of}, Reading.{Place, On, barred_lines_at, article_at}}
 use Rattle.nntp_store.specs.declared.text.read_fault.ReadError.TheVariants as errors
 use Rattle.nntp_store.specs.declared.text.read_fault.Kind.TheVariants as kinds
 use Rattle.nntp_store.proofs.text.read.article_at.Goals as goal
@@ -10,12 +10,12 @@ use Rattle.nntp_store.proofs.text.read.article_at.Goals as goal
 module _ (line heads bodies : ℕ) (id said : Id) (S : Spool) (p : Place) (head body : List Line × Place) (right : is_message_id id ≡ true) (same : said ≡ id)
     (last : true ≡ is_last S.articles said) (first : barred_lines_at heads p ≡ Ok head) (second : barred_lines_at bodies head.1 ≡ Ok body) where
   -- an article is read where its parts are
-  all_read : (T : Spool) → true ≡ is_head_of said head.0 → T ≡ with_article S said (record { head = head.0; body = body.0 }) → article_at line id heads bodies S p ≡ Ok (T, body.1)
+  all_read : (T : Spool) → true ≡ is_head_of said head.0 → T ≡ with_article S said (record { head = head.0; body = body.0 }) → turn_of true (article_at line id heads bodies S p) ≡ Ok (On true T body.1)
   unfolding article_at
   all_read T begins is = rw (right, ← same, ← last, first, second, ← begins, is) refl
 
   -- and it isn't where its head is another one's
-  other : (e : ReadError) → false ≡ is_head_of said head.0 → e ≡ errors.Fault (record { line = line; kind = kinds.Head }) → Fails e (article_at line id heads bodies S p)
+  other : (e : ReadError) → false ≡ is_head_of said head.0 → e ≡ errors.Fault (record { line = line; kind = kinds.Head }) → Fails e (turn_of true (article_at line id heads bodies S p))
   unfolding article_at
   other e begins is = rw (is, right, ← same, ← last, first, second, ← begins) refl
 
