@@ -56,11 +56,6 @@ pub Lines-first : (a b : Option (List ℕ)) (waiting : List ℕ) (xs ys : List (
     → Wrote a b (waiting ++ with_line_ends xs) rest → Wrote a b (waiting ++ with_line_ends (xs ++ ys)) (rest ++ with_line_ends ys)
 Lines-first a b waiting xs ys rest g = grind (arith, with_line_ends-append xs ys, Wrote-first a b waiting (with_line_ends xs) (with_line_ends ys) rest g)
 
-pub Lines-next : (a b c : Option (List ℕ)) (whole waiting : List ℕ) (xs ys : List (List ℕ)) (rest : List ℕ)
-    → Wrote a b whole (waiting ++ with_line_ends (xs ++ ys)) → Wrote b c (waiting ++ with_line_ends xs) rest
-    → Wrote a c whole (rest ++ with_line_ends ys)
-Lines-next a b c whole waiting xs ys rest h g = grind (arith, Wrote-on a b c whole waiting (with_line_ends xs) (with_line_ends ys) rest, with_line_ends-append xs ys)
-
 -- the lines of a spool's limit, where nothing waits before them
 pub Limit-first : (start a b : Option (List ℕ)) (waiting : List ℕ) (limit : Limit) (L : LimitedSpool) (S : Spool) (rest : List ℕ)
     → a ≡ start → waiting ≡ [] → limit ≡ L.limit → S ≡ L.spool

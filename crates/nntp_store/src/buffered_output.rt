@@ -3,7 +3,7 @@ ghost use Rattle.std.specs.Prelude.{◌≡◌, [], ◌||◌, is_err, OnOk};
 ghost use Rattle.std.specs.List.{flat_map};
 ghost use Rattle.std.specs.Iterator.{IsFinite};
 ghost use Rattle.nntp_store.specs.Inner.Writing.{Writes};
-ghost use Rattle.nntp_store.specs.Inner.Buffering.{taken, waiting, writer_failed, IsSameWriter, Buffers, PutsAll};
+ghost use Rattle.nntp_store.specs.Inner.Buffering.{taken, waiting, writer_failed, IsSameWriter, Puts, PutsAll};
 
 use crate::output::{WriteFault, put};
 use crate::watched::Watched;
@@ -48,9 +48,7 @@ impl<'a, W: Write> BufferedOutput<'a, W> {
     /// Puts octets behind those that wait. Where they don't fit, those that wait are handed on first, and then octets
     /// that are more than may wait are handed on themselves.
     pub(crate) fn put(&mut self, octets: &[u8]) -> Result<(), WriteFault>
-        ensures text { Buffers W.contents result self.old self.new octets.now }
-        ensures failed { writer_failed self.new ≡ (writer_failed self.old || is_err result) }
-        ensures same_writer { IsSameWriter self.old self.new }
+        ensures { Puts W.contents result self.old self.new octets.now }
     {
         let Err(_) = self.waiting.try_extend_from_slice(octets) else {
             return Ok(());
@@ -64,23 +62,21 @@ impl<'a, W: Write> BufferedOutput<'a, W> {
 
     /// Puts the pieces there, one after the other.
     pub(crate) fn put_pieces(&mut self, pieces: &[&[u8]]) -> Result<(), WriteFault>
-        ensures text { Buffers W.contents result self.old self.new (flat_map (λ piece. piece.now) pieces.now) }
-        ensures failed { writer_failed self.new ≡ (writer_failed self.old || is_err result) }
-        ensures same_writer { IsSameWriter self.old self.new }
+        ensures { Puts W.contents result self.old self.new (flat_map (λ piece. piece.now) pieces.now) }
     {
         self.put_each(pieces.iter(), |output, piece| output.put(*piece))
     }
 
     /// Puts each item there, up to the first that can't be put.
-    pub(crate) fn put_each<I: Iterator, F: Fn(&mut Self, I::Item) -> Result<(), WriteFault>>(
+    pub(crate) fn put_each<I: Iterator, F: FnMut(&mut Self, I::Item) -> Result<(), WriteFault>>(
         &mut self,
         items: I,
-        put: F,
+        mut put: F,
     ) -> Result<(), WriteFault>
         requires can { I.can_next items }
         requires finite { IsFinite (I.remaining items) }
         requires callable { F.IsAlwaysCallable put }
-        ensures { PutsAll W.contents I.next_gives F.Fn result self.old self.new items put }
+        ensures { PutsAll W.contents I.next_gives F.FnMut result self.old self.new items put }
     {
         for item in items {
             put(self, item)?;

@@ -1,5 +1,5 @@
 -- What a contract sees of a `BufferedOutput`.
-use Rattle.std.specs.{Prelude.{◌≡◌, ℕ, Bool, List, [], ◌++◌, ◌||◌, Option, Some, None, Result, is_err}, Borrow.{MutBor}, Fn.{Shared}}
+use Rattle.std.specs.{Prelude.{◌≡◌, ℕ, Bool, List, [], ◌++◌, ◌||◌, Option, Some, None, Result, is_err}, Borrow.{MutBor}, Fn.{Mut, Called}}
 use Rattle.nntp_store.specs.{Watched.{inner_of}, Inner.{Watched.{has_failed_of}, Writing.{WritesBut}}, declared.buffered_output.BufferedOutput.{BufferedOutput}}
 use Rattle.nntp_store.specs.declared.output.WriteFault.{WriteFault}
 
@@ -30,12 +30,13 @@ pub record Puts {W : Type 0} (told : W → Option (List ℕ)) (result : Result (
   pub same_writer : IsSameWriter old new
 
 module _ {W I X F : Type 0} (told : W → Option (List ℕ)) (gives : I → Option X → I → Type 0)
-    (calls : Shared F (MutBor (BufferedOutput W) × (X × Unit {0})) (Result (Unit {0}) WriteFault × (MutBor (BufferedOutput W) × Unit {0}))) where
-  -- each item has a text, which a call puts there, and what is left of an iterator the texts of its items, one after the other
+    (calls : Mut F (MutBor (BufferedOutput W) × (X × Unit {0})) (Result (Unit {0}) WriteFault × (MutBor (BufferedOutput W) × Unit {0}))) where
+  -- each item has a text, which a call puts there and changes nothing else, and what is left of an iterator the texts of its items, one after the other
   pub record PutsEach (put : F) (left : I → List ℕ) (text : X → List ℕ) : Type 0 where
     pub none : (s t : I) → gives s None t → left s ≡ []
     pub some : (s t : I) (x : X) → gives s (Some x) t → left s ≡ text x ++ left t
-    pub puts : (x : X) (old new : MutBor (BufferedOutput W)) (r : Result (Unit {0}) WriteFault) → calls.post put (old, (x, tt)) (r, (new, tt)) → Puts told r old.now new.now (text x)
+    pub puts : (x : X) (old new : MutBor (BufferedOutput W)) (r : Result (Unit {0}) WriteFault) (next : F) → Called calls put (old, (x, tt)) (r, (new, tt)) next
+        → (next ≡ put) × Puts told r old.now new.now (text x)
 
   -- so those of all items are put there
   abbrev pub PutsAll : Result (Unit {0}) WriteFault → BufferedOutput W → BufferedOutput W → I → F → Type 0

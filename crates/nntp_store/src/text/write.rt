@@ -2,6 +2,7 @@
 ghost use Rattle.std.specs.Prelude.{◌≡◌, ◌∷◌, [], ◌||◌, is_err, map as list_map};
 ghost use Rattle.std.specs.List.{flat_map};
 ghost use Rattle.std.specs.FinMap as map;
+ghost use Rattle.std.specs.String.{string_bytes};
 ghost use Rattle.nntp_store.specs.Text.{with_line_ends, number_line, group_line, article_line, barred, group_lines, article_lines, limit_lines, content_lines};
 ghost use Rattle.nntp_store.specs.Text.{spool_text};
 ghost use Rattle.nntp_store.specs.Inner.ArticleLines.{text_stored};
@@ -9,7 +10,7 @@ ghost use Rattle.nntp_store.specs.Inner.ArticlesView.{articles_shown, Ascend};
 ghost use Rattle.nntp_store.specs.Watched.{inner_of};
 ghost use Rattle.nntp_store.specs.Inner.Watched.{has_failed_of};
 ghost use Rattle.nntp_store.specs.Inner.Writing.{Writes};
-ghost use Rattle.nntp_store.specs.Inner.Buffering.{writer_failed, IsSameWriter, Buffers};
+ghost use Rattle.nntp_store.specs.Inner.Buffering.{Puts};
 
 use crate::buffered_output::BufferedOutput;
 use crate::output::WriteFault;
@@ -32,9 +33,7 @@ fn put_number_line<W: Write>(
     number: u64,
     id: &[u8],
 ) -> Result<(), WriteFault>
-    ensures text { Buffers W.contents result output.old output.new (with_line_ends (number_line number id.now ∷ [])) }
-    ensures failed { writer_failed output.new ≡ (writer_failed output.old || is_err result) }
-    ensures same_writer { IsSameWriter output.old output.new }
+    ensures { Puts W.contents result output.old output.new (with_line_ends (number_line number id.now ∷ [])) }
 {
     let mut buffer = Buffer::new();
     output.put_pieces(&[buffer.format(number).as_bytes(), b" ", id, b"\n"])
@@ -46,9 +45,7 @@ fn put_group_line<W: Write>(
     name: &[u8],
     count: u64,
 ) -> Result<(), WriteFault>
-    ensures text { Buffers W.contents result output.old output.new (with_line_ends (group_line name.now count ∷ [])) }
-    ensures failed { writer_failed output.new ≡ (writer_failed output.old || is_err result) }
-    ensures same_writer { IsSameWriter output.old output.new }
+    ensures { Puts W.contents result output.old output.new (with_line_ends (group_line name.now count ∷ [])) }
 {
     let mut buffer = Buffer::new();
     let count = buffer.format(count).as_bytes();
@@ -62,9 +59,7 @@ fn put_article_line<W: Write>(
     heads: u64,
     bodies: u64,
 ) -> Result<(), WriteFault>
-    ensures text { Buffers W.contents result output.old output.new (with_line_ends (article_line id.now heads bodies ∷ [])) }
-    ensures failed { writer_failed output.new ≡ (writer_failed output.old || is_err result) }
-    ensures same_writer { IsSameWriter output.old output.new }
+    ensures { Puts W.contents result output.old output.new (with_line_ends (article_line id.now heads bodies ∷ [])) }
 {
     let mut head_count = Buffer::new();
     let mut body_count = Buffer::new();
@@ -78,9 +73,7 @@ fn put_barred_lines<W: Write>(
     output: &mut BufferedOutput<'_, W>,
     lines: &Block<'_>,
 ) -> Result<(), WriteFault>
-    ensures text { Buffers W.contents result output.old output.new (with_line_ends (barred lines.now)) }
-    ensures failed { writer_failed output.new ≡ (writer_failed output.old || is_err result) }
-    ensures same_writer { IsSameWriter output.old output.new }
+    ensures { Puts W.contents result output.old output.new (with_line_ends (barred lines.now)) }
 {
     output.put_each(
         lines.lines(),
@@ -91,9 +84,7 @@ fn put_barred_lines<W: Write>(
 impl<A: Allocator> Numbers<A> {
     /// Writes the lines of the numbers.
     fn write<W: Write>(&self, output: &mut BufferedOutput<'_, W>) -> Result<(), WriteFault>
-        ensures text { Buffers W.contents result output.old output.new (with_line_ends (list_map (λ e. number_line e.0 e.1) (map.entries self.now))) }
-        ensures failed { writer_failed output.new ≡ (writer_failed output.old || is_err result) }
-        ensures same_writer { IsSameWriter output.old output.new }
+        ensures { Puts W.contents result output.old output.new (with_line_ends (list_map (λ e. number_line e.0 e.1) (map.entries self.now))) }
     {
         output.put_each(self.ids.iter(), |output, numbered| {
             put_number_line(output, numbered.0, numbered.1.as_str().as_bytes())
@@ -107,9 +98,7 @@ fn put_group<W: Write, A: Allocator>(
     name: &[u8],
     numbers: &Numbers<A>,
 ) -> Result<(), WriteFault>
-    ensures text { Buffers W.contents result output.old output.new (with_line_ends (group_lines (name.now, numbers.now))) }
-    ensures failed { writer_failed output.new ≡ (writer_failed output.old || is_err result) }
-    ensures same_writer { IsSameWriter output.old output.new }
+    ensures { Puts W.contents result output.old output.new (with_line_ends (group_lines (name.now, numbers.now))) }
 {
     put_group_line(output, name, numbers.len() as u64)?;
     numbers.write(output)
@@ -121,9 +110,7 @@ fn put_article<W: Write, A: Allocator>(
     id: &[u8],
     article: &StoredArticle<A>,
 ) -> Result<(), WriteFault>
-    ensures text { Buffers W.contents result output.old output.new (with_line_ends (article_lines (id.now, text_stored article.now))) }
-    ensures failed { writer_failed output.new ≡ (writer_failed output.old || is_err result) }
-    ensures same_writer { IsSameWriter output.old output.new }
+    ensures { Puts W.contents result output.old output.new (with_line_ends (article_lines (id.now, text_stored article.now))) }
 {
     let (head, body) = (
         article.head.as_ref().as_block(),
@@ -141,9 +128,7 @@ fn put_article<W: Write, A: Allocator>(
 
 /// Writes the lines that say the limit.
 fn put_limit<W: Write>(output: &mut BufferedOutput<'_, W>, limit: Limit) -> Result<(), WriteFault>
-    ensures text { Buffers W.contents result output.old output.new (with_line_ends (limit_lines limit)) }
-    ensures failed { writer_failed output.new ≡ (writer_failed output.old || is_err result) }
-    ensures same_writer { IsSameWriter output.old output.new }
+    ensures { Puts W.contents result output.old output.new (with_line_ends (limit_lines limit)) }
 {
     match limit {
         Limit::Narrow => output.put(b"spool 1\n"),
@@ -157,9 +142,7 @@ fn put_articles<W: Write, A: Allocator>(
     articles: &[(RcStr<A>, StoredArticle<A>)],
 ) -> Result<(), WriteFault>
     requires { Ascend articles.now }
-    ensures text { Buffers W.contents result output.old output.new (with_line_ends (flat_map article_lines (map.entries (articles_shown articles.now)))) }
-    ensures failed { writer_failed output.new ≡ (writer_failed output.old || is_err result) }
-    ensures same_writer { IsSameWriter output.old output.new }
+    ensures { Puts W.contents result output.old output.new (with_line_ends (flat_map article_lines (map.entries (articles_shown articles.now)))) }
 {
     output.put_each(articles.iter(), |output, article| {
         put_article(output, article.0.as_str().as_bytes(), &article.1)
@@ -171,10 +154,7 @@ fn put_articles_of_map<W: Write, A: Allocator>(
     output: &mut BufferedOutput<'_, W>,
     articles: &BTreeMap<RcStr<A>, StoredArticle<A>, A>,
 ) -> Result<(), WriteFault>
-    ensures text { Buffers W.contents result output.old output.new
-        (with_line_ends (flat_map article_lines (map.entries (articles_shown articles.now.entries)))) }
-    ensures failed { writer_failed output.new ≡ (writer_failed output.old || is_err result) }
-    ensures same_writer { IsSameWriter output.old output.new }
+    ensures { Puts W.contents result output.old output.new (with_line_ends (flat_map article_lines (map.entries (articles_shown articles.now.entries)))) }
 {
     output.put_each(articles.iter(), |output, (id, article)| {
         put_article(output, id.as_str().as_bytes(), article)
@@ -184,20 +164,19 @@ fn put_articles_of_map<W: Write, A: Allocator>(
 impl<A: Allocator> Content<A> {
     /// Writes the lines of all groups.
     fn write_groups<W: Write>(&self, output: &mut BufferedOutput<'_, W>) -> Result<(), WriteFault>
-        ensures text { Buffers W.contents result output.old output.new (with_line_ends (flat_map group_lines (map.entries self.now.groups))) }
-        ensures failed { writer_failed output.new ≡ (writer_failed output.old || is_err result) }
-        ensures same_writer { IsSameWriter output.old output.new }
+        ensures { Puts W.contents result output.old output.new (with_line_ends (flat_map group_lines (map.entries self.now.groups))) }
     {
-        output.put_each(self.groups.iter(), |output, (name, numbers)| {
-            put_group(output, name.as_bytes(), numbers.or(&self.no_numbers))
-        })
+        output.put_each(
+            self.groups.iter(),
+            |output, (name, numbers)|
+                ensures { Puts W.contents result output.old output.new (with_line_ends (group_lines (string_bytes name.entry.now, numbers.entry.now))) }
+            { put_group(output, name.as_bytes(), numbers.or(&self.no_numbers)) },
+        )
     }
 
     /// Writes the lines of all articles.
     fn write_articles<W: Write>(&self, output: &mut BufferedOutput<'_, W>) -> Result<(), WriteFault>
-        ensures text { Buffers W.contents result output.old output.new (with_line_ends (flat_map article_lines (map.entries self.now.articles))) }
-        ensures failed { writer_failed output.new ≡ (writer_failed output.old || is_err result) }
-        ensures same_writer { IsSameWriter output.old output.new }
+        ensures { Puts W.contents result output.old output.new (with_line_ends (flat_map article_lines (map.entries self.now.articles))) }
     {
         match &self.articles.held {
             Held::InOrder(articles) => put_articles(output, articles.as_slice()),
@@ -207,9 +186,7 @@ impl<A: Allocator> Content<A> {
 
     /// Writes all groups and all articles, and the end.
     fn write<W: Write>(&self, output: &mut BufferedOutput<'_, W>) -> Result<(), WriteFault>
-        ensures text { Buffers W.contents result output.old output.new (with_line_ends (content_lines self.now)) }
-        ensures failed { writer_failed output.new ≡ (writer_failed output.old || is_err result) }
-        ensures same_writer { IsSameWriter output.old output.new }
+        ensures { Puts W.contents result output.old output.new (with_line_ends (content_lines self.now)) }
     {
         self.write_groups(output)?;
         self.write_articles(output)?;

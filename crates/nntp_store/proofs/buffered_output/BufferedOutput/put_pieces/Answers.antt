@@ -6,6 +6,6 @@ returns g c =
     let p = c.put_each.ensures (λ s. flat_map (λ piece. piece.now) (iter_rest s)) (λ x. x.now.now) (record {
       none = λ s t e. ap (flat_map (λ piece. piece.now)) (nil_from_length _ e.0);
       some = λ s t x e. ap (flat_map (λ piece. piece.now)) e;
-      puts = λ x old new r f. search rules;
+      puts = λ x old new r next f. (search rules, search rules);
     }) in
-    record { text = rw c.iter.ensures.rest at p.text; failed = p.failed; same_writer = p.same_writer }
+    rw c.iter.ensures.rest at p

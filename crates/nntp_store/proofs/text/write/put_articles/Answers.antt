@@ -11,6 +11,6 @@ returns g c =
     let p = c.put_each.ensures (λ s. text_of_articles (iter_rest s)) (λ x. with_line_ends (article_lines (rc_str_bytes x.now.0, text_stored x.now.1))) (record {
       none = λ s t e. rw (nil_from_length _ e.0);
       some = λ s t x e. rw e (with_line_ends-append (article_lines _) _);
-      puts = λ x old new r f. search rules;
+      puts = λ x old new r next f. (search rules, search rules);
     }) in
-    record { text = rw (c.iter.ensures.rest, ← all) at p.text; failed = p.failed; same_writer = p.same_writer }
+    rw (c.iter.ensures.rest, ← all) at p

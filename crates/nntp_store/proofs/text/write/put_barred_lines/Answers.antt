@@ -7,6 +7,6 @@ returns g c =
     let p = c.put_each.ensures (λ s. with_line_ends (barred s)) (λ x. 124 ∷ x.now ++ 10 ∷ []) (record {
       none = λ s t e. rw e.0;
       some = λ s t x e. rw e;
-      puts = λ x old new r f. search rules;
+      puts = λ x old new r next f. (search rules, search rules);
     }) in
-    record { text = rw c.lines.ensures.lines at p.text; failed = p.failed; same_writer = p.same_writer }
+    rw c.lines.ensures.lines at p

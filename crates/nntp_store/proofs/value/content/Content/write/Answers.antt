@@ -1,22 +1,24 @@
-use Rattle.std.{proofs.Common.{[], ◌∷◌, ◌++◌}, specs.{List.{flat_map}, Prelude.{codes}}}
-use Rattle.nntp_store.{specs.Text.{article_lines}, proofs.Written.{Writes-last, Lines-first, Lines-next, stopped}}
-use Rattle.std.specs.FinMap as map
+use Rattle.std.{proofs.Common.{[], ◌∷◌, ◌++◌}, specs.{FinMap.{entries}, List.{flat_map}, Prelude.{codes}}}
+use Rattle.nntp_store.{specs.Text.{article_lines, group_lines}, proofs.Written.{Puts-on, Puts-until, with_line_ends-append}}
 use Rattle.nntp_store.proofs.value.content.Content.write.Goals as goal
 
-pub returns-in_err-write_groups-clause-text : goal.returns-in_err-write_groups-clause-text
-returns-in_err-write_groups-clause-text g c =
-    let w = c.in_err-write_groups.ensures.text in
-    stopped c.from_residual.result _ _ _ _ _ c.from_residual.ensures.1 (_, Lines-first _ _ _ _ _ w.0 w.1)
+pub returns-in_err-write_groups : goal.returns-in_err-write_groups
+returns-in_err-write_groups g c =
+    let S = c.args.self.now in
+    let parts = with_line_ends-append (flat_map group_lines (entries S.groups)) (flat_map article_lines (entries S.articles) ++ codes "end" ∷ []) in
+    Puts-until _ _ _ _ _ _ parts _ c.in_err-write_groups.ensures _ c.from_residual.ensures.0
 
-pub returns-in_err-write_articles-clause-text : goal.returns-in_err-write_articles-clause-text
-returns-in_err-write_articles-clause-text g c =
-    let w = c.in_err-write_articles.ensures.text in
-    let articles = flat_map article_lines (map.entries c.args.self.now.articles) in
+pub returns-in_err-write_articles : goal.returns-in_err-write_articles
+returns-in_err-write_articles g c =
+    let S = c.args.self.now in
+    let parts = with_line_ends-append (flat_map group_lines (entries S.groups)) (flat_map article_lines (entries S.articles) ++ codes "end" ∷ []) in
     let r = c.from_residual-in_err-write_articles in
-    stopped r.result _ _ _ _ _ r.ensures.1 (_, Lines-next _ _ _ _ _ articles _ w.0 (Lines-first _ _ _ _ (articles ++ codes "end" ∷ []) _ c.in_ok-write_groups.ensures.text) w.1)
+    let articles = Puts-until _ _ _ _ _ _ (with_line_ends-append (flat_map article_lines (entries S.articles)) (codes "end" ∷ [])) _ c.in_err-write_articles.ensures r.result r.ensures.0 in
+    Puts-on _ _ _ _ _ _ parts _ c.in_ok-write_groups.ensures _ _ articles
 
-pub returns-clause-text : goal.returns-clause-text
-returns-clause-text g c =
-    let articles = flat_map article_lines (map.entries c.args.self.now.articles) in
-    let groups = Lines-first _ _ _ _ (articles ++ codes "end" ∷ []) _ c.in_ok-write_groups.ensures.text in
-    Writes-last c.put.result _ _ _ _ _ _ (Lines-next _ _ _ _ _ articles (codes "end" ∷ []) _ groups c.in_ok-write_articles.ensures.text) c.put.ensures.text
+pub returns : goal.returns
+returns g c =
+    let S = c.args.self.now in
+    let parts = with_line_ends-append (flat_map group_lines (entries S.groups)) (flat_map article_lines (entries S.articles) ++ codes "end" ∷ []) in
+    let articles = Puts-on _ _ _ _ _ _ (with_line_ends-append (flat_map article_lines (entries S.articles)) (codes "end" ∷ [])) _ c.in_ok-write_articles.ensures _ _ c.put.ensures in
+    Puts-on _ _ _ _ _ _ parts _ c.in_ok-write_groups.ensures _ _ articles

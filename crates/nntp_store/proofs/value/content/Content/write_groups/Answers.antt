@@ -8,6 +8,6 @@ returns g c =
     let p = c.put_each.ensures text_of_groups (λ x. with_line_ends (group_lines (string_bytes x.0.now, x.1.now))) (record {
       none = λ s t e. rw e.0;
       some = λ s t x e. rw e (with_line_ends-append (group_lines _) _);
-      puts = λ x old new r f. search rules;
+      puts = λ x old new r next f. (search rules, search rules);
     }) in
-    record { text = rw (c.iter.ensures.rest, all) at p.text; failed = p.failed; same_writer = p.same_writer }
+    rw (c.iter.ensures.rest, all) at p
