@@ -17,7 +17,8 @@ loop-item-preserved g c = (
 pub returns-in_err-put : goal.returns-in_err-put
 returns-in_err-put g c left text each =
     let before = c.loop-item.invariant.1 left text each in
-    before.1 _ _ (Puts-until _ _ _ _ _ _ (each.some _ _ _ c.in-Some.ensures.steps) _ (each.puts _ _ _ (Err c.in_err-put.field-0.0) _ (rw before.0 at c.in_err-put.ensures)).1 _ c.from_residual.ensures.0)
+    let put = each.puts _ _ _ (Err c.in_err-put.field-0.0) _ (rw before.0 at c.in_err-put.ensures) in
+    before.1 _ _ (Puts-until _ _ _ _ _ _ (each.some _ _ _ c.in-Some.ensures.steps) _ put.1 _ c.from_residual.ensures.0)
 
 pub returns : goal.returns
 returns g c left text each = (c.loop-item.invariant.1 left text each).1 _ _ (Puts-end _ _ _ (each.none _ _ c.in-None.ensures.steps))

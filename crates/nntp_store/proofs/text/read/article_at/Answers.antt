@@ -10,7 +10,8 @@ use Rattle.nntp_store.proofs.text.read.article_at.Goals as goal
 module _ (line heads bodies : ℕ) (id said : Id) (S : Spool) (p : Place) (head body : List Line × Place) (right : is_message_id id ≡ true) (same : said ≡ id)
     (last : true ≡ is_last S.articles said) (first : barred_lines_at heads p ≡ Ok head) (second : barred_lines_at bodies head.1 ≡ Ok body) where
   -- an article is read where its parts are
-  all_read : (T : Spool) → true ≡ is_head_of said head.0 → T ≡ with_article S said (record { head = head.0; body = body.0 }) → turn_of true (article_at line id heads bodies S p) ≡ Ok (On true T body.1)
+  all_read : (T : Spool) → true ≡ is_head_of said head.0 → T ≡ with_article S said (record { head = head.0; body = body.0 })
+      → turn_of true (article_at line id heads bodies S p) ≡ Ok (On true T body.1)
   unfolding article_at
   all_read T begins is = rw (right, ← same, ← last, first, second, ← begins, is) refl
 

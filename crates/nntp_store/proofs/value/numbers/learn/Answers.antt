@@ -1,5 +1,5 @@
-use Rattle.std.proofs.{Common.{arith, true, not, inl, inr, sym, ap}, lemmas.{Bool.{not-true}, List.{nil_from_length}, Result.{err_from_is_err_and}}}
-use Rattle.std.specs.Rc.{rc_str_bytes}
+use Rattle.std.proofs.{Common.{arith, Result, Ok, Err, true, not, inl, inr, sym, ap}, lemmas.{Bool.{not-true}, List.{nil_from_length}}}
+use Rattle.std.{proofs.lemmas.Result.{err_from_is_err_and}, specs.{Prelude.{OnErr}, Rc.{rc_str_bytes}}}
 use Rattle.nntp_store.{specs.{Inner.Numbers.{AreIdsOf, numbers_shown}, Numbers.{has_id}}, proofs.NumberIds.{known_are, is_added, known_with}}
 use Rattle.nntp_store.proofs.value.numbers.learn.{Given.{Over}, Goals.{After-insert}}
 use Rattle.nntp_store.proofs.value.numbers.learn.Goals as goal
@@ -8,12 +8,19 @@ use Rattle.nntp_store.proofs.value.numbers.learn.Goals as goal
 ids_known : (g : Over) (c : After-insert g) → AreIdsOf c.if-is_empty.known.keys (numbers_shown c.args.ids.now)
 ids_known g c = grind (arith, known_are)
 
+of_any : {T E P : Type 0} (r : Result T E) → P → OnErr r P
+of_any (Ok x) p = tt
+of_any (Err e) p = p
+
 pub returns-in_err-insert-clause-absent : goal.returns-in_err-insert-clause-absent
 returns-in_err-insert-clause-absent g c =
     let N = numbers_shown c.args.ids.now in
     let are = ids_known g (goal.at.returns-in_err-insert-clause-absent g c).After-insert in
     let p = err_from_is_err_and c.from_residual-in_err-insert.result c.from_residual-in_err-insert.ensures.1 in
     rw p.1 (not-true (has_id N (rc_str_bytes c.args.id)) (sym (is_added c.if-is_empty.known.keys N c.args.id true are (sym (ap not c.in_err-insert.ensures.absent)))))
+
+pub returns-in_err-known-clause-err : goal.returns-in_err-known-clause-err
+returns-in_err-known-clause-err g c = of_any c.from_residual.result c.requires.1
 
 pub returns-clause-added : goal.returns-clause-added
 returns-clause-added g c =
