@@ -1,4 +1,4 @@
-use Rattle.std.{proofs.Common.{arith, ◌≡◌, ◌++◌, ◌<◌, ◌≤◌, ℕ, Bool, not, List, length, length-append, ap, refl, sym, subst, ◌∙◌}, specs.Rc.{rc_str_bytes}}
+use Rattle.std.{proofs.Common.{arith, ◌≡◌, ◌++◌, ◌<◌, ◌≤◌, ℕ, Bool, true, not, List, length, length-append, ap, refl, sym, subst, ◌∙◌}, specs.Rc.{rc_str_bytes}}
 use Rattle.std.specs.declared.rc.RcStr.{RcStr}
 use Rattle.nntp_article.specs.{Article.Parts.{Id}, Session.Spool.{Numbers}}
 use Rattle.nntp_store.{specs.{Inner.Numbers.{AreAscending, AreKnown, numbers_shown, with_number}, Numbers.{has_id}}, proofs.ShownNumbers.{one_put}}
@@ -21,6 +21,20 @@ front_fits xs ys whole n parts len = omega (arith, ap length parts, length-appen
 -- what has room is not full
 full : (len capacity : ℕ) → len < capacity → capacity ≤ len → ⊥
 full len capacity room none = omega arith
+
+-- the numbers are as they were where one of them has the id
+as_before : (N M : Numbers) (n : ℕ) (said id : Id) → M ≡ N → true ≡ has_id M said → said ≡ id → M ≡ with_number N n id
+as_before N M n said id same has is = grind arith
+
+pub invariant_of-self : goal.invariant_of-self
+invariant_of-self g c = subst (λ ids. AreAscending ids × AreKnown c.self.inside.known.keys (numbers_shown ids)) (sym c.in_default.ensures.ids) c.self.invariant
+
+pub returns-then-has_some_id-clause-ok : goal.returns-then-has_some_id-clause-ok
+returns-then-has_some_id-clause-ok g c =
+    as_before _ (numbers_shown c.handles.new.ids.items) c.args.number _ _ (ap numbers_shown c.in_default.ensures.ids ∙ c.self.view_is) c.if-has_some_id.ensures c.as_str.ensures.value
+
+pub returns-else-has_some_id-clause-err : goal.returns-else-has_some_id-clause-err
+returns-else-has_some_id-clause-err g c = ap numbers_shown c.in_default.ensures.ids ∙ c.self.view_is
 
 pub learn-requires : goal.learn-requires
 learn-requires g c = subst (λ ids. AreAscending ids × AreKnown c.self.inside.known.keys (numbers_shown ids)) (sym (c.deref.ensures.value ∙ c.in-Ok.ensures.ids)) c.self.invariant
