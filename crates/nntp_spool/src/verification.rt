@@ -116,8 +116,9 @@ fn judge<A: Allocator + Copy, S: Allocator>(
                 )? {
                     return Ok(Verified::Refuses { index: answers });
                 }
-                visible.advance(exchange.prompt(), exchange.answer())?;
-                position = position.after(exchange.prompt(), exchange.answer());
+                let (prompt, answer) = (exchange.prompt(), exchange.answer());
+                visible.advance(prompt, answer)?;
+                position = position.after(prompt, answer);
                 answers = exchange.index() + 1;
             }
             Step::Bad { .. } => return Ok(Verified::Refuses { index: answers }),

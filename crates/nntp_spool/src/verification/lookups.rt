@@ -27,17 +27,17 @@ pub(crate) fn meet<'s, S: Allocator>(
     ensures meet { IsTrue result ↔ Meets numbers.now (ask_of ask.now) }
     ensures entry { IfSome entry.new (λ e. map.get numbers.now e.0 ≡ Some e.1.now) }
 {
-    match ask {
-        Ask::Estimates { how, marks } => is_bound(numbers, *how, *marks),
-        Ask::Bounds { low, high } => is_between(numbers, *low, *high),
-        Ask::Lists { range, .. } => lists(numbers, *range, listed),
-        Ask::Lacks(number) => numbers.id(*number).is_none(),
-        Ask::StandsAt(at, number) => current(numbers, *at) == Some(*number),
-        Ask::StandsNowhere(at) => current(numbers, *at).is_none(),
-        Ask::StepsUp(at, number) => leads(above(numbers, *at), *number, entry),
-        Ask::StepsDown(at, number) => leads(below(numbers, *at), *number, entry),
-        Ask::IsTop(at) => current(numbers, *at).is_some() && above(numbers, *at).is_none(),
-        Ask::IsBottom(at) => current(numbers, *at).is_some() && below(numbers, *at).is_none(),
+    match *ask {
+        Ask::Estimates { how, marks } => is_bound(numbers, how, marks),
+        Ask::Bounds { low, high } => is_between(numbers, low, high),
+        Ask::Lists { range, .. } => lists(numbers, range, listed),
+        Ask::Lacks(number) => numbers.id(number).is_none(),
+        Ask::StandsAt(at, number) => current(numbers, at) == Some(number),
+        Ask::StandsNowhere(at) => current(numbers, at).is_none(),
+        Ask::StepsUp(at, number) => leads(above(numbers, at), number, entry),
+        Ask::StepsDown(at, number) => leads(below(numbers, at), number, entry),
+        Ask::IsTop(at) => current(numbers, at).is_some() && above(numbers, at).is_none(),
+        Ask::IsBottom(at) => current(numbers, at).is_some() && below(numbers, at).is_none(),
     }
 }
 

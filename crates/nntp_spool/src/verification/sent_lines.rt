@@ -15,15 +15,17 @@ pub(crate) fn has_text<A: Allocator>(
 ) -> bool
     ensures { IsTrue result ↔ (text_of what (text_stored article.now) ≡ option_map (λ b. b.now) block.entry) }
 {
+    let Some(sent) = block else {
+        return what == What::Stat;
+    };
     let (head, body) = (
         article.head.as_ref().as_block(),
         article.body.as_ref().as_block(),
     );
-    match (what, block) {
-        (What::Article, Some(sent)) => sent.is_article(&head, &body),
-        (What::Head, Some(sent)) => sent.is_same(&head),
-        (What::Body, Some(sent)) => sent.is_same(&body),
-        (What::Stat, None) => true,
-        _ => false,
+    match what {
+        What::Article => sent.is_article(&head, &body),
+        What::Head => sent.is_same(&head),
+        What::Body => sent.is_same(&body),
+        What::Stat => false,
     }
 }
