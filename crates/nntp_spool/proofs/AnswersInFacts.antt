@@ -1,6 +1,6 @@
 -- An answer, as the facts that it says, and facts that hold of a spool, one after the other.
-use Rattle.std.proofs.Common.{arith, ◌≡◌, Bool, true, false, ◌↔◌, IsTrue, List, Option, None, Some, is_some, sym, ◌∙◌, Result, Ok, Err, IfOk, [], ◌∷◌, drop}
-use Rattle.std.{proofs.{Common.{IsSome}, lemmas.Bool.{true≢false}}, specs.{FinMap.{get}, List.{AllByRecursion}, Prelude.{slice_get}}}
+use Rattle.std.proofs.Common.{arith, ◌≡◌, Bool, true, false, ◌↔◌, IsTrue, List, Option, None, Some, is_some, sym, subst, ◌∙◌, Result, Ok, Err, IfOk, [], ◌∷◌}
+use Rattle.std.{proofs.{Common.{drop, IsSome}, lemmas.Bool.{true≢false}}, specs.{FinMap.{get}, List.{AllByRecursion}, Prelude.{slice_get, IfSome}}}
 use Rattle.nntp_wire.specs.{Answer.{Asked, Response}, declared.command.What.{What, TheVariants.{Stat}}}
 use Rattle.nntp_article.specs.{Article.Parts.{Id, Line}, Inner.{Listed.{Lists, lists_of}, MisfitView.{why_if}}, Session.Machine.{Visible, MayAnswer, fits}}
 use Rattle.nntp_article.specs.{Session.{Misfit.{misfit}, Spool.{Spool}}, declared.session.{misfit.Misfit.{Misfit}, profile.Profile.{Profile}}}
@@ -65,6 +65,11 @@ module _ (S : Spool) (listed : Lists) (facts : List Fact) where
 -- it does where it holds by itself
 pub first_held : (S : Spool) (fact : Fact) (left : List Fact) → Some fact ≡ slice_get left 0 → Holds S fact → AllByRecursion (Holds S) (drop 1 left) → AllByRecursion (Holds S) left
 first_held S fact left e held h = grind arith
+
+-- the first of them is what all are
+pub first_is : (P : Fact → Type 0) (left : List Fact) (fact : Fact) → Some fact ≡ slice_get left 0 → AllByRecursion P left → P fact
+first_is P [] fact e h = absurd cc
+first_is P (first ∷ left) fact e h = subst (λ (o : Option Fact). IfSome o P) (sym e) h.0
 
 -- an id that stands at a number has an article
 placed_has : (S : Spool) (id : Id) (facts : List Fact) → IdsHaveArticles S → Place id facts → AllByRecursion (Holds S) facts → IsSome (get S.articles id)

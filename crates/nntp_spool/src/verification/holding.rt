@@ -78,20 +78,19 @@ fn holds<A: Allocator + Copy, S: Allocator>(
     ensures counted { IfOk result (λ _. AreCounted group.old counts.new) }
     ensures holds { IfOk result (λ holds. IsTrue holds ↔ Holds group.old (fact_of fact.now)) }
 {
+    let spool = group.spool();
     match *fact {
         Fact::ThereIs(name) => Ok(group.is_group(name.as_slice())),
         Fact::ThereIsNo(word) => Ok(!group.is_group(word)),
         Fact::Asks(name, ref ask) => Ok(group.meets(name, ask, listed.numbers())),
         Fact::IdAt(name, number, id) => Ok(group.has_id(name, number, id)),
-        Fact::TextIs { what, id, block } => Ok(sends(group.spool(), what, id, block)),
-        Fact::NoArticle(word) => Ok(!group.spool().knows(word)),
-        Fact::FieldsAre { block } => Ok(have_overviews(group.spool(), block)),
+        Fact::TextIs { what, id, block } => Ok(sends(spool, what, id, block)),
+        Fact::NoArticle(word) => Ok(!spool.knows(word)),
+        Fact::FieldsAre { block } => Ok(have_overviews(spool, block)),
         Fact::OverviewsAre { name, range, block } => {
             Ok(lists_overviews(group, name, range, block, listed))
         }
-        Fact::GroupsAre { wildmat, .. } => {
-            lists_groups(group.spool(), counts, wildmat, listed.groups())
-        }
+        Fact::GroupsAre { wildmat, .. } => lists_groups(spool, counts, wildmat, listed.groups()),
     }
 }
 

@@ -45,19 +45,12 @@ pub(crate) fn meet<'s, S: Allocator>(
 fn current<S: Allocator>(numbers: &Numbers<S>, at: Position) -> Option<u64>
     ensures { result ≡ current_in numbers.now at }
 {
+    first_is_least();
     match at {
         Position::Nowhere => None,
-        Position::First => first(numbers),
+        Position::First => numbers.least(),
         Position::Known(number) => Some(number),
     }
-}
-
-/// Returns the first number.
-fn first<S: Allocator>(numbers: &Numbers<S>) -> Option<u64>
-    ensures { result ≡ least numbers.now }
-{
-    first_is_least();
-    numbers.least()
 }
 
 /// Tells whether the number has this id.
@@ -171,7 +164,7 @@ fn has_none_within<S: Allocator>(numbers: &Numbers<S>, range: Range, before: Opt
     ensures { IsTrue result ↔ ListsFrom numbers.now range before [] }
 {
     match next_from(numbers, before) {
-        Some(number) => is_beyond(range.last, number),
+        Some(number) => !is_up_to(range.last, number),
         None => true,
     }
 }
@@ -196,13 +189,6 @@ fn is_up_to(last: Option<u64>, number: u64) -> bool
         Some(last) => number <= last,
         None => true,
     }
-}
-
-/// Tells whether the number is above the last one.
-fn is_beyond(last: Option<u64>, number: u64) -> bool
-    ensures { IsTrue result ↔ (IfSome last (λ last. number ≤ last) → ⊥) }
-{
-    !is_up_to(last, number)
 }
 
 /// Returns the number before this one. There is none before 0.

@@ -7,4 +7,4 @@ returns-in-OverviewsAre-clause-holds g c = rw c.in-OverviewsAre.is c.lists_overv
 pub returns-in-GroupsAre-clause-holds : goal.returns-in-GroupsAre-clause-holds
 returns-in-GroupsAre-clause-holds g c =
     let these = rw c.in-GroupsAre.is at c.requires.listed in
-    rw (c.in-GroupsAre.is, these.0 ∙ sym c.groups.ensures, sym c.spool-in-GroupsAre.ensures) c.lists_groups.ensures.lists
+    rw (c.in-GroupsAre.is, these.0 ∙ sym c.groups.ensures, sym c.spool-spool.ensures) c.lists_groups.ensures.lists
