@@ -1,8 +1,7 @@
 //! Whether what an answer says holds of a spool, a fact at a time.
-ghost use Rattle.std.specs.Prelude.{◌≡◌, ◌↔◌, IsTrue, IfOk, None, drop, option_map};
+ghost use Rattle.std.specs.Prelude.{◌≡◌, ◌↔◌, IsTrue, IfOk, drop, option_map};
 ghost use Rattle.std.specs.List.{AllByRecursion};
 ghost use Rattle.nntp_wire.specs.Name.{IsGroupName};
-ghost use Rattle.nntp_wire.specs.declared.command.What.TheVariants.{Stat};
 ghost use Rattle.nntp_article.specs.Session.Spool.{Name, Spool as SpoolValue, IsGroup, HasText};
 ghost use Rattle.nntp_article.specs.Inner.Listed.{lists};
 ghost use Rattle.nntp_said.specs.Facts.{Holds};
@@ -52,16 +51,15 @@ fn is_implied(facts: &SaidFacts<'_>) -> bool
     ensures { IsTrue result → (S : SpoolValue) → IdsHaveArticles S → AllByRecursion (Holds S) (drop 1 facts.now) → AllByRecursion (Holds S) facts.now }
 {
     match facts.first() {
-        Some(Fact::TextIs { what, id, block }) => sends_nothing(*what, *block) && facts.place(*id),
+        Some(
+            Fact::TextIs {
+                what: What::Stat,
+                id,
+                block: None,
+            },
+        ) => facts.place(*id),
         _ => false,
     }
-}
-
-/// Tells whether nothing is sent of an article.
-fn sends_nothing(what: What, block: Option<&Block<'_>>) -> bool
-    ensures { IsTrue result ↔ ((what ≡ Stat) × (option_map (λ b. b.now) block.entry ≡ None)) }
-{
-    what == What::Stat && block.is_none()
 }
 
 /// Tells whether the fact holds of the spool.

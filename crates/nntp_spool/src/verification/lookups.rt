@@ -1,7 +1,7 @@
 //! The lookups in the numbers of a group that tell whether they meet what an answer asks.
 ghost use Rattle.std.specs.Prelude.{◌≡◌, ℕ, ◌≤◌, ◌↔◌, [], true, IsTrue, MatchOption, IfSome, Some};
 ghost use Rattle.std.specs.FinMap as map;
-ghost use Rattle.nntp_article.specs.Session.Spool.{IsNumber, least, IsNextAbove, IsNextBelow, NoneAbove, NoneBelow, Lists};
+ghost use Rattle.nntp_article.specs.Session.Spool.{IsNumber, IsNextAbove, IsNextBelow, NoneAbove, NoneBelow, Lists};
 ghost use Rattle.nntp_article.specs.Session.Machine.{AreEnds, Bound, is_ascending};
 ghost use Rattle.nntp_said.specs.Asks.{Meets, current_in};
 ghost use Rattle.nntp_said.specs.Inner.FactView.{ask_of};
@@ -79,13 +79,6 @@ fn below<S: Allocator>(numbers: &Numbers<S>, at: Position) -> Option<(u64, &str)
     numbers.next_below(current(numbers, at)?)
 }
 
-/// Tells whether there is such a number.
-fn has<S: Allocator>(numbers: &Numbers<S>, number: u64) -> bool
-    ensures { IsTrue result ↔ IsNumber numbers.now number }
-{
-    numbers.id(number).is_some()
-}
-
 /// Tells whether there are at most as many numbers as estimated, all between the marks, and
 /// both marks are numbers where they have to be.
 fn is_bound<S: Allocator>(numbers: &Numbers<S>, how: Marks, marks: WaterMarks) -> bool
@@ -103,7 +96,7 @@ fn has_ends<S: Allocator>(numbers: &Numbers<S>, how: Marks, marks: WaterMarks) -
     match how {
         Marks::Lenient => true,
         Marks::Strict => match numbers.least() {
-            Some(_) => has(numbers, marks.low) && has(numbers, marks.high),
+            Some(_) => numbers.id(marks.low).is_some() && numbers.id(marks.high).is_some(),
             None => true,
         },
     }

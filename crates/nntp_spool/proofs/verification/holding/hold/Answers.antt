@@ -6,27 +6,19 @@ use Rattle.nntp_spool.proofs.verification.holding.hold.Goals as goal
 
 pub holds-requires : goal.holds-requires
 holds-requires g c =
-    let l = c.loop-fact in
-    record {
-      names = rw l.invariant.2 c.requires.names;
-      listed = first_is (SaysThese (lists c.args.listed.now)) l.facts _ c.in-Some.ensures l.invariant.0.these;
-      counted = rw l.invariant.2 l.invariant.1;
-    }
+    let is = c.loop-fact.invariant in
+    record { names = rw is.2 c.requires.names; listed = first_is (SaysThese (lists c.args.listed.now)) _ _ c.in-Some.ensures is.0.these; counted = rw is.2 is.1 }
 
 pub loop-fact-preserved : goal.loop-fact-preserved
 loop-fact-preserved g c = grind (arith, first_passed, first_held)
 
 pub returns-then-not-branch : goal.returns-then-not-branch
 returns-then-not-branch g c =
-    let l = c.loop-fact in
+    let is = c.loop-fact.invariant in
     record {
-      spool = c.in_ok-holds.ensures.spool ∙ l.invariant.2;
-      counted = subst (λ (S : Spool). AreCounted S c.holds.new.counts) l.invariant.2 c.in_ok-holds.ensures.counted;
-      hold = (
-        λ t. absurd (true≢false (sym t)),
-        λ h. let first = first_is (Holds c.args.group.now) l.facts _ c.in-Some.ensures (l.invariant.0.same.1 h) in
-            absurd (true≢false (sym (c.in_ok-holds.ensures.holds.1 (rw l.invariant.2 first)) ∙ c.if-not-branch.true)),
-      );
+      spool = c.in_ok-holds.ensures.spool ∙ is.2;
+      counted = subst (λ (S : Spool). AreCounted S c.holds.new.counts) is.2 c.in_ok-holds.ensures.counted;
+      hold = (λ t. absurd (true≢false (sym t)), λ h. sym c.if-not-branch.true ∙ c.in_ok-holds.ensures.holds.1 (rw is.2 (first_is (Holds c.args.group.now) _ _ c.in-Some.ensures (is.0.same.1 h))));
     }
 
 pub returns-clause-hold : goal.returns-clause-hold
