@@ -1,7 +1,7 @@
 -- Numbers that are listed one after the other are those of a group within a range.
-use Rattle.std.proofs.Common.{◌≡◌, ◌⊎◌, inl, inr, ⊎_elim, ℕ, suc, ◌<◌, ◌≤◌, true, List, [], ◌∷◌, Option, Some, MatchOption, refl, sym, ap, subst, ◌∙◌, arith}
-use Rattle.std.proofs.lemmas.{Bool.{and_parts, cases_lt, Decides.{nat_tests}}, List.{Elements.{All-contains}, Sums.{AllPass-from_list_all}}}
-use Rattle.std.specs.{List.{list_all}, Prelude.{Contains, IfSome, ◌↔◌, nat_lt, ⊤}}
+use Rattle.std.proofs.Common.{◌≡◌, ◌⊎◌, inl, inr, ⊎_elim, ℕ, suc, ◌<◌, ◌≤◌, ◌-◌, true, List, [], ◌∷◌, Option, Some, MatchOption, refl, sym, ap, subst, ◌∙◌}
+use Rattle.std.proofs.{Common.{arith}, lemmas.{Bool.{and_parts, cases_lt, Decides.{nat_tests}}, List.{Elements.{All-contains}, Sums.{AllPass-from_list_all}}}}
+use Rattle.std.specs.{List.{list_all}, Prelude.{Contains, IfSome, ◌↔◌, nat_lt, ⊤}, Option.{SomeIff}}
 use Rattle.nntp_wire.specs.declared.range.Range.{Range}
 use Rattle.nntp_article.specs.Session.{Machine.{is_ascending}, Spool.{Numbers, IsNumber, IsNextAbove, Lists, NoneAbove}}
 use Rattle.nntp_spool.specs.Inner.ListedNumbers.{IsAbove, IsNextFrom, ListsFrom}
@@ -69,9 +69,13 @@ pub none_left : (N : Numbers) (r : Range) (before first : Option ℕ) → IsNext
     → ListsFrom N r before [] ↔ MatchOption first ⊤ (λ n. IfSome r.last (λ last. n ≤ last) → ⊥)
 none_left N r before first none = grind arith
 
+-- above the number before this one, where there is one, are those from it on
+from_number : (first : ℕ) (before : Option ℕ) → SomeIff before (1 ≤ first) (first - 1) → (n : ℕ) → IsAbove before n ↔ (first ≤ n)
+from_number first before is n = grind arith
+
 -- from the start of the range on
-pub lists_from_range : (N : Numbers) (r : Range) (ns : List ℕ) (before : Option ℕ) → ((n : ℕ) → IsAbove before n ↔ (r.first ≤ n)) → ListsFrom N r before ns ↔ Lists N r ns
-lists_from_range N r ns before from = (
+pub lists_from_range : (N : Numbers) (r : Range) (ns : List ℕ) (before : Option ℕ) → SomeIff before (1 ≤ r.first) (r.first - 1) → ListsFrom N r before ns ↔ Lists N r ns
+lists_from_range N r ns before is = let from = from_number r.first before is in (
   λ h n. (λ c. let is = (h n).0 c in (is.0, ((from n).0 is.1, is.2)), λ (is, within). (h n).1 (is, (from n).1 within.0, within.1)),
   λ h n. (λ c. let is = (h n).0 c in (is.0, (from n).1 is.1.0, is.1.1), λ (is, a, fit). (h n).1 (is, ((from n).0 a, fit))),
 )

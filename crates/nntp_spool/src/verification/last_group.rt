@@ -6,7 +6,7 @@ ghost use Rattle.nntp_said.specs.Asks.{Meets};
 ghost use Rattle.nntp_said.specs.Inner.FactView.{ask_of};
 ghost use Rattle.nntp_spool.specs.Inner.Sessions.{AsksThese};
 
-use crate::verification::lookups::{has_id, meet};
+use crate::verification::lookups::meet;
 use nntp_said::Ask;
 use nntp_store::{Content, Numbers};
 use std::alloc::Allocator;
@@ -97,7 +97,7 @@ impl<'s, S: Allocator> LastGroup<'s, S> {
         };
         match self.entry {
             Some((at, there)) if at == number => there == id,
-            _ => has_id(numbers, number, id),
+            _ => numbers.id(number) == Some(id),
         }
     }
 }

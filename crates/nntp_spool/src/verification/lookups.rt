@@ -5,7 +5,7 @@ ghost use Rattle.nntp_article.specs.Session.Spool.{IsNumber, IsNextAbove, IsNext
 ghost use Rattle.nntp_article.specs.Session.Machine.{AreEnds, Bound, is_ascending};
 ghost use Rattle.nntp_said.specs.Asks.{Meets, current_in};
 ghost use Rattle.nntp_said.specs.Inner.FactView.{ask_of};
-ghost use Rattle.nntp_spool.specs.Inner.ListedNumbers.{IsNextFrom, IsAbove, ListsFrom};
+ghost use Rattle.nntp_spool.specs.Inner.ListedNumbers.{IsNextFrom, ListsFrom};
 ghost use Rattle.nntp_spool.specs.Inner.Sessions.{AsksThese};
 
 use nntp_article::session::laws::first_is_least;
@@ -50,16 +50,6 @@ fn current<S: Allocator>(numbers: &Numbers<S>, at: Position) -> Option<u64>
         Position::Nowhere => None,
         Position::First => numbers.least(),
         Position::Known(number) => Some(number),
-    }
-}
-
-/// Tells whether the number has this id.
-pub(crate) fn has_id<S: Allocator>(numbers: &Numbers<S>, number: u64, id: &str) -> bool
-    ensures { IsTrue result ↔ (map.get numbers.now number ≡ Some id.now) }
-{
-    match numbers.id(number) {
-        Some(found) => found == id,
-        None => false,
     }
 }
 
@@ -130,7 +120,8 @@ fn lists<S: Allocator>(numbers: &Numbers<S>, range: Range, listed: &[u64]) -> bo
     requires { is_ascending listed.now ≡ true }
     ensures { IsTrue result ↔ Lists numbers.now range listed.now }
 {
-    let mut before = before(range.first);
+    // There is none before 0.
+    let mut before = range.first.checked_sub(1);
     for number in listed {
         if !is_next_within(numbers, range, before, *number) {
             return false;
@@ -182,11 +173,4 @@ fn is_up_to(last: Option<u64>, number: u64) -> bool
         Some(last) => number <= last,
         None => true,
     }
-}
-
-/// Returns the number before this one. There is none before 0.
-fn before(number: u64) -> Option<u64>
-    ensures { (n : ℕ) → IsAbove result n ↔ (number ≤ n) }
-{
-    if number == 0 { None } else { Some(number - 1) }
 }

@@ -7,10 +7,5 @@ returns-then-not-has_overview g c =
     let all = rw c.in-Some.ensures.steps at c.loop-overview.invariant.2.1 in
     (λ t. absurd (true≢false (sym t)), λ h. absurd (true≢false (sym (c.has_overview.ensures.1 (all h).0) ∙ c.if-not-has_overview.true)))
 
-pub loop-overview-preserved : goal.loop-overview-preserved
-loop-overview-preserved g c =
-    let same = rw c.in-Some.ensures.steps at c.loop-overview.invariant.2 in
-    (tt, tt, (λ h. same.0 (c.has_overview.ensures.0 c.if-not-has_overview.false, h), λ h. (same.1 h).1))
-
 pub returns : goal.returns
 returns g c = (λ _. c.loop-overview.invariant.2.0 (subst (AllByRecursion (HasOverview c.args.spool.now)) (sym c.in-None.ensures.steps.0) tt), λ _. refl)

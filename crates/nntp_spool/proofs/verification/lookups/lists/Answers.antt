@@ -3,7 +3,7 @@ use Rattle.nntp_spool.proofs.ListedNumbers.{taken, is_next, lists_from_range}
 use Rattle.nntp_spool.proofs.verification.lookups.lists.Goals as goal
 
 pub loop-number-init : goal.loop-number-init
-loop-number-init g c = record { same = lists_from_range c.args.numbers.now c.args.range c.args.listed.now c.before-before.result c.before-before.ensures; ascends = c.requires }
+loop-number-init g c = record { same = lists_from_range c.args.numbers.now c.args.range c.args.listed.now c.checked_sub-before.result c.checked_sub-before.ensures; ascends = c.requires }
 
 pub returns-then-not-is_next_within : goal.returns-then-not-is_next_within
 returns-then-not-is_next_within g c =
