@@ -116,7 +116,8 @@ fn judge<A: Allocator + Copy, S: Allocator>(
                 )? {
                     return Ok(Verified::Refuses { index: answers });
                 }
-                let (prompt, answer) = (exchange.prompt(), exchange.answer());
+                let prompt = exchange.prompt();
+                let answer = exchange.answer();
                 visible.advance(prompt, answer)?;
                 position = position.after(prompt, answer);
                 answers = exchange.index() + 1;

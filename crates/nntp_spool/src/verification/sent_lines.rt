@@ -18,10 +18,8 @@ pub(crate) fn has_text<A: Allocator>(
     let Some(sent) = block else {
         return what == What::Stat;
     };
-    let (head, body) = (
-        article.head.as_ref().as_block(),
-        article.body.as_ref().as_block(),
-    );
+    let head = article.head.as_ref().as_block();
+    let body = article.body.as_ref().as_block();
     match what {
         What::Article => sent.is_article(&head, &body),
         What::Head => sent.is_same(&head),
