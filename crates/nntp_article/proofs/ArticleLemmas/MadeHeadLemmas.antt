@@ -11,7 +11,7 @@ abbrev pub start : Field → List ℕ
 start field = name_of_field field ++ 58 ∷ []
 
 -- one more word is written
-pub word_written : (line : List ℕ) (word : Word) (words : List Word) → ((line ++ 32 ∷ []) ++ word) ++ spaced words ≡ line ++ spaced (word ∷ words)
+pub word_written : (line : List ℕ) (word : Word) (words : List Word) → (line ++ 32 ∷ word) ++ spaced words ≡ line ++ spaced (word ∷ words)
 word_written line word words = grind (arith, append_assoc)
 
 -- words that are no lines' ends

@@ -99,15 +99,22 @@ fn push_field<A: Allocator + Copy>(
     requires { IsTrue (list_all is_word words) }
     ensures { IfOk result (λ _. head.new ≡ head.old ++ field_line (name_of_field field ++ 58 ∷ []) words.entry) }
 {
-    line.clear();
-    line.extend_from_slice(field.name().as_bytes())?;
-    line.push(b':')?;
+    start_line(line, field)?;
     let start = line.len();
     put_words(line, words)?;
-    if line.len() > start {
-        head.push(line)?;
+    if line.len() == start {
+        return Ok(());
     }
-    Ok(())
+    head.push(line)
+}
+
+/// Writes what stands in front of the words of a header, and nothing else.
+fn start_line<A: Allocator + Copy>(line: &mut Vec<u8, A>, field: Field) -> Result<(), AllocError>
+    ensures { IfOk result (λ _. line.new.items ≡ name_of_field field ++ 58 ∷ []) }
+{
+    line.clear();
+    line.extend_from_slice(field.name().as_bytes())?;
+    line.extend_from_slice(b":")
 }
 
 /// Puts the words of a header behind the others, each behind a space.
@@ -118,13 +125,19 @@ fn put_words<A: Allocator + Copy>(
     ensures { IfOk result (λ _. line.new.items ≡ line.old.items ++ flat_map (λ w. space ∷ w) words.entry) }
 {
     if let Some(text) = words.joined() {
-        line.push(b' ')?;
-        return line.extend_from_slice(text);
+        return put_word(line, text);
     }
     let mut words = words;
     while let Some(word) = words.next() {
-        line.push(b' ')?;
-        line.extend_from_slice(word)?;
+        put_word(line, word)?;
     }
     Ok(())
+}
+
+/// Puts a word behind the others, behind a space.
+fn put_word<A: Allocator + Copy>(line: &mut Vec<u8, A>, word: &[u8]) -> Result<(), AllocError>
+    ensures { IfOk result (λ _. line.new.items ≡ line.old.items ++ space ∷ word.now) }
+{
+    line.push(b' ')?;
+    line.extend_from_slice(word)
 }

@@ -2,5 +2,5 @@ use Rattle.std.proofs.Common.{rules}
 use Rattle.nntp_article.proofs.ArticleLemmas.MadeHeadLemmas.{line_clean}
 use Rattle.nntp_article.proofs.article.told_fields.push_field.Goals as goal
 
-pub push-requires-then-len-start : goal.push-requires-then-len-start
-push-requires-then-len-start g c = search (rules, line_clean c.args.field c.args.words)
+pub push-requires : goal.push-requires
+push-requires g c = search (rules, line_clean c.args.field c.args.words)
