@@ -49,11 +49,6 @@ id_octets_of id h = (and_parts (nat_le 3 (length id) && nat_le (length id) 250) 
 pub id_line_clean : (id : List ℕ) → IsMessageId id → is_clean (codes "Message-ID: " ++ id) ≡ true
 id_line_clean id h = id_octets_clean id (id_octets_of id h)
 
--- nor does that which is put together piece by piece
-pub id_line_put : {empty front whole line told id : List ℕ} → empty ≡ [] → front ≡ empty ++ codes "Message-ID: " → whole ≡ front ++ told → line ≡ whole → told ≡ id
-    → IsMessageId id → is_clean line ≡ true
-id_line_put {id = id} e front whole line told h = rw (line, whole, front, e, told) (id_line_clean id h)
-
--- the line is put behind the others
-pub id_line_is : {empty front whole told id : List ℕ} → empty ≡ [] → front ≡ empty ++ codes "Message-ID: " → whole ≡ front ++ told → told ≡ id → whole ≡ codes "Message-ID: " ++ id
-id_line_is {id = id} e front whole told = whole ∙ rw (front, e, told) refl
+-- it is put together piece by piece
+pub id_line_put : {empty front whole told id : List ℕ} → empty ≡ [] → front ≡ empty ++ codes "Message-ID: " → whole ≡ front ++ told → told ≡ id → whole ≡ codes "Message-ID: " ++ id
+id_line_put e front whole told = rw (whole, front, e, told) refl
