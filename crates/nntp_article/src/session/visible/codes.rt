@@ -1,5 +1,5 @@
 //! Answers of a code alone.
-ghost use Rattle.std.specs.Prelude.{◌≡◌};
+ghost use Rattle.std.specs.Prelude.{◌≡◌, ◌==◌, ◌&&◌, ◌||◌, is_none, is_some};
 ghost use Rattle.nntp_wire.specs.Answer.{plain};
 ghost use Rattle.nntp_wire.specs.Command.{over};
 ghost use Rattle.nntp_wire.specs.Inner.View.{asked, request, overviewed};
@@ -46,28 +46,19 @@ impl<A: Allocator> Visible<A> {
     fn fits_code(&self, command: &Command<'_>, code: u64) -> bool
         ensures { result ≡ code_fits self.now (request command.now) code }
     {
-        let is_selected = self.is_selected();
         match command {
             Command::Capabilities => code == 101,
             Command::ModeReader => code == 200 || code == 201,
             Command::Quit => code == 205,
             Command::Group(_) => code == 411,
-            Command::ListGroup { group: None, .. } => code == 412 && !is_selected,
+            Command::ListGroup { group: None, .. } => code == 412 && !self.is_selected(),
             Command::ListGroup { group: Some(_), .. } => code == 411,
-            Command::Next => match code {
-                412 => !is_selected,
-                420 | 421 => is_selected,
-                _ => false,
-            },
-            Command::Last => match code {
-                412 => !is_selected,
-                420 | 422 => is_selected,
-                _ => false,
-            },
+            Command::Next => self.fits_selected(code, code == 420 || code == 421),
+            Command::Last => self.fits_selected(code, code == 420 || code == 422),
             Command::Retrieve { which, .. } => match which {
                 Which::Id(_) => code == 430,
-                Which::Number(_) => (code == 412 && !is_selected) || (code == 423 && is_selected),
-                Which::Current => (code == 412 && !is_selected) || (code == 420 && is_selected),
+                Which::Number(_) => self.fits_selected(code, code == 423),
+                Which::Current => self.fits_selected(code, code == 420),
             },
             Command::Over { keyword, which } => self.fits_over(*keyword, which, code),
             Command::Opaque => code == 381 || code < 300 || code >= 400,
@@ -79,15 +70,20 @@ impl<A: Allocator> Visible<A> {
     fn fits_over(&self, keyword: OverviewKeyword, which: &WhichArticles<'_>, code: u64) -> bool
         ensures { result ≡ code_fits self.now (over keyword (overviewed which.now)) code }
     {
-        let is_selected = self.is_selected();
         match which {
             WhichArticles::Id(_) => code == 430,
-            WhichArticles::Range(_) => {
-                (code == 412 && !is_selected) || (is_none_in_range(keyword, code) && is_selected)
-            }
-            WhichArticles::Current => {
-                (code == 412 && !is_selected) || (code == 420 && is_selected)
-            }
+            WhichArticles::Range(_) => self.fits_selected(code, is_none_in_range(keyword, code)),
+            WhichArticles::Current => self.fits_selected(code, code == 420),
         }
+    }
+
+    /// Whether the code tells that no group is selected, where none is, or else that the selected one lacks an article.
+    fn fits_selected(&self, code: u64, tells_lack: bool) -> bool
+        ensures { result ≡ ((code == 412 && is_none self.now.selected) || (tells_lack && is_some self.now.selected)) }
+    {
+        if self.is_selected() {
+            return tells_lack;
+        }
+        code == 412
     }
 }
