@@ -99,22 +99,15 @@ fn push_field<A: Allocator + Copy>(
     requires { IsTrue (list_all is_word words) }
     ensures { IfOk result (λ _. head.new ≡ head.old ++ field_line (name_of_field field ++ 58 ∷ []) words.entry) }
 {
-    start_line(line, field)?;
+    line.clear();
+    line.extend_from_slice(field.name().as_bytes())?;
+    line.push(b':')?;
     let start = line.len();
     put_words(line, words)?;
     if line.len() == start {
         return Ok(());
     }
     head.push(line)
-}
-
-/// Writes what stands in front of the words of a header, and nothing else.
-fn start_line<A: Allocator + Copy>(line: &mut Vec<u8, A>, field: Field) -> Result<(), AllocError>
-    ensures { IfOk result (λ _. line.new.items ≡ name_of_field field ++ 58 ∷ []) }
-{
-    line.clear();
-    line.extend_from_slice(field.name().as_bytes())?;
-    line.extend_from_slice(b":")
 }
 
 /// Puts the words of a header behind the others, each behind a space.
