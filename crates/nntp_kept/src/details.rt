@@ -15,10 +15,16 @@ use std::marker::Model;
 use std::rc::RcStr;
 
 /// What is kept of one group of which more is said than marks.
-#[derive(Drop)]
 pub(crate) struct Details<A: Allocator = Global> {
     numbers: Numbers<A>,
     ids: NumberedIds<A>,
+}
+
+/// By hand, since a derived one is checked field by field at each place where details may be dropped.
+impl<A: Allocator> Drop for Details<A> {
+    fn drop(self) {
+        let Details { numbers: _, ids: _ } = self;
+    }
 }
 
 impl<A: Allocator> Model for Details<A> {

@@ -1,5 +1,5 @@
 //! What is known of one article.
-ghost use Rattle.std.specs.Prelude.{◌≡◌, ◌↔◌, ◌≢◌, false, true, None, Some, IsTrue, IfOk, IfSome, MatchOption, option_map};
+ghost use Rattle.std.specs.Prelude.{◌≡◌, ◌↔◌, ◌≢◌, false, true, None, Some, IsTrue, IfOk, IfSome, MatchOption, option_map, if◌then◌else◌, is_some};
 ghost use Rattle.nntp_article.specs.{Article.Fields.{fields_of_head, words_in}, Inner.Fields.{AreWords}};
 ghost use Rattle.nntp_theory.specs.Inner.Together.{AreSame};
 ghost use Rattle.nntp_kept.specs.Inner.{Articles.{MayBeSent, MayBeTold, with_sent, with_told}, Kept.{IsAddedIf}, ArticleView.{fields_held, fields_kept}};
@@ -63,16 +63,17 @@ fn are_same<A: Allocator>(sent: &Option<Block<'_>>, held: Option<&Rc<OwnedBlock<
     }
 }
 
-/// Copies lines, if they are sent.
+/// Copies lines, if they are sent and none are held.
 fn copied<A: Allocator + Copy>(
     alloc: A,
     sent: &Option<Block<'_>>,
+    held: Option<&Rc<OwnedBlock<A>, A>>,
 ) -> Result<Option<Rc<OwnedBlock<A>, A>>, AllocError>
-    ensures { IfOk result (λ copy. lines_held copy ≡ sent.now) }
+    ensures { IfOk result (λ copy. lines_held copy ≡ if is_some (option_map (λ block. block.now.value) held.entry) then None else sent.now) }
 {
-    match sent {
-        Some(sent) => Ok(Some(Rc::new(alloc, sent.to_owned(alloc)?)?)),
-        None => Ok(None),
+    match (sent, held) {
+        (Some(sent), None) => Ok(Some(Rc::new(alloc, sent.to_owned(alloc)?)?)),
+        _ => Ok(None),
     }
 }
 
@@ -181,47 +182,31 @@ impl<A: Allocator + Copy> KnownArticle<A> {
         if !self.may_send(sent) {
             return Ok(false);
         }
-        *self = mem::replace(self, KnownArticle::Unsent).with(alloc, sent)?;
+        let head = copied(alloc, &sent.head, self.head())?;
+        let body = copied(alloc, &sent.body, self.body())?;
+        *self = mem::replace(self, KnownArticle::Unsent).with(alloc, head, body)?;
         Ok(true)
     }
 
     /// Returns what is known once a success sends these parts, which it may: of each part what was sent first.
-    fn with(self, alloc: A, sent: &Sent<'_>) -> Result<KnownArticle<A>, AllocError>
-        ensures { IfOk result (λ article. MayBeSent (known_article self) sent.now.head sent.now.body
-            → known_article article ≡ with_sent (known_article self) sent.now.head sent.now.body) }
+    fn with(
+        self,
+        alloc: A,
+        head: Option<Rc<OwnedBlock<A>, A>>,
+        body: Option<Rc<OwnedBlock<A>, A>>,
+    ) -> Result<KnownArticle<A>, AllocError>
+        ensures { IfOk result (λ article. MayBeSent (known_article self) (lines_held head) (lines_held body)
+            → known_article article ≡ with_sent (known_article self) (lines_held head) (lines_held body)) }
     {
         match self {
-            KnownArticle::Head(head) => {
-                KnownArticle::of_parts(alloc, Some(head), None, copied(alloc, &sent.body)?)
-            }
-            KnownArticle::Body(body) => {
-                KnownArticle::of_parts(alloc, copied(alloc, &sent.head)?, None, Some(body))
-            }
-            KnownArticle::Listed(told) => KnownArticle::with_both(alloc, sent, Some(told)),
-            KnownArticle::Told(told) => KnownArticle::with_both(alloc, sent, Some(told)),
-            KnownArticle::ToldBody(article) => {
-                KnownArticle::with_head(alloc, article, copied(alloc, &sent.head)?)
-            }
+            KnownArticle::Head(head) => KnownArticle::of_parts(alloc, Some(head), None, body),
+            KnownArticle::Body(body) => KnownArticle::of_parts(alloc, head, None, Some(body)),
+            KnownArticle::Listed(told) => KnownArticle::of_parts(alloc, head, Some(told), body),
+            KnownArticle::Told(told) => KnownArticle::of_parts(alloc, head, Some(told), body),
+            KnownArticle::ToldBody(article) => KnownArticle::with_head(alloc, article, head),
             KnownArticle::Whole(lines) => Ok(KnownArticle::Whole(lines)),
-            _ => KnownArticle::with_both(alloc, sent, None),
+            _ => KnownArticle::of_parts(alloc, head, None, body),
         }
-    }
-
-    /// Returns what is known of an article of which none was sent before these parts, and of which overviews told this, if
-    /// they told of it.
-    fn with_both(
-        alloc: A,
-        sent: &Sent<'_>,
-        told: Option<Box<ToldFields<A>, A>>,
-    ) -> Result<KnownArticle<A>, AllocError>
-        ensures { IfOk result (λ article. known_article article ≡ of_parts sent.now.head (fields_kept told) sent.now.body) }
-    {
-        KnownArticle::of_parts(
-            alloc,
-            copied(alloc, &sent.head)?,
-            told,
-            copied(alloc, &sent.body)?,
-        )
     }
 
     /// Returns what is known of an article whose body was sent, and of which overviews told, once this head is sent, if one is.
@@ -293,6 +278,7 @@ impl<A: Allocator + Copy> KnownArticle<A> {
             (λ article. article ≡ with_told (known_article self.old) false (Some told.entry)) (known_article self.old) (known_article self.new) may) }
     {
         if self.fields().is_none() {
+            let told = Box::new(alloc, ToldFields::of(alloc, told)?)?;
             *self = mem::replace(self, KnownArticle::Unsent).with_told(alloc, told)?;
             return Ok(true);
         }
@@ -300,12 +286,14 @@ impl<A: Allocator + Copy> KnownArticle<A> {
     }
 
     /// Returns what is known once a first overview tells this of an article of which no head was sent.
-    fn with_told(self, alloc: A, told: Fields<'_>) -> Result<KnownArticle<A>, AllocError>
-        requires { AreWords told }
+    fn with_told(
+        self,
+        alloc: A,
+        told: Box<ToldFields<A>, A>,
+    ) -> Result<KnownArticle<A>, AllocError>
         ensures { IfOk result (λ article. (known_article self).fields ≡ None
-            → known_article article ≡ with_told (known_article self) false (Some told.entry)) }
+            → known_article article ≡ with_told (known_article self) false (Some told.value)) }
     {
-        let told = Box::new(alloc, ToldFields::of(alloc, told)?)?;
         match self {
             KnownArticle::Unsent => Ok(KnownArticle::Listed(told)),
             KnownArticle::Named => Ok(KnownArticle::Told(told)),

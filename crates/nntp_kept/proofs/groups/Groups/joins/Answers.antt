@@ -31,7 +31,7 @@ returns-in-None-clause-at_all g c tells asks kept stand says bounded agree shown
     let group = c.new.result in
     let begun = c.new.ensures.ids in
     let free = subst (λ ids. MayHave ids group.places id) (sym begun.0) (subst (λ places. MayHave empty places id) (sym begun.1) (empty_may_have id)) in
-    let joins = c.joins-in-None-2.ensures _ asks c.new.ensures.numbers none_stand (bounded was.not_shown) says (empty_agree group id begun.0) in (
+    let joins = c.joins-in-None.ensures _ asks c.new.ensures.numbers none_stand (bounded was.not_shown) says (empty_agree group id begun.0) in (
       λ t. (subst (λ asked. AsksStand (asked ++ asks)) (sym was.no_asks) (joins.0 (sym c.new_if-in-None.ensures.at_all ∙ t)).0, grind (arith, was)),
       λ h. c.new_if-in-None.ensures.at_all ∙ joins.1 (subst (λ asked. AsksStand (asked ++ asks)) was.no_asks h.0, free),
     )
