@@ -14,7 +14,6 @@ use std::mem;
 use std::rc::Rc;
 
 /// What is known of an article.
-#[derive(Drop)]
 pub(crate) enum KnownArticle<A: Allocator> {
     /// No success of ARTICLE, HEAD, BODY, STAT or of OVER or XOVER without a range named the article, and no overview told of
     /// it.
@@ -33,6 +32,18 @@ pub(crate) enum KnownArticle<A: Allocator> {
     ToldBody(Box<ToldArticle<A>, A>),
     /// The lines of both were sent.
     Whole(Box<WholeArticle<A>, A>),
+}
+
+/// By hand, since a derived one is checked variant by variant at each place where what is known may be dropped.
+impl<A: Allocator> Drop for KnownArticle<A> {
+    fn drop(self) {
+        match self {
+            KnownArticle::Unsent | KnownArticle::Named => {}
+            KnownArticle::Listed(_) | KnownArticle::Told(_) => {}
+            KnownArticle::Head(_) | KnownArticle::Body(_) => {}
+            KnownArticle::ToldBody(_) | KnownArticle::Whole(_) => {}
+        }
+    }
 }
 
 /// The lines of an article.
@@ -286,11 +297,7 @@ impl<A: Allocator + Copy> KnownArticle<A> {
     }
 
     /// Returns what is known once a first overview tells this of an article of which no head was sent.
-    fn with_told(
-        self,
-        alloc: A,
-        told: Box<ToldFields<A>, A>,
-    ) -> Result<KnownArticle<A>, AllocError>
+    fn with_told(self, alloc: A, told: Box<ToldFields<A>, A>) -> Result<KnownArticle<A>, AllocError>
         ensures { IfOk result (λ article. (known_article self).fields ≡ None
             → known_article article ≡ with_told (known_article self) false (Some told.value)) }
     {
