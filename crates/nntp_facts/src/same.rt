@@ -2,7 +2,7 @@
 ghost use Rattle.std.specs.Prelude.{◌≡◌, ◌↔◌, IsTrue};
 ghost use Rattle.nntp_wire.specs.Inner.AnswerView.{response};
 
-use nntp_wire::{Answer, Block, GroupName};
+use nntp_wire::{Answer, Block, GroupName, WaterMarks};
 
 /// Tells whether both are the same name, or none is there.
 pub(crate) fn is_same_name(some: &Option<GroupName<'_>>, other: &Option<GroupName<'_>>) -> bool
@@ -26,6 +26,18 @@ fn is_same_block(some: &Option<Block<'_>>, other: &Option<Block<'_>>) -> bool
     }
 }
 
+/// Tells whether both are the same marks of a group of the same name.
+fn is_same_group(
+    marks: &WaterMarks,
+    name: &GroupName<'_>,
+    other_marks: &WaterMarks,
+    other_name: &GroupName<'_>,
+) -> bool
+    ensures { IsTrue result → (marks.now ≡ other_marks.now) × (name.now ≡ other_name.now) }
+{
+    marks == other_marks && name.as_slice() == other_name.as_slice()
+}
+
 /// Tells whether both answers say the same, octet by octet.
 pub(crate) fn is_same_answer(some: &Answer<'_>, other: &Answer<'_>) -> bool
     ensures { IsTrue result → response some.now ≡ response other.now }
@@ -38,7 +50,7 @@ pub(crate) fn is_same_answer(some: &Answer<'_>, other: &Answer<'_>) -> bool
                 marks: other_marks,
                 name: other_name,
             },
-        ) => marks == other_marks && name.as_slice() == other_name.as_slice(),
+        ) => is_same_group(marks, name, other_marks, other_name),
         (
             Answer::Numbers { marks, name, block },
             Answer::Numbers {
@@ -46,11 +58,7 @@ pub(crate) fn is_same_answer(some: &Answer<'_>, other: &Answer<'_>) -> bool
                 name: other_name,
                 block: other_block,
             },
-        ) => {
-            marks == other_marks
-                && name.as_slice() == other_name.as_slice()
-                && block.is_same(other_block)
-        }
+        ) => is_same_group(marks, name, other_marks, other_name) && block.is_same(other_block),
         (
             Answer::Sent {
                 code,

@@ -1,7 +1,7 @@
 //! What answers say by themselves.
 ghost use Rattle.std.specs.{Prelude.{◌≡◌, ℕ, List, [], ◌∷◌, ◌++◌, IfOk, map, option_map}, List.{AllByRecursion}};
 ghost use Rattle.nntp_wire.specs.Limit.{greatest};
-ghost use Rattle.nntp_article.specs.{declared.session.profile.Profile.{Profile}, Session.Limit.{profile_of}};
+ghost use Rattle.nntp_article.specs.{declared.session.profile.Profile.{Profile}, Session.Limit.{profile_of}, Inner.Listed.{lists, lists_of}};
 ghost use Rattle.nntp_said.specs.Facts.{Fact, group_of};
 ghost use Rattle.nntp_theory.specs.{Inner.{Together.{Together}, Conflict.{FitsThere}}, Conflict.{Placed as PlacedValue, a_group, the_group, told}};
 ghost use Rattle.nntp_kept.specs.Inner.{Kept.{IsKept, AreAdded}, Saying.{TellsThere}, SayingView.{saying_of}};
@@ -26,8 +26,24 @@ pub(crate) fn tell<A: Allocator + Copy>(
     ensures { IfOk result (λ does. (facts : List Fact) → IsKept facts kept.old → Together facts → FitsThere (profile_of limit marks) (stands_of answer.now)
         → AreTold (profile_of limit marks) facts (told (profile_of limit marks) (stands_of answer.now)) kept.new does) }
 {
+    let listed = Listed::of(alloc, answer.answer())?;
+    // It is lent, and so dropped at one exit alone: the check goes through each drop.
+    tell_listing(kept, limit, marks, answer, &listed)
+}
+
+/// Adds what an answer says by itself, as [`tell`] does; `listed` is what it lists.
+fn tell_listing<'a, A: Allocator + Copy>(
+    kept: &mut Kept<A>,
+    limit: Limit,
+    marks: Marks,
+    answer: &Placed<'a>,
+    listed: &Listed<'a, A>,
+) -> Result<bool, AllocError>
+    requires { lists listed.now ≡ lists_of (stands_of answer.now).response }
+    ensures { IfOk result (λ does. (facts : List Fact) → IsKept facts kept.old → Together facts → FitsThere (profile_of limit marks) (stands_of answer.now)
+        → AreTold (profile_of limit marks) facts (told (profile_of limit marks) (stands_of answer.now)) kept.new does) }
+{
     let response = answer.answer();
-    let listed = Listed::of(alloc, response)?;
     let saying = Saying::of(
         marks,
         answer.selected_name(),
@@ -39,7 +55,7 @@ pub(crate) fn tell<A: Allocator + Copy>(
     if !tell_group(kept, limit, &saying, answer.selected())? {
         return Ok(false);
     }
-    kept.note(&saying, &listed)
+    kept.note(&saying, listed)
 }
 
 /// Adds that there is the group of which the answer speaks, if it speaks of one and this stands

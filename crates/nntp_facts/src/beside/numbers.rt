@@ -77,8 +77,7 @@ fn point_of_group<'s, A: Allocator + Copy>(
 {
     let mut numbers = kept.groups().numbers(group.name)?;
     numbers.add(&NumbersPart::of_widest(limit))?;
-    numbers.add(&group.numbers)?;
-    Ok(point_in(kind, group.name, &numbers))
+    point_with(kind, group.name, &mut numbers, &group.numbers)
 }
 
 /// Returns a point of the kind that is about the numbers of a group that is listed.
@@ -112,9 +111,26 @@ fn point_of_line<'s, A: Allocator + Copy>(
         → asks_of line.entry.name all ≡ asks_of line.entry.name facts ++ Bounds line.entry.low line.entry.high ∷ []
         → NoneBefore all (rank_of_numbers kind) → IsPointIn all line.entry.name (rank_of_numbers kind) (option_map point_of point)) }
 {
-    let mut numbers = kept.groups().numbers(line.name.as_slice())?;
-    numbers.add(&GroupPart::of_bounds(&line).numbers)?;
-    Ok(point_in(kind, line.name.as_slice(), &numbers))
+    let name = line.name.as_slice();
+    let mut numbers = kept.groups().numbers(name)?;
+    let part = GroupPart::of_bounds(&line).numbers;
+    point_with(kind, name, &mut numbers, &part)
+}
+
+/// Returns a point of the kind that is about the numbers of the group, once this is said of them too. They are lent, and so
+/// dropped at few exits: the check goes through each drop.
+fn point_with<'s, A: Allocator + Copy>(
+    kind: NumbersKind,
+    name: &'s [u8],
+    numbers: &mut Numbers<A>,
+    part: &NumbersPart<'_>,
+) -> Result<Option<Point<'s>>, AllocError>
+    ensures { IfOk result (λ point. (all : List Fact) (asks more : List Ask) → IsSummary numbers.old asks → Says (said part.now) more
+        → asks_of name.now all ≡ asks ++ more → AreBounded (asks ++ more)
+        → NoneBefore all (rank_of_numbers kind) → IsPointIn all name.now (rank_of_numbers kind) (option_map point_of point)) }
+{
+    numbers.add(part)?;
+    Ok(point_in(kind, name, numbers))
 }
 
 /// Returns a point of the kind that is about the numbers of the group, of which this is said.
