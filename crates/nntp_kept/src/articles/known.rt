@@ -214,23 +214,13 @@ impl<A: Allocator + Copy> KnownArticle<A> {
             KnownArticle::Body(body) => KnownArticle::of_parts(alloc, head, None, Some(body)),
             KnownArticle::Listed(told) => KnownArticle::of_parts(alloc, head, Some(told), body),
             KnownArticle::Told(told) => KnownArticle::of_parts(alloc, head, Some(told), body),
-            KnownArticle::ToldBody(article) => KnownArticle::with_head(alloc, article, head),
+            KnownArticle::ToldBody(article) => {
+                let ToldArticle { told, body } = Box::into_inner(article);
+                KnownArticle::of_parts(alloc, head, Some(told), Some(body))
+            }
             KnownArticle::Whole(lines) => Ok(KnownArticle::Whole(lines)),
             _ => KnownArticle::of_parts(alloc, head, None, body),
         }
-    }
-
-    /// Returns what is known of an article whose body was sent, and of which overviews told, once this head is sent, if one is.
-    fn with_head(
-        alloc: A,
-        article: Box<ToldArticle<A>, A>,
-        head: Option<Rc<OwnedBlock<A>, A>>,
-    ) -> Result<KnownArticle<A>, AllocError>
-        ensures { IfOk result (λ known. known_article known
-            ≡ of_parts (lines_held head) (Some article.value.told.value) (Some article.value.body.value)) }
-    {
-        let ToldArticle { told, body } = Box::into_inner(article);
-        KnownArticle::of_parts(alloc, head, Some(told), Some(body))
     }
 
     /// Returns what is known of an article that a success named, and of which these parts were sent, and overviews told
