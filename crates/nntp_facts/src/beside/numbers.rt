@@ -11,7 +11,7 @@ ghost use Rattle.nntp_article.specs.declared.session.profile.Profile.{Profile};
 
 use crate::point::Point;
 use crate::points::{NumbersKind, Statement};
-use nntp_kept::{ActivePart, GroupPart, Kept};
+use nntp_kept::{GroupPart, Kept};
 use nntp_numbers::{Numbers, NumbersPart};
 use nntp_wire::{ActiveLine, Block, Limit};
 use std::alloc::{AllocError, Allocator};
@@ -43,23 +43,10 @@ pub(crate) fn point_of_numbers<'s, A: Allocator + Copy>(
 {
     match &told.saying.group {
         Some(group) => point_of_group(kept, limit, kind, group),
-        None => point_of_active(kept, kind, &told.saying.groups),
-    }
-}
-
-/// Returns a point of the kind that is about the numbers of one of the groups that are listed, if any are.
-fn point_of_active<'s, A: Allocator + Copy>(
-    kept: &Kept<A>,
-    kind: NumbersKind,
-    groups: &Option<ActivePart<'s>>,
-) -> Result<Option<Point<'s>>, AllocError>
-    ensures { IfOk result (λ point. (profile : Profile) (facts more : List Fact) (t : StatementValue) → IsBeside profile facts kept.now t more
-        → t.saying.group ≡ None → t.saying.groups ≡ option_map active_said groups.now
-        → NoneBefore (facts ++ more) (rank_of_numbers kind) → IsPointOf (facts ++ more) (rank_of_numbers kind) (option_map point_of point)) }
-{
-    match groups {
-        Some(list) => point_of_listed(kept, kind, list.block),
-        None => Ok(None),
+        None => match &told.saying.groups {
+            Some(list) => point_of_listed(kept, kind, list.block),
+            None => Ok(None),
+        },
     }
 }
 
@@ -130,22 +117,10 @@ fn point_with<'s, A: Allocator + Copy>(
         → NoneBefore all (rank_of_numbers kind) → IsPointIn all name.now (rank_of_numbers kind) (option_map point_of point)) }
 {
     numbers.add(part)?;
-    Ok(point_in(kind, name, numbers))
-}
-
-/// Returns a point of the kind that is about the numbers of the group, of which this is said.
-fn point_in<'s, A: Allocator>(
-    kind: NumbersKind,
-    name: &'s [u8],
-    numbers: &Numbers<A>,
-) -> Option<Point<'s>>
-    ensures { (all : List Fact) → IsSummary numbers.now (asks_of name.now all) → AreBounded (asks_of name.now all) → NoneBefore all (rank_of_numbers kind)
-        → IsPointIn all name.now (rank_of_numbers kind) (option_map point_of result) }
-{
     match kind {
-        NumbersKind::Number => denied(name, numbers),
-        NumbersKind::Count => too_many(name, numbers),
-        NumbersKind::First => unmet(name, numbers),
+        NumbersKind::Number => Ok(denied(name, numbers)),
+        NumbersKind::Count => Ok(too_many(name, numbers)),
+        NumbersKind::First => Ok(unmet(name, numbers)),
     }
 }
 
