@@ -104,8 +104,8 @@ fn point_of_line<'s, A: Allocator + Copy>(
     point_with(kind, name, &mut numbers, &part)
 }
 
-/// Returns a point of the kind that is about the numbers of the group, once this is said of them too. They are lent, and so
-/// dropped at few exits: the check goes through each drop.
+/// Returns a point of the kind that is about the numbers of the group, once this is said of them too. They are lent, and
+/// so dropped at few exits: the check goes through each drop.
 fn point_with<'s, A: Allocator + Copy>(
     kind: NumbersKind,
     name: &'s [u8],
