@@ -103,14 +103,7 @@ session_fits profile v at ps answers f = tt
 -- and what is told of them has what they say
 pub session_told : (profile : Profile) (S : Spool) (v : Visible) (at : Position) (ps : List Asked) (answers : List Response)
     → AllByRecursion (Holds S) (flat_map (told profile) (placed_from v at ps answers)) → AllByRecursion (Holds S) (facts_from profile.marks v at ps answers)
-session_told profile S v at (p ∷ ps) (a ∷ more) h =
-    let placed : Placed = record { selected = v.selected; position = at; asked = p; response = a } in
-    let w = visible_after v p a in
-    let next = position_after at p a in
-    let rest = flat_map (told profile) (placed_from w next ps more) in
-    let own = told_own profile S (said_there profile.marks placed) (all_front (Holds S) (told profile placed) rest h) in
-    all_both (Holds S) (facts_of profile.marks v at p a) (facts_from profile.marks w next ps more)
-    (subst (AllByRecursion (Holds S)) (sym (there_said profile.marks placed v refl)) own) (session_told profile S w next ps more (all_back (Holds S) (told profile placed) rest h))
+session_told profile S v at (p ∷ ps) (a ∷ more) h = grind (arith, session_told profile S (visible_after v p a) (position_after at p a) ps more, told_own, all_front, all_both, there_said, all_back)
 session_told profile S v at ps answers h = tt
 
 -- ---- fewer facts
@@ -233,8 +226,7 @@ group_there how all (fact ∷ facts) name p e = grind (arith, group_there how al
 with_group_holds : (profile : Profile) (S : Spool) (all facts : List Fact) (group : Option Name) → IsSpool profile.limit S → AllByRecursion (Holds S) all
     → AllByRecursion (IsPlaced profile.marks all) facts → group_of facts ≡ group → AllByRecursion (Holds S) facts → AllByRecursion (Holds S) (the_group profile group ++ facts)
 with_group_holds profile S all facts (Some name) spool holds p e h =
-    let group = all_at (Holds S) (ThereIs name) all holds (group_there profile.marks all facts name p e).there in
-    all_both (Holds S) (a_group profile name) facts (group_holds profile S name spool group) h
+    grind (arith, all_at (Holds S) (ThereIs name) all holds (group_there profile.marks all facts name p e).there, all_at, group_there, all_both, group_holds)
 with_group_holds profile S all facts None spool holds p e h = h
 
 -- what is told of a session holds where all that it says does

@@ -54,14 +54,7 @@ own_id id head t said e = same_text said id (sym (subst (λ o. option_map_or (λ
 
 -- a head that is made for an id is one
 made_for : (id : Id) (told : Option Fields) → IsMessageId id → IfSome told AreWords → IsHeadOf id (made_head id told)
-made_for id told is words =
-    let own = octets id is in
-    let clean = all_clean id own in
-    record {
-      is_a_head = grind (arith, made_is_head);
-      is_clean = grind (arith, field_lines_are_lines, and_from (is_clean id) (list_all (λ c. nat_lt c 256) id) clean.0 clean.1);
-      own = λ said e. grind (arith, made_says, append-nil id, no_last_blanks id own);
-    }
+made_for id told is words = grind (arith, octets id is, all_clean id (octets id is), octets, all_clean, made_is_head, field_lines_are_lines, and_from, made_says, append-nil, no_last_blanks)
 
 module _ (profile : Profile) (B : ℕ) (G : Spool) (facts : List Fact) (s : Setting profile B G facts) where
   -- a fact is well formed

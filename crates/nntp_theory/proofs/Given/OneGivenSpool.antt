@@ -83,6 +83,4 @@ module _ (facts : List Fact) (G H : Spool) (given : IsGiven facts G) (other : Is
 
   -- two given spools are one
   pub given_once : G ≡ H
-  given_once =
-      let articles = same_map nat_list_cmp_total names_apart G.articles H.articles (λ id. grind (arith, groups_alike, given.articles id, other.articles id)) in
-      λ i. record { groups = groups_alike i; articles = articles i }
+  given_once = grind (arith, same_map nat_list_cmp_total names_apart G.articles H.articles (λ id. grind (arith, groups_alike, given.articles id, other.articles id)), names_apart, groups_alike)

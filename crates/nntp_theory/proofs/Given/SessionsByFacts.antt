@@ -105,5 +105,4 @@ pub some_or_none : (profile : Profile) (ps : List Asked) (answers : List Respons
     → SomePermits profile ps answers ⊎ (SomePermits profile ps answers → ⊥)
 some_or_none profile ps answers small =
     let session : Answered = record { prompts = ps; answers = answers } in
-    let whole = append-nil (facts_of_session profile.marks ps answers) in
-    grind (arith, whole, some_or_none_of_all profile (session ∷ []), permits_alone profile session)
+    grind (arith, some_or_none_of_all profile (session ∷ []), permits_alone profile session, append-nil)

@@ -15,8 +15,7 @@ module _ (Stand : List Paired → Type 0) where
   one_run : (past : List Paired) (a b c : Unpaired) (answers others : List Judged) (ending other : Ending) → AreJudged Stand past a answers b → Ends b ending → ending ≢ bad PairMalformed
       → AreJudged Stand past a others c → Ends c other → other ≢ bad PairMalformed → (answers ≡ others) × (b ≡ c)
   one_run past a b c [] [] ending other p ends passed q also too = (refl, sym p ∙ q)
-  one_run past a b c (x ∷ answers) (y ∷ others) ending other (m, first, p) ends passed (k, second, q) also too =
-      grind (arith, one_judged, one_run (accepted_with past y) k b c answers others ending other)
+  one_run past a b c (x ∷ answers) (y ∷ others) ending other (m, first, p) ends passed (k, second, q) also too = grind (arith, one_run (accepted_with past y) k b c answers others ending, one_judged)
   one_run past a b c answers others ending other p ends passed q also too = grind arith
 
   -- two streams have one reading

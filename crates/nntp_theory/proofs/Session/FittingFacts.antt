@@ -47,13 +47,12 @@ row_fitting profile v at (down s is) f = let k = is f in (k.1, (k.1, tt))
 row_fitting profile v at (text what s is) f = (is f, tt)
 row_fitting profile v at (text_at what s is) f = let k = is f in (k.0, (k.1.1, tt))
 row_fitting profile v at (text_here what s is) f = let k = is f in (k.0, (k.1.1, (k.1.1, tt)))
-row_fitting profile v at (overview lines o one) f = (alone_agrees o, tt)
 row_fitting profile v at (overview_at lines o one is) f = (alone_agrees o, ((is f).1, tt))
 row_fitting profile v at (overview_here lines o one is) f = let k = is f in (alone_agrees o, (k.1, (k.1, tt)))
 row_fitting profile v at (active p lines is) f = (all_from _ (active_groups lines) (λ line. each_of (active_fits profile p) (active_groups lines) line (is f).0), tt)
 row_fitting profile v at (none_within code range is) f = (tt, tt)
 row_fitting profile v at (nothing a) f = tt
-row_fitting profile v at other f = (tt, tt)
+row_fitting profile v at other f = grind (arith, alone_agrees)
 
 -- what an answer that fits says
 pub answer_fitting : (profile : Profile) (v : Visible) (at : Position) (p : Asked) (a : Response) → IsTrue (fits profile v p a) → AllByRecursion (IsFitting profile) (facts_of profile.marks v at p a)

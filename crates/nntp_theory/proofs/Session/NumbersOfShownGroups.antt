@@ -54,8 +54,7 @@ row_placed profile all v at (text_at what s is) f stands h = (tt, (here_stands p
 row_placed profile all v at (text_here what s is) f stands h = let g = here_stands profile.marks all v stands (is f).1.0 in (tt, (g, (g, tt)))
 row_placed profile all v at (overview_at lines o one is) f stands h = (tt, (here_stands profile.marks all v stands (is f).0, tt))
 row_placed profile all v at (overview_here lines o one is) f stands h = let g = here_stands profile.marks all v stands (is f).0 in (tt, (g, (g, tt)))
-row_placed profile all v at (nothing a) f stands h = tt
-row_placed profile all v at other f stands h = (tt, tt)
+row_placed profile all v at other f stands h = grind arith
 
 -- what an answer that fits says of numbers, it says of a group that is there
 answer_placed : (profile : Profile) (all : List Fact) (v : Visible) (at : Position) (p : Asked) (a : Response) → IsTrue (fits profile v p a) → HasNoted profile.marks all v

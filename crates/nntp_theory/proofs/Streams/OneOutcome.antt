@@ -98,9 +98,8 @@ module _ (profile : Profile) (client : ClientStream) (server : List ℕ) (pairs 
       → BadAmong P profile client server (length pairs) × HasClass profile client server (length pairs) (class_by (fits profile v (asked_at pair.place) pair.response))
   bad_response P S spool p run none =
       let longer = AreNext-push pairs (streams client server) before after pair paired next in
-      let responses = map-append (λ (pair : Paired). pair.response) pairs (pair ∷ []) in
       let bad = bad_answer profile client server pairs pair before after paired next P S spool p in
-      grind (arith, bad, pairs_run, answer_has_class profile client server pairs pair before after paired next _ refl, same_visible)
+      grind (arith, bad, pairs_run, answer_has_class profile client server pairs pair before after paired next _ refl, same_visible, map-append)
 
   -- so at one that no spool permits behind them the outcome is a no
   pub outcome_at_response : SomePermits profile (asked_of pairs) (responses_of pairs) → (SomePermits profile (asked_of (pairs ++ pair ∷ [])) (responses_of (pairs ++ pair ∷ [])) → ⊥)

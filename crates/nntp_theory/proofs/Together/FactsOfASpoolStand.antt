@@ -156,8 +156,7 @@ module _ (limit : ℕ) (S : Spool) (facts : List Fact) (spool : IsSpool limit S)
   by_head : (id : Id) (told : Fields) (o : Option (List Line)) → ((lines : List Line) → o ≡ Some lines → HasPart (λ t. t.head) id lines)
       → option_map fields_of_head o ≡ Some told → HasPart fields id told
   unfolding HasPart
-  by_head id told (Some lines) p e = let q = p lines refl in (q.0, q.1, grind (arith, q))
-  by_head id told None p e = cc
+  by_head id told o p e = grind (arith, HasPart)
 
   -- and what one fact tells
   fields_by_one : (id : Id) (told : Fields) (fact : Fact) → Holds S fact → fields_in id fact ≡ Some told → HasPart fields id told
@@ -204,12 +203,11 @@ module _ (limit : ℕ) (S : Spool) (facts : List Fact) (spool : IsSpool limit S)
       all_from (λ line. IsGroupName line.name) lines
       (λ line i. spool.names line.name ((h.0 line.name).0
       (contains_in line.name (map (λ line. line.name) lines) (in_map (λ line. line.name) line lines i))).0)
-  well_formed (ThereIs name) h = spool.names name h
   well_formed (IdAt name n id) h = spool.ids id (spool.ids_have_articles name n id h)
   well_formed (TextIs what id lines) h = let a = article_of what id lines h in (spool.ids id (ap is_some a.1), sent_lines what id a.0 lines a.1 a.2)
   well_formed (FieldsAre os) h = all_from IsProperOverview os (λ o i. proper o (all_at (HasOverview S) o os h i))
   well_formed (OverviewsAre name r os) h = all_from IsProperOverview os (λ o i. proper o (all_at _ o os h.1 i).1)
-  well_formed fact h = tt
+  well_formed fact h = grind arith
 
   -- overviews tell of an id what its article tells
   fields_given : (os : List OverviewValue) → AllByRecursion (HasOverview S) os → (o : OverviewValue) → In o os → TellsOwn os o
