@@ -28,13 +28,9 @@ module _ (profile : Profile) (bad : Placed) (answers more : List Placed) where
   still : (places : List ℕ) → AreThere answers places → SomeHas profile (told_with profile bad answers places) → SomeHas profile (told_with profile bad (answers ++ more) places)
   still places there h = subst (SomeHas profile) (sym (told_still places there)) h
 
-  -- and stand at places of all answers
-  longer : (k : ℕ) → k < length answers → k < length (answers ++ more)
-  longer k l = let both = length-append answers more in omega (arith, l, both)
-
   core_still : (places : List ℕ) → IsCore profile bad answers places → IsCore profile bad (answers ++ more) places
   core_still places core = record {
-    there = all_from (λ k. k < length (answers ++ more)) places (λ k i. longer k (all_at (λ k. k < length answers) k places core.there i));
+    there = all_from (λ k. k < length (answers ++ more)) places (λ k i. (let both = length-append answers more in omega (arith, ((all_at (λ k. k < length answers) k places core.there i)), both)));
     conflict = λ h. core.conflict (subst (SomeHas profile) (told_still places core.there) h);
     needed = λ front back k e. still (front ++ back) (grind (arith, core.there, all_both, all_front, all_back)) (core.needed front back k e);
   }
@@ -56,7 +52,7 @@ module _ (profile : Profile) (bad : Placed) (answers more : List Placed) where
 
     end_still : IsEndOfCore profile bad (answers ++ more) bound places
     end_still = record {
-      there = all_from (λ k. (bound ≤ k) × (k < length (answers ++ more))) places (λ k i. grind (arith, all_at (λ k. (bound ≤ k) × (k < length answers)) k places end.there i, longer k));
+      there = all_from (λ k. (bound ≤ k) × (k < length (answers ++ more))) places (λ k i. grind (arith, all_at (λ k. (bound ≤ k) × (k < length answers)) k places end.there i, length-append));
       conflict = λ h. end.conflict (subst (SomeHas profile) (told_still (below bound ++ places) all_there) h);
       stand = still places those end.stand;
       in_each = λ these among none. end.in_each these among (λ h. none (still these (all_from (λ k. k < length answers) these

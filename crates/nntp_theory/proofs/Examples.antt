@@ -103,10 +103,6 @@ computed = assumption
 
 -- ---- which number is given more, and what falls
 
--- with one digit
-digit_invented : (n : ℕ) → n < 10 → invented n ≡ codes "<w" ++ ((48 + n) ∷ []) ++ codes "@invented.invalid>"
-digit_invented n small = ap (λ digits. codes "<w" ++ digits ++ codes "@invented.invalid>") (decimal_digit n small)
-
 record Given : Type 0 where
   -- as no number below 4 is known, the marks being lenient
   stepped_is_given_1 : IsOneMore (asks_of (codes "g") stepped) 1
@@ -128,7 +124,7 @@ given = record {
   seen_needs_none = λ n x. false≢true x.wanted;
   emptied_falls = λ h. grind arith;
   unasked_needs_none = λ n x. false≢true x.wanted;
-  one_is_invented = grind (arith, digit_invented);
+  one_is_invented = grind (arith, decimal_digit);
   repeated_falls = λ h. grind (arith, (h.ids_once (codes "g") (codes "<a@b>")).1.1.1.1.1.0);
   returned_needs_none = λ n x. true≢false (x.needed 2 refl);
 }

@@ -77,9 +77,6 @@ fields_keyed id fact fields e = grind (arith, same_or_not)
 words_keyed : (k : Id × Field) (fact : Fact) (words : List Word) → words_told k.0 k.1 fact ≡ Some words → In k (field_keys fact)
 words_keyed k fact words e = grind (arith, to_flat each_field k.0 k (article_keys fact), fields_keyed k.0 fact)
 
-article_keyed : (id : Id) (fact : Fact) → shows_article id fact ≡ true → In id (article_keys fact)
-article_keyed id fact t = grind (arith, same_or_not, found_in, in_map (λ (o : OverviewValue). o.id))
-
 -- nothing is given by any
 flat_none : {A B : Type 0} (f : A → List B) (xs : List A) → ((x : A) → In x xs → f x ≡ []) → flat_map f xs ≡ []
 flat_none f [] h = refl
@@ -163,9 +160,6 @@ module _ (facts : List Fact) where
     first_numbers = each_asked (AtRank 4) (λ asks. MeetsDemand (demand asks) (IsGivenNumber asks)) tt (λ name shown.
         elim (unmet_or_met (asks_of name facts) (given name shown).0 (given name shown).1) [ inl c ↦ inl (First name, refl, c) | inr met ↦ inr met ])
 
-    ids : AtRank 5 ⊎ ((k : Name × ℕ) → GiveOne (id_in k.0 k.1) facts)
-    ids = each_given number_keys (λ k. id_in k.0 k.1) dec_texts number_keyed (AtRank 5) (λ k c. (IdOf k.0 k.1, refl, c))
-
     places : AtRank 6 ⊎ ((k : Name × Id) → GiveOne (number_in k.0 k.1) facts)
     places = each_given place_keys (λ k. number_in k.0 k.1) cases_eq place_keyed (AtRank 6) (λ k c. (PlaceOf k.0 k.1, refl, c))
 
@@ -173,7 +167,7 @@ module _ (facts : List Fact) where
     articles =
         each_key (flat_map article_keys facts) (AtRank 7) (λ id. IsTrue (list_any (shows_article id) facts) → IsFalse (list_any (denies_article id) facts))
         (λ id. elim (cases_Bool (list_any (shows_article id) facts)) [
-          | inl t ↦ (let f = found_in (shows_article id) facts t in inl (to_flat article_keys f.0 id facts f.1 (article_keyed id f.0 f.2)))
+          | inl t ↦ (let f = found_in (shows_article id) facts t in inl (to_flat article_keys f.0 id facts f.1 (grind (arith, same_or_not, found_in, in_map (λ (o : OverviewValue). o.id)))))
           | inr f ↦ inr (λ t. grind (arith, true≢false))
         ])
         (λ id. elim (both_or_apart (list_any (shows_article id) facts) (list_any (denies_article id) facts)) [ inl h ↦ inl (Article id, refl, h) | inr free ↦ inr free ])
@@ -205,7 +199,7 @@ module _ (facts : List Fact) where
         next 2 below known_numbers (λ k name n h. true≢false (sym h.1 ∙ k name n h.0)) (λ k below.
         next 3 below counts (λ c name h. h.2 (c name h.0 h.1)) (λ c below.
         next 4 below first_numbers (λ m name h. h (m name)) (λ m below.
-        next 5 below ids (λ i name n h. h (i (name, n))) (λ i below.
+        next 5 below (each_given number_keys (λ k. id_in k.0 k.1) dec_texts number_keyed (AtRank 5) (λ k c. (IdOf k.0 k.1, refl, c))) (λ i name n h. h (i (name, n))) (λ i below.
         next 6 below places (λ p name id h. h (p (name, id))) (λ p below.
         next 7 below articles (λ a id h. true≢false (sym h.1 ∙ a id h.0)) (λ a below.
         next 8 below heads (λ t id h. h (t id)) (λ t below.

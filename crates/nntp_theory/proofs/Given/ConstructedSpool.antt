@@ -200,11 +200,6 @@ module _ (limit : ℕ) (B : ℕ) (facts : List Fact) where
   unfolding made
   made_article id = grind (arith, id_made id, get-made_of, in-made_of)
 
-  -- and the articles are the given ones
-  made_text : (id : Id) (t : Text) → get made.articles id ≡ Some t → t ≡ text_for id
-  unfolding made
-  made_text id t e = (get-made_of nat_list_cmp_total names_apart text_for made_ids id t e).1
-
   -- ---- invented ids
 
   module _ (small : (i : ℕ) → i < B → invented_number (invented i) ≡ i) where
@@ -268,12 +263,13 @@ module _ (limit : ℕ) (B : ℕ) (facts : List Fact) where
     -- what is made is the given spool, where each group has a free number within the limit
     pub made_is_given : ((name : Name) → IsTrue (is_shown_group facts name) → (e : ℕ) → IsOneMore (asks_of name facts) e
         → e ≤ limit) → length (mentioned facts) + length (unshown_ids facts made) < B → IsGiven facts made
+    unfolding made
     made_is_given low few = record {
       groups = made_group;
       numbers_given = λ name i. made_given name (low name ((made_group name).0 i)) i;
       ids_shown = made_ids_shown;
       ids_invented = made_invented few;
       articles = made_article;
-      heads = λ id t e. ap (λ t. t.head) (made_text id t e);
-      bodies = λ id t e. ap (λ t. t.body) (made_text id t e);
+      heads = λ id t e. ap (λ t. t.head) (((get-made_of nat_list_cmp_total names_apart text_for made_ids id t e).1));
+      bodies = λ id t e. ap (λ t. t.body) (((get-made_of nat_list_cmp_total names_apart text_for made_ids id t e).1));
     }

@@ -52,10 +52,6 @@ body_lines P lines h = grind arith
 own_id : (id : Id) (head : List Line) → says_own_id id head ≡ true → (said : Id) → said_id head ≡ Some said → said ≡ id
 own_id id head t said e = same_text said id (sym (subst (λ o. option_map_or (λ said. is_same said id) o true ≡ true) e t))
 
--- a head that is made for an id is one
-made_for : (id : Id) (told : Option Fields) → IsMessageId id → IfSome told AreWords → IsHeadOf id (made_head id told)
-made_for id told is words = grind (arith, octets id is, all_clean id (octets id is), octets, all_clean, made_is_head, field_lines_are_lines, and_from, made_says, append-nil, no_last_blanks)
-
 module _ (profile : Profile) (B : ℕ) (G : Spool) (facts : List Fact) (s : Setting profile B G facts) where
   -- a fact is well formed
   formed : (fact : Fact) → In fact facts → IsWellFormed fact
@@ -114,7 +110,7 @@ module _ (profile : Profile) (B : ℕ) (G : Spool) (facts : List Fact) (s : Sett
       let words = if_some told AreWords (λ fields e.
       let f = first_found (fields_in id) facts fields e in
       told_words id f.0 fields (formed f.0 f.1) (none_there (head_in id) facts f.0 f.1 none) f.2) in
-      made_for id told is words
+      (grind (arith, octets id is, all_clean id (octets id is), octets, all_clean, made_is_head, field_lines_are_lines, and_from, made_says, append-nil, no_last_blanks))
 
   -- the head of an id is one
   head_is : (id : Id) (t : Text) → get G.articles id ≡ Some t → IsHeadOf id t.head
@@ -124,10 +120,6 @@ module _ (profile : Profile) (B : ℕ) (G : Spool) (facts : List Fact) (s : Sett
       by None none = made_is id (is_id id (ap is_some e)) none
       by (Some lines) is = let f = first_found (head_in id) facts lines is in sent_head id lines f.0 (all_at (IsFitting profile) f.0 facts s.fitting f.1) (formed f.0 f.1) f.2
 
-  -- a body that was sent, or none
-  body_is : (id : Id) (t : Text) → get G.articles id ≡ Some t → AllByRecursion (λ line. IsTrue (is_line line)) t.body
-  body_is id t e = grind (arith, first_found, body_lines, formed)
-
   -- the given spool is a spool
   pub given_is_spool : IsSpool profile.limit G
   given_is_spool = record {
@@ -136,6 +128,6 @@ module _ (profile : Profile) (B : ℕ) (G : Spool) (facts : List Fact) (s : Sett
     one_to_one = one_number;
     ids_have_articles = λ name n id e. (s.given.articles id).1 (inl (name, n, e));
     ids = is_id;
-    heads = λ id t e. (let h = head_is id t e in (h.is_a_head, All-from_recursion _ (t.head ++ t.body) (all_both _ t.head t.body h.is_clean (body_is id t e))));
+    heads = λ id t e. (let h = head_is id t e in (h.is_a_head, All-from_recursion _ (t.head ++ t.body) (all_both _ t.head t.body h.is_clean (grind (arith, first_found, body_lines, formed)))));
     own_ids = λ id said t e says. (head_is id t e).own said says;
   }

@@ -41,10 +41,6 @@ pub some_said : (asks : List Ask) (n : ℕ) → IsGivenNumber asks n → IsTrue 
 some_said asks n h = grind (arith, or_cases, found_in, any_in, shows_some, and_parts, cases_Bool, true≢false, no_demand)
 
 module _ (asks : List Ask) (G : Numbers) (stand : AsksStand asks) (given : HasGivenNumbers asks G) where
-  -- a given number isn't denied
-  not_denied_in_G : (ask : Ask) → In ask asks → (n : ℕ) → IsNumber G n → IsFalse (denies ask n)
-  not_denied_in_G ask i n there = grind (arith, false_from_ne_true, true≢false, any_in)
-
   -- and what is shown is given
   shown_in_G : (ask : Ask) → In ask asks → (n : ℕ) → IsTrue (shows ask n) → IsNumber G n
   shown_in_G ask i n s = (given n).1 (inl (shown_known asks n (any_in (λ ask. shows ask n) ask asks i s)))
@@ -54,11 +50,11 @@ module _ (asks : List Ask) (G : Numbers) (stand : AsksStand asks) (given : HasGi
   demand_in_G ask i = demand_of_one (IsNumber G) ask asks i (same_demand (IsGivenNumber asks) (IsNumber G) (λ n. (given n).1) (λ n. (given n).0) (demand asks) stand.demand_met)
 
   meets_in_G : (ask : Ask) → In ask asks → IsTrue (is_possible ask) → IsFewFor G ask → Meets G ask
-  meets_in_G (Estimates Strict m) i p few = (few, λ n j. grind (arith, nat_tests, not_denied_in_G (Estimates Strict m) i n j), search (arith, or_right, and_from, some_said, any_in, or_left, eq-eqb))
+  meets_in_G (Estimates Strict m) i p few = (few, λ n j. grind (arith, nat_tests, false_from_ne_true, true≢false, any_in), search (arith, or_right, and_from, some_said, any_in, or_left, eq-eqb))
   meets_in_G (ListsIn r ns) i p few = λ n.
-      grind (arith, shown_in_G (ListsIn r ns) i n, not_denied_in_G (ListsIn r ns) i n, finds ns n, listed_in ns n, in_range_back r n, each_of (is_in_range r) ns n p, in_contains n ns)
-  meets_in_G (StandsAt First m) i p few = least_is G m (shown_in_G (StandsAt First m) i m (eq-eqb m m refl)) (λ n j. ltb-false n m (not_denied_in_G (StandsAt First m) i n j))
-  meets_in_G ask i p few = grind (arith, nat_tests, eqb-true, eq-eqb, not_denied_in_G ask i, shown_in_G ask i, demand_in_G ask i, firsts G)
+      grind (arith, shown_in_G (ListsIn r ns) i n, false_from_ne_true, true≢false, any_in, finds ns n, listed_in ns n, in_range_back r n, each_of (is_in_range r) ns n p, in_contains n ns)
+  meets_in_G (StandsAt First m) i p few = least_is G m (shown_in_G (StandsAt First m) i m (eq-eqb m m refl)) (λ n j. ltb-false n m (grind (arith, false_from_ne_true, true≢false, any_in)))
+  meets_in_G ask i p few = grind (arith, nat_tests, eqb-true, eq-eqb, false_from_ne_true, true≢false, any_in, shown_in_G ask i, demand_in_G ask i, firsts G)
 
   -- the given numbers meet what is asked of them
   pub given_meet : AllByRecursion (Meets G) asks

@@ -47,13 +47,10 @@ in_range_back r n h = grind (arith, and_from, le-leb)
 
 -- ---- what an answer shows is a number, and what it denies isn't
 
-shown_is_number : (N : Numbers) (ask : Ask) (n : ℕ) → Meets N ask → IsTrue (shows ask n) → IsNumber N n
-shown_is_number N ask n h i = grind (arith, listed_in, eqb-true, firsts)
-
 -- ---- of all that is asked
 
 pub shown_are_numbers : (N : Numbers) (asks : List Ask) (n : ℕ) → AllByRecursion (Meets N) asks → IsTrue (is_shown asks n) → IsNumber N n
-shown_are_numbers N asks n met s = grind (arith, found_in, all_at, shown_is_number)
+shown_are_numbers N asks n met s = grind (arith, found_in, all_at, listed_in, eqb-true, firsts)
 
 -- ---- the demand
 
@@ -103,7 +100,7 @@ shown_known asks n s = or_left (is_shown asks n) _ s
 
 -- where it is said that there is a number, there is one
 some_there : (N : Numbers) (ask : Ask) → Meets N ask → says_some ask ≡ true → (n : ℕ) × IsNumber N n
-some_there N (ListsIn r (m ∷ ns)) h t = (m, shown_is_number N (ListsIn r (m ∷ ns)) m h (or_left (m == m) _ (eq-eqb m m refl)))
+some_there N (ListsIn r (m ∷ ns)) h t = (m, (grind (arith, listed_in, eqb-true, firsts)))
 some_there N ask h t = elim (firsts N) [ Empty e none ↦ absurd (grind (arith, none)) | Begins c e here all ↦ (c, here) ]
 
 -- each number is known, or one of them is the one more

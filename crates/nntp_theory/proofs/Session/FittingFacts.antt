@@ -31,17 +31,11 @@ IsFitting profile fact = ⊤
 listed_fitting : (profile : Profile) (range : Range) (ns : List ℕ) → AreListed profile range ns → AllByRecursion (λ n. IsTrue (is_article_number profile.limit n)) ns
 listed_fitting profile range ns f = grind (arith, all_from, and_parts, each_of)
 
--- marks that fit are within the limit, and a low mark of 0 estimates no number
-marks_fitting : (profile : Profile) (v : Visible) (name : Name) (m : WaterMarks) → IsTrue (marks_fit profile v name m) → (m.high ≤ profile.limit) × (m.low ≡ 0 → m.estimate ≡ 0)
-marks_fitting profile v name m f = grind (arith, and_parts, or_cases, nat_tests)
-
 -- the facts of a row fit
 row_fitting : (profile : Profile) (v : Visible) (at : Position) {F : Type 0} {a : Response} {facts : List Fact} → Row profile v at F a facts → F → AllByRecursion (IsFitting profile) facts
-row_fitting profile v at (within range lines is) f =
-    let k = is f in
-    ((listed_fitting profile range (overview_numbers (overviews_of lines)) k.1, apart_agree (here v) range (overviews_of lines) k.1.0 k.2), tt)
-row_fitting profile v at (marks m name is) f = (tt, (marks_fitting profile v name m (is f), tt))
-row_fitting profile v at (listing m name range lines is) f = let k = is f in (tt, (marks_fitting profile v name m k.0, (listed_fitting profile range (listed_numbers lines) k.1, tt)))
+row_fitting profile v at (within range lines is) f = search (arith, is f, listed_fitting, apart_agree)
+row_fitting profile v at (marks m name is) f = (tt, ((grind (arith, and_parts, or_cases, nat_tests)), tt))
+row_fitting profile v at (listing m name range lines is) f = let k = is f in (tt, ((grind (arith, and_parts, or_cases, nat_tests)), (listed_fitting profile range (listed_numbers lines) k.1, tt)))
 row_fitting profile v at (up s is) f = let k = is f in (k.1, (k.1, tt))
 row_fitting profile v at (down s is) f = let k = is f in (k.1, (k.1, tt))
 row_fitting profile v at (text what s is) f = (is f, tt)

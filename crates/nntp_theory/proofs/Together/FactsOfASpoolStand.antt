@@ -164,11 +164,6 @@ module _ (limit : ℕ) (S : Spool) (facts : List Fact) (spool : IsSpool limit S)
   fields_by_one id told (OverviewsAre name r os) h e = grind (arith, fields_by_overviews id told os, all_from, all_at)
   fields_by_one id told fact h e = by_head id told (head_in id fact) (λ lines. head_by_one id lines fact h) e
 
-  -- an article has one such part
-  part_once : {A : Type 0} (part : Text → A) (id : Id) (x y : A) → HasPart part id x → HasPart part id y → x ≡ y
-  unfolding HasPart
-  part_once part id x y h g = grind arith
-
   -- a head that is sent is S's
   pub head_in_S : (id : Id) (lines : List Line) → first_given (head_in id) facts ≡ Some lines → (t : Text) × (get S.articles id ≡ Some t) × (t.head ≡ lines)
   unfolding HasPart
@@ -212,7 +207,7 @@ module _ (limit : ℕ) (S : Spool) (facts : List Fact) (spool : IsSpool limit S)
   -- overviews tell of an id what its article tells
   fields_given : (os : List OverviewValue) → AllByRecursion (HasOverview S) os → (o : OverviewValue) → In o os → TellsOwn os o
   unfolding HasPart
-  fields_given os h o i = grind (arith, first_there (fields_of_overview o.id) os o, same_itself, overview_text o, all_at (HasOverview S) o os h i, part_once fields o.id, fields_by_overviews)
+  fields_given os h o i = grind (arith, first_there (fields_of_overview o.id) os o, same_itself, overview_text o, all_at (HasOverview S) o os h i, HasPart, fields_by_overviews)
 
   -- overviews agree with one another, as S has one id at a number, and one number for an id
   agrees_with_itself : (fact : Fact) → Holds S fact → AgreesWithItself fact
@@ -233,6 +228,7 @@ module _ (limit : ℕ) (S : Spool) (facts : List Fact) (spool : IsSpool limit S)
 
   -- what is said stands together
   pub stand : Together facts
+  unfolding HasPart
   stand =
       record {
         well_formed = all_from IsWellFormed facts (λ fact i. well_formed fact (of_fact fact i));
@@ -244,7 +240,7 @@ module _ (limit : ℕ) (S : Spool) (facts : List Fact) (spool : IsSpool limit S)
         ids_once = λ name id. give_one (λ n. get (numbers S name) n ≡ Some id) (λ n m e f. spool.one_to_one name n m id e f)
             (number_in name id) facts (λ fact i n e. number_by_one name id n fact (of_fact fact i) e);
         articles = grind (arith, false_from_ne_true, found_in, article_denied, of_fact, article_by_one);
-        heads = λ id. give_one (HasPart (λ t. t.head) id) (part_once (λ t. t.head) id) (head_in id) facts (λ fact i lines e. head_by_one id lines fact (of_fact fact i) e);
-        fields = λ id. give_one (HasPart fields id) (part_once fields id) (fields_in id) facts (λ fact i told e. fields_by_one id told fact (of_fact fact i) e);
-        bodies = λ id. give_one (HasPart (λ t. t.body) id) (part_once (λ t. t.body) id) (body_in id) facts (λ fact i lines e. body_by_one id lines fact (of_fact fact i) e);
+        heads = λ id. give_one (HasPart (λ t. t.head) id) ((λ x y h g. grind arith)) (head_in id) facts (λ fact i lines e. head_by_one id lines fact (of_fact fact i) e);
+        fields = λ id. give_one (HasPart fields id) ((λ x y h g. grind arith)) (fields_in id) facts (λ fact i told e. fields_by_one id told fact (of_fact fact i) e);
+        bodies = λ id. give_one (HasPart (λ t. t.body) id) ((λ x y h g. grind arith)) (body_in id) facts (λ fact i lines e. body_by_one id lines fact (of_fact fact i) e);
       }

@@ -29,10 +29,6 @@ said_proper : (code : ℕ) (bytes : List ℕ) (block : Option (List (List ℕ)))
     ⊎ (SaysByLines SaysOverviews block response ⊎ (SaysByLines SaysIds block response ⊎ (SaysByLines (SaysCapabilities code) block response ⊎ SaysCode code response)))))) → IsProper response
 said_proper code bytes block response lines h = grind (arith, active_groups-named, all_from, all_at, overviews_of-named, overview_has_words)
 
--- and of one that they spell
-spelled_proper : (asked : Asked) (response : Response) (bytes : List ℕ) → Spells asked response bytes → are_octets bytes ≡ true → IsProper response
-spelled_proper asked response bytes s h = grind (arith, said_proper, octets-parts, says-ways, sent_lines)
-
 -- a row of such a response is well formed
 row_formed : {profile : Profile} {v : Visible} {at : Position} {Fits : Type 0} {a : Response} {facts : List Fact} → Row profile v at Fits a facts → IsProper a → AllByRecursion IsWellFormed facts
 row_formed r h = grind arith
@@ -40,4 +36,4 @@ row_formed r h = grind arith
 -- what octets spell says well-formed facts
 pub spelled_formed : (how : Marks) (v : Visible) (at : Position) (asked : Asked) (response : Response) (bytes : List ℕ)
     → Spells asked response bytes → IsTrue (are_octets bytes) → AllByRecursion IsWellFormed (facts_of how v at asked response)
-spelled_formed how v at asked response bytes s h = row_formed (row (record { limit = 0; marks = how }) v at asked response) (spelled_proper asked response bytes s h)
+spelled_formed how v at asked response bytes s h = row_formed (row (record { limit = 0; marks = how }) v at asked response) (grind (arith, said_proper, octets-parts, says-ways, sent_lines))
