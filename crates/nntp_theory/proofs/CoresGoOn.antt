@@ -30,31 +30,25 @@ module _ (profile : Profile) (bad : Placed) (answers more : List Placed) where
 
   core_still : (places : List ℕ) → IsCore profile bad answers places → IsCore profile bad (answers ++ more) places
   core_still places core = record {
-    there = all_from (λ k. k < length (answers ++ more)) places (λ k i. (let both = length-append answers more in omega (arith, ((all_at (λ k. k < length answers) k places core.there i)), both)));
+    there = all_from (λ k. k < length (answers ++ more)) places (λ k i. (let both = length-append answers more in omega (arith, (all_at (λ k. k < length answers) k places core.there i), both)));
     conflict = λ h. core.conflict (subst (SomeHas profile) (told_still places core.there) h);
     needed = λ front back k e. still (front ++ back) (grind (arith, core.there, all_both, all_front, all_back)) (core.needed front back k e);
   }
 
   module _ (bound : ℕ) (places : List ℕ) (some : 0 < length places) (end : IsEndOfCore profile bad answers bound places) where
-    those : AreThere answers places
-    those = all_from (λ k. k < length answers) places (λ k i. (all_at (λ k. (bound ≤ k) × (k < length answers)) k places end.there i).1)
-
     -- the bound is at a place of these
     pub bound_there : bound < length answers
-    bound_there = by places some end.there
-      where
-        by : (places : List ℕ) → 0 < length places → AllByRecursion (λ k. (bound ≤ k) × (k < length answers)) places → bound < length answers
-        by [] some there = absurd (omega (arith, some))
-        by (k ∷ places) some there = let le = there.0.0 in let l = there.0.1 in omega (arith, le, l)
+    bound_there = elim places as (λ places. 0 < length places → AllByRecursion (λ k. (bound ≤ k) × (k < length answers)) places → bound < length answers)
+        [ [] ↦ λ some there. absurd (omega arith) | k ∷ places ↦ λ some there. grind arith ] some end.there
 
     pub all_there : AreThere answers (below bound ++ places)
-    all_there = grind (arith, all_both, all_from, from_below, bound_there, those)
+    all_there = grind (arith, all_both, all_from, from_below, bound_there, all_at)
 
     end_still : IsEndOfCore profile bad (answers ++ more) bound places
     end_still = record {
       there = all_from (λ k. (bound ≤ k) × (k < length (answers ++ more))) places (λ k i. grind (arith, all_at (λ k. (bound ≤ k) × (k < length answers)) k places end.there i, length-append));
       conflict = λ h. end.conflict (subst (SomeHas profile) (told_still (below bound ++ places) all_there) h);
-      stand = still places those end.stand;
+      stand = still places (grind (arith, all_from, all_at)) end.stand;
       in_each = λ these among none. end.in_each these among (λ h. none (still these (all_from (λ k. k < length answers) these
           (λ k i. grind (arith, all_at (λ k. k < length answers) k (below bound ++ places) all_there, in_contains, among k, contains_in k these i))) h));
     }

@@ -172,12 +172,6 @@ module _ (facts : List Fact) where
         ])
         (λ id. elim (both_or_apart (list_any (shows_article id) facts) (list_any (denies_article id) facts)) [ inl h ↦ inl (Article id, refl, h) | inr free ↦ inr free ])
 
-    heads : AtRank 8 ⊎ ((id : Id) → GiveOne (head_in id) facts)
-    heads = each_given article_keys head_in dec_lists (λ id fact lines e. grind (arith, same_or_not)) (AtRank 8) (λ id c. (HeadOf id, refl, c))
-
-    bodies : AtRank 9 ⊎ ((id : Id) → GiveOne (body_in id) facts)
-    bodies = each_given article_keys body_in dec_lists (λ id fact lines e. grind (arith, same_or_not)) (AtRank 9) (λ id c. (BodyOf id, refl, c))
-
     fields : AtRank 10 ⊎ ((k : Id × Field) → GiveOne (words_told k.0 k.1) facts)
     fields = each_given field_keys (λ k. words_told k.0 k.1) dec_lists words_keyed (AtRank 10) (λ k c. (FieldOf k.0 k.1, refl, c))
 
@@ -202,8 +196,8 @@ module _ (facts : List Fact) where
         next 5 below (each_given number_keys (λ k. id_in k.0 k.1) dec_texts number_keyed (AtRank 5) (λ k c. (IdOf k.0 k.1, refl, c))) (λ i name n h. h (i (name, n))) (λ i below.
         next 6 below places (λ p name id h. h (p (name, id))) (λ p below.
         next 7 below articles (λ a id h. true≢false (sym h.1 ∙ a id h.0)) (λ a below.
-        next 8 below heads (λ t id h. h (t id)) (λ t below.
-        next 9 below bodies (λ o id h. h (o id)) (λ o below.
+        next 8 below (each_given article_keys head_in dec_lists (λ id fact lines e. grind (arith, same_or_not)) (AtRank 8) (λ id c. (HeadOf id, refl, c))) (λ t id h. h (t id)) (λ t below.
+        next 9 below (each_given article_keys body_in dec_lists (λ id fact lines e. grind (arith, same_or_not)) (AtRank 9) (λ id c. (BodyOf id, refl, c))) (λ o id h. h (o id)) (λ o below.
         next 10 below fields (λ w id field h. h (w (id, field))) (λ w below. inr (record {
           well_formed = formed;
           lists = lists;

@@ -181,8 +181,7 @@ module _ (limit : ℕ) (B : ℕ) (facts : List Fact) where
       | inl j ↦
           let g = from_flat ids_of id (entries made_groups) j in
           let e = from_map (λ (e : ℕ × Id). e.1) id (entries g.0.1) g.2 in
-          let at = in_get nat_list_cmp_total names_apart made_groups g.0.0 g.0.1 g.1 in
-          inl (g.0.0, e.0.0, grind (arith, at, e, in_get nat_cmp_total nat_cmp-IsAntisymmetric g.0.1 e.0.0 e.0.1))
+          inl (g.0.0, e.0.0, grind (arith, in_get nat_list_cmp_total names_apart made_groups g.0.0 g.0.1 g.1, e, in_get nat_cmp_total nat_cmp-IsAntisymmetric g.0.1 e.0.0 e.0.1))
       | inr j ↦ (let f = from_flat sent_in id facts j in inr (any_in (gives_article id) f.0 facts f.1 ((sent_if id f.0).0 f.2)))
     ],
     λ h. elim h [
@@ -255,11 +254,6 @@ module _ (limit : ℕ) (B : ℕ) (facts : List Fact) where
     groups_invented [] k = λ done used few. tt
     groups_invented (g ∷ gs) k = grind (arith, entries_group, ids_invented, groups_invented gs)
 
-    -- the ids are invented in turn
-    made_invented : length (mentioned facts) + length (unshown_ids facts made) < B → AreInvented facts 0 (unshown_ids facts made)
-    unfolding made
-    made_invented few = grind (arith, entries_groups, groups_invented (keys name_map) 0)
-
     -- what is made is the given spool, where each group has a free number within the limit
     pub made_is_given : ((name : Name) → IsTrue (is_shown_group facts name) → (e : ℕ) → IsOneMore (asks_of name facts) e
         → e ≤ limit) → length (mentioned facts) + length (unshown_ids facts made) < B → IsGiven facts made
@@ -268,8 +262,8 @@ module _ (limit : ℕ) (B : ℕ) (facts : List Fact) where
       groups = made_group;
       numbers_given = λ name i. made_given name (low name ((made_group name).0 i)) i;
       ids_shown = made_ids_shown;
-      ids_invented = made_invented few;
+      ids_invented = grind (arith, entries_groups, groups_invented (keys name_map) 0);
       articles = made_article;
-      heads = λ id t e. ap (λ t. t.head) (((get-made_of nat_list_cmp_total names_apart text_for made_ids id t e).1));
-      bodies = λ id t e. ap (λ t. t.body) (((get-made_of nat_list_cmp_total names_apart text_for made_ids id t e).1));
+      heads = λ id t e. ap (λ t. t.head) ((get-made_of nat_list_cmp_total names_apart text_for made_ids id t e).1);
+      bodies = λ id t e. ap (λ t. t.body) ((get-made_of nat_list_cmp_total names_apart text_for made_ids id t e).1);
     }

@@ -126,8 +126,7 @@ module _ (profile : Profile) (B : ℕ) (G : Spool) (facts : List Fact) (s : Sett
           λ g. grind (arith, contains_in, in_listed, not_denied_group name (GroupsAre p lines) i, matching name p),
         ),
         All-from_recursion (λ line. Meets (numbers G line.name) (Bounds line.low line.high)) lines (all_from _ lines (λ line j.
-            let met = all_part (Meets (numbers G line.name)) _ line lines j (asked line.name (GroupsAre p lines) i (listed line j)) in
-            grind (arith, met, same_itself line.name))),
+            grind (arith, all_part (Meets (numbers G line.name)) _ line lines j (asked line.name (GroupsAre p lines) i (listed line j)), same_itself line.name))),
       )
 
   -- an article of G is as an overview tells

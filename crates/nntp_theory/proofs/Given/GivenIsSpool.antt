@@ -106,8 +106,7 @@ module _ (profile : Profile) (B : ℕ) (G : Spool) (facts : List Fact) (s : Sett
   -- a head that is made is one
   made_is : (id : Id) → IsMessageId id → first_given (head_in id) facts ≡ None → IsHeadOf id (made_head id (first_given (fields_in id) facts))
   made_is id is none =
-      let told = first_given (fields_in id) facts in
-      let words = if_some told AreWords (λ fields e.
+      let words = if_some (first_given (fields_in id) facts) AreWords (λ fields e.
       let f = first_found (fields_in id) facts fields e in
       told_words id f.0 fields (formed f.0 f.1) (none_there (head_in id) facts f.0 f.1 none) f.2) in
       (grind (arith, octets id is, all_clean id (octets id is), octets, all_clean, made_is_head, field_lines_are_lines, and_from, made_says, append-nil, no_last_blanks))

@@ -56,8 +56,7 @@ same_groups facts k (g ∷ gs) (h ∷ hs) names ag ah ks p q =
     let one = same_group facts g.0 k (entries g.1) (entries h.1) (flat_map (ids_of facts) gs) (flat_map (ids_of facts) hs) (ks g.0 g.1 h.1 (inl refl) other) (ag g.0 g.1 (inl refl)) (ah g.0 h.1 other)
     p (subst (λ n. AreInvented facts k (unshown_in facts n (entries h.1) ++ flat_map (ids_of facts) hs)) (sym name) q) in
     let numbers : g.1 ≡ h.1 = same_entries_map g.1 h.1 one.0 in
-    let more = same_groups facts one.1.0 gs hs rest (λ n N i. ag n N (inr i)) (λ n N i. ah n N (inr i)) (λ n N M i j. ks n N M (inr i) (inr j)) one.1.1 one.1.2 in
-    λ i. (name i, numbers i) ∷ more i
+    λ i. (name i, numbers i) ∷ (same_groups facts one.1.0 gs hs rest (λ n N i. ag n N (inr i)) (λ n N i. ah n N (inr i)) (λ n N M i j. ks n N M (inr i) (inr j)) one.1.1 one.1.2) i
 same_groups facts k gs hs names ag ah ks p q = cc
 
 module _ (facts : List Fact) (G H : Spool) (given : IsGiven facts G) (other : IsGiven facts H) where
@@ -71,7 +70,7 @@ module _ (facts : List Fact) (G H : Spool) (given : IsGiven facts G) (other : Is
 
   -- a group has the same numbers in both
   same_numbers : (name : Name) (N M : Numbers) → In (name, N) (entries G.groups) → In (name, M) (entries H.groups) → keys N ≡ keys M
-  same_numbers name N M i j = grind (arith, numbers_at, numbers_at, same_keys nat_cmp_total nat_cmp-IsAntisymmetric N M)
+  same_numbers name N M i j = grind (arith, numbers_at, same_keys nat_cmp_total nat_cmp-IsAntisymmetric N M)
 
   -- the groups are the same
   groups_alike : G.groups ≡ H.groups

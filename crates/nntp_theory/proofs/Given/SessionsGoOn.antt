@@ -45,11 +45,7 @@ module _ (profile : Profile) (earlier : List Answered) (ps : List Asked) (answer
       let grown = fitting_grows profile start.visible ps answers asked response comes in
       let agrees = answer_agrees profile.marks (visible_from start.visible ps answers) (position_from Nowhere ps answers) asked response in
       let joins = together_more all new (subst Together (facts_behind profile.marks earlier past) before.1) agrees in (
-        λ g.
-            let s = stand_each profile g.0 (earlier ++ next ∷ []) g.1 g.2 in
-            let own = all_back Fits earlier (next ∷ []) s.0 in
-            let f = grown.0 own.0 in
-            (f.1, f.2, joins.0 (subst Together said_next s.1)),
+        (grind (arith, stand_each, all_back, said_next)),
         λ j. (permitted_together_of_all profile (earlier ++ next ∷ []) small).1 (
           all_both Fits earlier (next ∷ []) (all_front Fits earlier (past ∷ []) before.0) (grown.1 ((all_back Fits earlier (past ∷ []) before.0).0, j.0, j.1), tt),
           subst Together (sym said_next) (joins.1 j.2),

@@ -77,7 +77,6 @@ module _ (facts : List Fact) (placed : AllByRecursion (Placed Strict facts) fact
   -- so there is no one more: where a number would do, the low mark does
   pub none_more : (name : Name) (n : ℕ) → IsOneMore (asks_of name facts) n → ⊥
   none_more name n x =
-      let m = marked name (some_said (asks_of name facts) n (inr x)) in
-      let known : IsTrue (is_known (asks_of name facts) m.0.low) =
+      let known : IsTrue (is_known (asks_of name facts) (marked name (some_said (asks_of name facts) n (inr x))).0.low) =
       grind (arith, some_said (asks_of name facts) n (inr x), or_right, and_from, any_in, or_left, eq-eqb) in
       grind (arith, cases_lt, true≢false, any_in, or_left, lt-ltb, wants_less)

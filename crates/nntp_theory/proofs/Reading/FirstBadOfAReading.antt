@@ -67,8 +67,7 @@ pub good_explained : (profile : Profile) (client : ClientStream) (server : List 
     → IsGood answers ending → HasExplanation profile client server
 good_explained profile client server answers ending reading (all, unanswered, ends) =
     let pairs = accepted_of answers in
-    let same : IsReading profile client server (map Accepted pairs) (end unanswered) = grind arith in
-    let both = all_paired (ArePermitted profile) client server pairs (end unanswered) (none_accepted profile) same in
+    let both = all_paired (ArePermitted profile) client server pairs (end unanswered) (none_accepted profile) (grind arith) in
     let p = (pairs_permitted profile client server pairs both.0.left both.0.paired).1 ((permits_alone profile (exchanged pairs)).0 both.1) in
     (p.0, length pairs, explained_end profile p.0 client server pairs unanswered both.0 p.1 p.2)
 

@@ -77,6 +77,5 @@ some_reading profile client server small = some_reading_by (ArePermitted profile
   where
     decided : (past : List Paired) → weight (responses_of past) ≤ length server → ArePermitted profile past ⊎ (ArePermitted profile past → ⊥)
     decided past light =
-        let all = session_size profile.marks (asked_of past) (responses_of past) in
-        elim (some_or_none profile (asked_of past) (responses_of past) (omega (arith, all, light, small)))
+        elim (some_or_none profile (asked_of past) (responses_of past) (omega (arith, session_size, light, small)))
         [ inl h ↦ inl ((permits_alone profile (exchanged past)).1 h) | inr none ↦ inr (λ h. none ((permits_alone profile (exchanged past)).0 h)) ]

@@ -160,7 +160,5 @@ pub explained_or_bad : (profile : Profile) (client : ClientStream) (server : Lis
 explained_or_bad profile client server small =
     let base = none_permitted profile (prompts_of client) [] in
     elim (explained_or_bad_among (λ S. ⊤) profile client server (base.0, base.1, tt, tt) (λ answers octets rest spelled whole.
-    let most = session_size profile.marks (prompts_of client) answers in
-    let all = ap length whole ∙ length-append octets rest in
-    elim (some_or_none profile (prompts_of client) answers (omega (arith, most, all, light (prompts_of client) answers octets spelled)))
+    elim (some_or_none profile (prompts_of client) answers (omega (arith, session_size, ap length whole ∙ length-append octets rest, light (prompts_of client) answers octets spelled)))
     [ inl h ↦ inl (h.0, h.1, tt, h.2) | inr none ↦ inr (λ h. none (h.0, h.1, h.3)) ])) [ inl x ↦ inl (x.0, x.1, x.3) | inr bad ↦ inr bad ]

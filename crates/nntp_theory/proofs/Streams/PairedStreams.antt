@@ -48,8 +48,7 @@ module _ (profile : Profile) (client : ClientStream) (server : List ℕ) (pairs 
   permitted T (more, y) = let spelled = (pairs-spelled client server pairs before paired).0 in
       let a = count pairs in
       let m = one_more (prompts_of client) (responses_of pairs) y.answers spelled.0 y.octets before.server more spelled.1 y.spelled (sym spelled.2 ∙ y.whole) (omega arith) in
-      let front = frame_octets pair.initial next.answered.block in
-      grind (arith, asked_is, one-spelling (asked_at pair.place) m.response pair.response m.front front more after.server)
+      grind (arith, asked_is, one-spelling (asked_at pair.place) m.response pair.response m.front (frame_octets pair.initial next.answered.block) more after.server)
 
   -- the answer is bad among the spools with P, if none of them permits it behind those that one of them permits
   pub bad_answer : (P : Spool → Type 0) (S : Spool) → IsSpool profile.limit S → P S → Run profile S start (prompts_of client) (responses_of pairs)

@@ -240,7 +240,7 @@ module _ (limit : ℕ) (S : Spool) (facts : List Fact) (spool : IsSpool limit S)
         ids_once = λ name id. give_one (λ n. get (numbers S name) n ≡ Some id) (λ n m e f. spool.one_to_one name n m id e f)
             (number_in name id) facts (λ fact i n e. number_by_one name id n fact (of_fact fact i) e);
         articles = grind (arith, false_from_ne_true, found_in, article_denied, of_fact, article_by_one);
-        heads = λ id. give_one (HasPart (λ t. t.head) id) ((λ x y h g. grind arith)) (head_in id) facts (λ fact i lines e. head_by_one id lines fact (of_fact fact i) e);
-        fields = λ id. give_one (HasPart fields id) ((λ x y h g. grind arith)) (fields_in id) facts (λ fact i told e. fields_by_one id told fact (of_fact fact i) e);
-        bodies = λ id. give_one (HasPart (λ t. t.body) id) ((λ x y h g. grind arith)) (body_in id) facts (λ fact i lines e. body_by_one id lines fact (of_fact fact i) e);
+        heads = λ id. give_one (HasPart (λ t. t.head) id) (λ x y h g. grind arith) (head_in id) facts (λ fact i lines e. head_by_one id lines fact (of_fact fact i) e);
+        fields = λ id. give_one (HasPart fields id) (λ x y h g. grind arith) (fields_in id) facts (λ fact i told e. fields_by_one id told fact (of_fact fact i) e);
+        bodies = λ id. give_one (HasPart (λ t. t.body) id) (λ x y h g. grind arith) (body_in id) facts (λ fact i lines e. body_by_one id lines fact (of_fact fact i) e);
       }
