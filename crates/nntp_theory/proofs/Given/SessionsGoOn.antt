@@ -33,10 +33,6 @@ module _ (profile : Profile) (earlier : List Answered) (ps : List Asked) (answer
   abbrev new : List Fact
   new = facts_of profile.marks (visible_from start.visible ps answers) (position_from Nowhere ps answers) asked response
 
-  -- what is said with it
-  said_next : facts_of_all profile.marks (earlier ++ next ∷ []) ≡ all ++ new
-  said_next = grind (arith, facts_behind, facts_grow, append_assoc)
-
   -- behind sessions that some spool permits, some spool permits it exactly if it fits its session and what it says joins what all said
   pub permitted_more_behind : size (facts_of_all profile.marks (earlier ++ next ∷ [])) < 2 ^ 210 → SomePermitsEach profile (earlier ++ past ∷ []) → SomePermitsEach profile (earlier ++ next ∷ [])
       ↔ (((visible_from start.visible ps answers).closed ≡ false) × IsTrue (fits profile (visible_from start.visible ps answers) asked response) × Join all new)
@@ -45,10 +41,10 @@ module _ (profile : Profile) (earlier : List Answered) (ps : List Asked) (answer
       let grown = fitting_grows profile start.visible ps answers asked response comes in
       let agrees = answer_agrees profile.marks (visible_from start.visible ps answers) (position_from Nowhere ps answers) asked response in
       let joins = together_more all new (subst Together (facts_behind profile.marks earlier past) before.1) agrees in (
-        (grind (arith, stand_each, all_back, said_next)),
+        (grind (arith, stand_each, all_back, facts_behind, facts_grow, append_assoc)),
         λ j. (permitted_together_of_all profile (earlier ++ next ∷ []) small).1 (
           all_both Fits earlier (next ∷ []) (all_front Fits earlier (past ∷ []) before.0) (grown.1 ((all_back Fits earlier (past ∷ []) before.0).0, j.0, j.1), tt),
-          subst Together (sym said_next) (joins.1 j.2),
+          subst Together (sym (grind (arith, facts_behind, facts_grow, append_assoc))) (joins.1 j.2),
         ),
       )
     where
