@@ -1,5 +1,5 @@
 -- A spool permits a session exactly if each answer fits and all that the answers say holds of it.
-use Rattle.nntp_wire.specs.{declared.marks.Marks.{Marks}, Answer.{Asked, Response, to, plain}}
+use Rattle.nntp_wire.specs.{declared.marks.Marks.{Marks}, Answer.{Asked, Response}}
 use Rattle.std.proofs.{Common.{◌≡◌, false, ◌↔◌, IsTrue, List, [], ◌∷◌, ◌++◌, arith}, lemmas.Bool.{and_parts, or_cases, eqb-true, true≢false}}
 use Rattle.std.{proofs.lemmas.Bool.Decides.{nat_tests}, specs.List.{AllByRecursion}}
 use Rattle.nntp_article.specs.{Session.{Spool.{Spool}, Machine.{Visible, Agrees, MayAnswer, visible_after, fits}}, declared.session.profile.Profile.{Profile}}
@@ -25,14 +25,12 @@ all_back P (x ∷ xs) ys h = all_back P xs ys h.1
 
 -- from that it agrees
 facts_hold : (how : Marks) (S : Spool) (v : Visible) (at : Position) (p : Asked) (a : Response) → Agrees how S (state_at S v at) p a → AllByRecursion (Holds S) (facts_of how v at p a)
-facts_hold how S v at (to command) (plain code) h = grind (arith, eqb-true, none_cases)
-facts_hold how S v at p a h = grind arith
+facts_hold how S v at p a h = grind (arith, eqb-true, none_cases)
 
 -- and back, where it fits
 agrees_from : (profile : Profile) (S : Spool) (v : Visible) (at : Position) (p : Asked) (a : Response) → IsTrue (fits profile v p a) → AllByRecursion (Holds S) (facts_of profile.marks v at p a)
     → Agrees profile.marks S (state_at S v at) p a
-agrees_from profile S v at (to command) (plain code) f h = grind (arith, and_parts, or_cases, eqb-true, none_cases, nat_tests, true≢false)
-agrees_from profile S v at p a f h = grind arith
+agrees_from profile S v at p a f h = grind (arith, and_parts, or_cases, eqb-true, none_cases, nat_tests, true≢false)
 
 -- an answer that fits, where the connection is open, is permitted exactly if what it says holds
 pub may_by_facts : (profile : Profile) (S : Spool) (v : Visible) (at : Position) (p : Asked) (a : Response) → v.closed ≡ false → IsTrue (fits profile v p a)
@@ -43,7 +41,6 @@ may_by_facts profile S v at p a is_open f = (λ h. record { is_open = is_open; f
 pub permits_by_facts : (profile : Profile) (S : Spool) (v : Visible) (at : Position) (ps : List Asked) (answers : List Response)
     → RunsAt profile S v at ps answers ↔ (FitsAll profile v ps answers × AllByRecursion (Holds S) (facts_from profile.marks v at ps answers))
 permits_by_facts profile S v at (p ∷ ps) (a ∷ more) =
-    let rest = permits_by_facts profile S (visible_after v p a) (position_after at p a) ps more in
-    grind (arith, rest, facts_hold, agrees_from, all_both, all_front, all_back)
+    grind (arith, permits_by_facts profile S (visible_after v p a) (position_after at p a) ps more, facts_hold, agrees_from, all_both, all_front, all_back)
 permits_by_facts profile S v at ps [] = grind arith
 permits_by_facts profile S v at ps answers = grind arith

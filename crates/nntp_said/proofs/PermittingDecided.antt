@@ -6,9 +6,9 @@ use Rattle.std.{proofs.lemmas.{Map.Lookups.{exact_bytes, CmpEqualImpliesEq}, Lis
 use Rattle.std.specs.{Prelude.{IfSome, Contains, option_map, MatchOption}, List.{list_any, list_all}, Ordering.{eq_by_cmp}, Cmp.{IsTotalOrder, nat_cmp_total}}
 use Rattle.std.specs.{Cmp.{eq_by_cmp_equiv, Lexicographic.{nat_list_cmp_total}}, FinMap.{FinMap, get, len, IsAntisymmetric, nat_cmp-IsAntisymmetric}}
 use Rattle.std.specs.{FinMap.{slice_cmp-IsAntisymmetric}, declared.cmp.Ordering.{Ordering}}
-use Rattle.nntp_article.specs.Session.Spool.{Spool, Numbers, IsNumber, numbers, IsNextAbove, IsNextBelow, NoneAbove, NoneBelow, Lists, IsInRange, text_of}
-use Rattle.nntp_article.specs.Session.Machine.{HasOverview, overview_numbers, Visible, State, ActivesAgree, Run, fits, visible_after}
-use Rattle.nntp_article.specs.{declared.session.profile.Profile.{Profile}, Article.Fields.{fields_of_head}}
+use Rattle.nntp_article.specs.Session.{Spool.{Spool, Numbers, IsNumber, numbers, Lists, IsInRange, text_of}, Machine.{HasOverview, Visible, State}}
+use Rattle.nntp_article.specs.{Session.Machine.{ActivesAgree, Run, fits, visible_after}, declared.session.profile.Profile.{Profile}}
+use Rattle.nntp_article.specs.Article.Fields.{fields_of_head}
 use Rattle.nntp_wire.specs.{Listing.{Fields, ActiveValue, OverviewValue}, Answer.{Asked, Response}, declared.range.Range.{Range}, Wildmat.{MatchesName}}
 use Rattle.nntp_wire.{specs.Decided.{matches_name}, proofs.{DecidedLemmas.{matches_name-iff}, OptionLemmas.{none_of}}}
 use Rattle.nntp_said.specs.Asks.{Ask, Meets, Bounds, Estimates, ListsIn, Has, Lacks, StandsAt, StandsNowhere, StepsUp, StepsDown, IsTop, IsBottom, current_in}
@@ -20,23 +20,8 @@ use Rattle.nntp_said.proofs.FiniteMapsDecided.{dec_none, each_key, dec_some, dec
 each_number : (N : Numbers) (p : ℕ → Bool) → Dec ((n : ℕ) → IsNumber N n → IsTrue (p n))
 each_number N p = each_key nat_cmp_total nat_cmp-IsAntisymmetric p N
 
-dec_none_above : (N : Numbers) (c : ℕ) → Dec (NoneAbove N c)
-dec_none_above N c = grind (arith, nat_tests, none_of, each_number N (λ m. nat_le m c))
-
-dec_none_below : (N : Numbers) (c : ℕ) → Dec (NoneBelow N c)
-dec_none_below N c = grind (arith, nat_tests, none_of, each_number N (λ m. nat_le c m))
-
 dec_between : (N : Numbers) (low high : ℕ) → Dec ((n : ℕ) → IsNumber N n → (low ≤ n) × (n ≤ high))
 dec_between N low high = grind (arith, nat_tests, and_parts, and_from, each_number N (λ n. nat_le low n && nat_le n high))
-
-dec_next_above : (N : Numbers) (c n : ℕ) → Dec (IsNextAbove N c n)
-dec_next_above N c n = grind (arith, nat_tests, or_cases, or_left, or_right, dec_true (is_some (get N n)), cases_lt, each_number N (λ m. nat_le m c || nat_le n m))
-
-dec_next_below : (N : Numbers) (c n : ℕ) → Dec (IsNextBelow N c n)
-dec_next_below N c n = grind (arith, nat_tests, or_cases, or_left, or_right, dec_true (is_some (get N n)), cases_lt, each_number N (λ m. nat_le c m || nat_le m n))
-
-dec_in_range : (r : Range) (n : ℕ) → Dec (IsInRange r n)
-dec_in_range r n = grind (arith, cases_lt)
 
 abbrev test_of : {P : Type 0} → Dec P → Bool
 test_of (inl p) = true
@@ -44,9 +29,6 @@ test_of (inr p) = false
 
 from_test : {P : Type 0} (d : Dec P) → IsTrue (test_of d) → P
 from_test d h = grind arith
-
-to_test : {P : Type 0} (d : Dec P) → P → IsTrue (test_of d)
-to_test d h = grind arith
 
 module _ {K : Type 0} {R : K → K → Ordering} (o : IsTotalOrder R) (exact : CmpEqualImpliesEq R) where
   among : (ns : List K) (n : K) → Dec (Contains ns n)
@@ -65,11 +47,11 @@ dec_same_keys : {K X : Type 0} {R : K → K → Ordering} (o : IsTotalOrder R) (
 dec_same_keys o same exact m P d ks =
     dec_by
     (λ h q. (λ c. from_test (dec_both (dec_true (is_some (get m q))) (d q)) (h.0 q c), λ i. from_test (dec_to (d q) (among o exact ks q)) (h.1 q i.0) i.1))
-    (λ h. (λ q c. to_test (dec_both (dec_true (is_some (get m q))) (d q)) ((h q).0 c), λ q i. to_test (dec_to (d q) (among o exact ks q)) (λ g. (h q).1 (i, g))))
+    (λ h. (λ q c. grind arith, λ q i. grind arith))
     (dec_both (each_listed o exact same ks (λ q. test_of (dec_both (dec_true (is_some (get m q))) (d q)))) (each_key o same (λ q. test_of (dec_to (d q) (among o exact ks q))) m))
 
 dec_listing : (N : Numbers) (r : Range) (ns : List ℕ) → Dec (Lists N r ns)
-dec_listing N r ns = dec_same_keys nat_cmp_total nat_cmp-IsAntisymmetric exact_unsigned N (IsInRange r) (dec_in_range r) ns
+dec_listing N r ns = dec_same_keys nat_cmp_total nat_cmp-IsAntisymmetric exact_unsigned N (IsInRange r) (λ n. grind (arith, cases_lt)) ns
 
 dec_match : {A : Type 0} (o : Option A) (Q : A → Type 0) → ((x : A) → Dec (Q x)) → Dec (MatchOption o ⊥ Q)
 dec_match o Q d = grind arith
@@ -92,10 +74,12 @@ dec_meets N (Has n) = dec_true (is_some (get N n))
 dec_meets N (Lacks n) = dec_none (get N n)
 dec_meets N (StandsAt at n) = dec_some cases_eq (current_in N at) n
 dec_meets N (StandsNowhere at) = dec_none (current_in N at)
-dec_meets N (StepsUp at n) = dec_match (current_in N at) _ (λ c. dec_next_above N c n)
-dec_meets N (StepsDown at n) = dec_match (current_in N at) _ (λ c. dec_next_below N c n)
-dec_meets N (IsTop at) = dec_match (current_in N at) _ (dec_none_above N)
-dec_meets N (IsBottom at) = dec_match (current_in N at) _ (dec_none_below N)
+dec_meets N (StepsUp at n) =
+    dec_match (current_in N at) _ (λ c. grind (arith, nat_tests, or_cases, or_left, or_right, dec_true (is_some (get N n)), cases_lt, each_number N (λ m. nat_le m c || nat_le n m)))
+dec_meets N (StepsDown at n) =
+    dec_match (current_in N at) _ (λ c. grind (arith, nat_tests, or_cases, or_left, or_right, dec_true (is_some (get N n)), cases_lt, each_number N (λ m. nat_le c m || nat_le m n)))
+dec_meets N (IsTop at) = dec_match (current_in N at) _ (λ c. grind (arith, nat_tests, none_of, each_number N (λ m. nat_le m c)))
+dec_meets N (IsBottom at) = dec_match (current_in N at) _ (λ c. grind (arith, nat_tests, none_of, each_number N (λ m. nat_le c m)))
 
 -- whether two heads tell the same
 dec_fields : (x y : Fields) → Dec (x ≡ y)
@@ -118,8 +102,7 @@ dec_holds S (IdAt name n id) = dec_some dec_texts (get (numbers S name) n) id
 dec_holds S (TextIs what id lines) = dec_some (dec_option dec_lists) (option_map (text_of what) (get S.articles id)) lines
 dec_holds S (NoArticle id) = dec_none (get S.articles id)
 dec_holds S (FieldsAre os) = dec_all _ (dec_overview S) os
-dec_holds S (OverviewsAre name r os) =
-    dec_both (dec_listing (numbers S name) r (overview_numbers os)) (dec_all _ (λ o. dec_both (dec_some dec_texts (get (numbers S name) o.number) o.id) (dec_overview S o)) os)
+dec_holds S (OverviewsAre name r os) = search (arith, dec_both, dec_listing, dec_all, dec_some, dec_texts, dec_overview)
 dec_holds S (GroupsAre p lines) = dec_actives S p lines
 
 -- whether the visible condition holds at each place

@@ -9,9 +9,9 @@ use Rattle.nntp_theory.specs.{Given.{fields_in, body_in, is_known, is_denied, de
 use Rattle.nntp_theory.specs.{Inner.{Together.{IsWellFormed, AgreesWithItself, Together}, Conflict.{FitsThere}}, Together.{is_possible, MeetsDemand, IsFewFor}}
 use Rattle.nntp_theory.specs.{Together.{denies_group, number_in, shows_article, denies_article, GiveOne}, Conflict.{Placed, told_with, SomeHas, Point, Step}}
 use Rattle.nntp_theory.specs.Conflict.{Group, Number, Count, First, IdOf, PlaceOf, Article, HeadOf, BodyOf, FieldOf, words_told, ConflictAt, rank, IsFirstPoint}
-use Rattle.std.proofs.Common.{◌≡◌, ℕ, ◌+◌, ◌<◌, ◌^◌, ◌⊎◌, true, false, IsTrue, List, [], ◌∷◌, ◌++◌, map, Option, Some, inl, inr, refl, sym, ap, subst, ◌∙◌}
-use Rattle.std.{proofs.{Common.{arith, Bool}, lemmas.Bool.{true≢false, cases_Bool, cases_eq, eqb-true, false_from_ne_true, cases_lt}}, specs.Prelude.{IsFalse}}
-use Rattle.std.specs.{Prelude.{IfSome, not}, List.{AllByRecursion, list_any, flat_map}, Cmp.Lexicographic.{same_text}}
+use Rattle.std.proofs.Common.{◌≡◌, ℕ, ◌+◌, ◌<◌, ◌^◌, ◌⊎◌, false, IsTrue, List, [], ◌∷◌, ◌++◌, map, Option, Some, inl, inr, refl, sym, ap, subst, ◌∙◌, arith}
+use Rattle.std.{proofs.{Common.{Bool}, lemmas.Bool.{true≢false, cases_Bool, cases_eq, eqb-true, false_from_ne_true, cases_lt}}, specs.Prelude.{IsFalse, IfSome}}
+use Rattle.std.specs.{Prelude.{not}, List.{AllByRecursion, list_any, flat_map}, Cmp.Lexicographic.{same_text}}
 use Rattle.nntp_wire.specs.{declared.marks.Marks.{Marks, TheVariants.{Lenient}}, Listing.{OverviewValue, Fields}}
 use Rattle.nntp_article.specs.{Article.{Fields.{Word, words_in}, Parts.{Id}}, Session.{Machine.{is_same}, Spool.{Name, Numbers, numbers}}}
 use Rattle.nntp_article.specs.declared.{article.field.Field.{Field, TheVariants.{Subject, From, Date, References}}, session.profile.Profile.{Profile}}

@@ -5,10 +5,10 @@ use Rattle.nntp_theory.proofs.{Together.ListedOverviews.{told_by}, Given.{ShownN
 use Rattle.nntp_theory.proofs.{Given.GivenHolds.{shown_at, unshown_once}, Session.{FittingFacts.{IsFitting}, NumbersWithinLimit.{free_in_limit}}}
 use Rattle.nntp_theory.{proofs.Session.NumbersWithinLimit.{shown_in_limit, end_in_limit}, specs.Given.{gives_article, first_given, head_in, fields_in}}
 use Rattle.nntp_theory.specs.{Inner.Together.{IsProperOverview, IsWellFormed}, Together.{number_in}}
-use Rattle.std.specs.{Prelude.{IfSome, unwrap_or, nat_le, nat_lt}, List.{AllByRecursion, list_all}, Option.{option_map_or}, FinMap.{get, len, get-empty}}
-use Rattle.std.{specs.{FinMap.{empty_of_len}, Cmp.Lexicographic.{same_text}}, proofs.Common.{◌≡◌, ℕ, ◌≤◌, true, IsTrue, List, ◌∷◌, ◌++◌, Option, None, Some}}
-use Rattle.std.proofs.{Common.{is_some, IsSome, inl, inr, refl, sym, ap, subst, arith, ◌&&◌, [], length, append-nil}, lemmas.Bool.{true≢false, and_parts}}
-use Rattle.std.proofs.lemmas.{Bool.{or_cases, cases_eq, and_from}, List.Elements.{All-from_recursion}}
+use Rattle.std.specs.{Prelude.{unwrap_or, nat_le, nat_lt}, List.{AllByRecursion, list_all}, Option.{option_map_or}, FinMap.{get, len, get-empty, empty_of_len}}
+use Rattle.std.{specs.Cmp.Lexicographic.{same_text}, proofs.Common.{◌≡◌, ℕ, ◌≤◌, true, IsTrue, List, ◌∷◌, ◌++◌, Option, None, Some, is_some, IsSome, inl, inr}}
+use Rattle.std.proofs.{Common.{refl, sym, ap, subst, arith, ◌&&◌, [], length, append-nil}, lemmas.Bool.{true≢false, and_parts, or_cases, cases_eq, and_from}}
+use Rattle.std.proofs.lemmas.List.Elements.{All-from_recursion}
 use Rattle.nntp_article.specs.{Article.{Fields.{made_head}, Parts.{is_head, said_id, head_part, body_part, Id, Line, skip_last_blanks}}, Session.Spool.{Spool}}
 use Rattle.nntp_article.specs.{Session.{Spool.{Text, IsNumber, numbers, IsSpool, Name, is_line}, Machine.{is_same, says_own_id}}, Inner.Fields.{AreWords}}
 use Rattle.nntp_article.{specs.declared.session.profile.Profile.{Profile}, proofs.ArticleLemmas.FieldLemmas.{made_is_head, made_says, field_lines_are_lines}}

@@ -1,6 +1,6 @@
 -- What numbers meet stands together.
 use Rattle.nntp_theory.proofs.{GivenNumbers.FirstFreeNumber.{first_free_once, first_free}, Members.{In, all_at, all_from, any_in, found_in, contains_in}}
-use Rattle.nntp_theory.{proofs.{Members.{in_contains, every}, Maps.{len_le}}, specs.Given.{shows, is_shown, is_denied, demand, wants, IsOneMore, IsGivenNumber}}
+use Rattle.nntp_theory.{proofs.{Members.{in_contains, every}, Maps.{len_le}}, specs.Given.{is_shown, is_denied, demand, wants, IsOneMore, IsGivenNumber}}
 use Rattle.nntp_theory.specs.{Given.{HasGivenNumbers, says_some, is_known}, declared.demand.Demand.{Demand, TheVariants.{SecondIs}}, Together.{is_possible}}
 use Rattle.nntp_theory.specs.{Together.{MeetsDemand}, Inner.Together.{AsksStand}}
 use Rattle.std.proofs.Common.{◌⊎◌, ◌≡◌, ℕ, ◌≤◌, Bool, true, ◌==◌, not, IsTrue, List, [], ◌∷◌, inl, inr, refl, sym, ◌∙◌, arith, ◌&&◌, Option, None, Some}
@@ -100,7 +100,7 @@ shown_known asks n s = or_left (is_shown asks n) _ s
 
 -- where it is said that there is a number, there is one
 some_there : (N : Numbers) (ask : Ask) → Meets N ask → says_some ask ≡ true → (n : ℕ) × IsNumber N n
-some_there N (ListsIn r (m ∷ ns)) h t = (m, (grind (arith, listed_in, eqb-true, firsts)))
+some_there N (ListsIn r (m ∷ ns)) h t = (m, grind (arith, listed_in, eqb-true, firsts))
 some_there N ask h t = elim (firsts N) [ Empty e none ↦ absurd (grind (arith, none)) | Begins c e here all ↦ (c, here) ]
 
 -- each number is known, or one of them is the one more

@@ -1,13 +1,12 @@
 -- What the visible condition says of the facts of an answer.
 use Rattle.std.{proofs.{Common.{◌≡◌, ℕ, IsTrue, List, ◌∷◌, arith, ◌≤◌}, lemmas.Bool.{and_parts, or_cases, Decides.{nat_tests}}}, specs.Prelude.{⊤}}
 use Rattle.std.specs.List.{AllByRecursion}
-use Rattle.nntp_article.specs.Session.Machine.{Visible, visible_after, fits, is_article_number, head_fits, active_fits, overview_numbers, marks_fit}
-use Rattle.nntp_article.specs.{Session.Spool.{Name}, declared.session.profile.Profile.{Profile}}
-use Rattle.nntp_wire.specs.{Answer.{Asked, Response}, declared.{range.Range.{Range}, water_marks.WaterMarks.{WaterMarks}}, Listing.{listed_numbers}}
-use Rattle.nntp_wire.specs.Listing.{active_groups, overviews_of}
+use Rattle.nntp_article.specs.Session.Machine.{Visible, visible_after, fits, is_article_number, head_fits, active_fits, overview_numbers}
+use Rattle.nntp_article.specs.declared.session.profile.Profile.{Profile}
+use Rattle.nntp_wire.specs.{Answer.{Asked, Response}, declared.range.Range.{Range}, Listing.{listed_numbers, active_groups}}
 use Rattle.nntp_said.specs.{Asks.{position_after, Estimates, ListsIn, Has, StandsAt, StepsUp, StepsDown}, declared.position.Position.{Position}, Facts.{Fact}}
-use Rattle.nntp_said.specs.{Facts.{Asks, IdAt, TextIs, FieldsAre, OverviewsAre, GroupsAre, facts_of, facts_from, here}, Inner.Facts.{FitsAll}}
-use Rattle.nntp_said.proofs.Rows.{AreListed, Row, row, nothing, none_within, within, marks, listing, up, down, text, text_at, text_here, overview, overview_at}
+use Rattle.nntp_said.specs.{Facts.{Asks, IdAt, TextIs, FieldsAre, OverviewsAre, GroupsAre, facts_of, facts_from}, Inner.Facts.{FitsAll}}
+use Rattle.nntp_said.proofs.Rows.{AreListed, Row, row, nothing, none_within, within, marks, listing, up, down, text, text_at, text_here, overview_at}
 use Rattle.nntp_said.proofs.Rows.{overview_here, active}
 use Rattle.nntp_theory.{specs.Inner.Together.{AgreesWithItself}, proofs.{Members.{all_both, all_from, each_of}, Together.ListedOverviews.{apart_agree}}}
 use Rattle.nntp_theory.proofs.Together.ListedOverviews.{alone_agrees}
@@ -34,8 +33,8 @@ listed_fitting profile range ns f = grind (arith, all_from, and_parts, each_of)
 -- the facts of a row fit
 row_fitting : (profile : Profile) (v : Visible) (at : Position) {F : Type 0} {a : Response} {facts : List Fact} → Row profile v at F a facts → F → AllByRecursion (IsFitting profile) facts
 row_fitting profile v at (within range lines is) f = search (arith, is f, listed_fitting, apart_agree)
-row_fitting profile v at (marks m name is) f = (tt, ((grind (arith, and_parts, or_cases, nat_tests)), tt))
-row_fitting profile v at (listing m name range lines is) f = let k = is f in (tt, ((grind (arith, and_parts, or_cases, nat_tests)), (listed_fitting profile range (listed_numbers lines) k.1, tt)))
+row_fitting profile v at (marks m name is) f = (tt, (grind (arith, and_parts, or_cases, nat_tests), tt))
+row_fitting profile v at (listing m name range lines is) f = let k = is f in (tt, (grind (arith, and_parts, or_cases, nat_tests), (listed_fitting profile range (listed_numbers lines) k.1, tt)))
 row_fitting profile v at (up s is) f = let k = is f in (k.1, (k.1, tt))
 row_fitting profile v at (down s is) f = let k = is f in (k.1, (k.1, tt))
 row_fitting profile v at (text what s is) f = (is f, tt)
