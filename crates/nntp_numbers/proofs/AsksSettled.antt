@@ -82,23 +82,17 @@ module _ (asks : List Ask) (c : ℕ) (e : Option ℕ) (within : (n : ℕ) → is
   -- room for one more where nothing is found
   more_of_room : (d : Demand) → d ≡ demand asks → ((n : ℕ) → (is_known asks n && wants d n) ≡ false) → (f : Option ℕ) → FirstFree (is_denied asks) f → IsTrue (has_room d f c e) → Ways asks c
   more_of_room d is none None free t = cc
-  more_of_room d is none (Some n) free t =
-      let p = and_parts (wants d n) (is_within e (c + 1)) t in
-      ByMore n (grind (arith, false_from_ne_true, and_from)) (sym (within (c + 1)) ∙ p.1)
-
-  -- by those that are known, where they meet the demand
-  by_known : (d : Demand) → d ≡ demand asks → (w : HowMany) → PassSoMany (λ n. is_known asks n && wants d n) w → is_met d w ≡ true → IsTrue (is_within e c) → Ways asks c
-  by_known d is w found met t = ByShown (subst (λ d. MeetsDemand d (Shown asks)) is (met_if asks d is w found met)) (sym (within c) ∙ t)
+  more_of_room d is none (Some n) free t = ByMore n (grind (arith, false_from_ne_true, and_from)) (sym (within (c + 1)) ∙ (and_parts (wants d n) (is_within e (c + 1)) t).1)
 
   module _ (f : Option ℕ) (free : FirstFree (is_denied asks) f) where
     -- the test that passes tells the way
     way : (d : Demand) → d ≡ demand asks → (w : HowMany) → PassSoMany (λ n. is_known asks n && wants d n) w → IsTrue (is_settled d w f c e) → Ways asks c
-    way NoDemand is w found t = by_known NoDemand is w found refl t
+    way NoDemand is w found t = ByShown (subst (λ d. MeetsDemand d (Shown asks)) is (met_if asks NoDemand is w found refl)) (sym (within c) ∙ t)
     way Impossible is w found t = cc
     way d is Absent found t = more_of_room d is found f free t
     way OnlyOne is Several found t = cc
     way (SecondIs k) is Several found t = cc
-    way d is w found t = by_known d is w found refl t
+    way d is w found t = ByShown (subst (λ d. MeetsDemand d (Shown asks)) is (met_if asks d is w found refl)) (sym (within c) ∙ t)
 
     -- and the way tells that it passes
     test : (d : Demand) → d ≡ demand asks → (w : HowMany) → PassSoMany (λ n. is_known asks n && wants d n) w → Ways asks c → is_settled d w f c e ≡ true

@@ -1,12 +1,12 @@
 -- The hull of the strict marks: what is known is known by it, where it isn't denied.
-use Rattle.std.proofs.Common.{◌≡◌, ℕ, ◌≤◌, ◌⊎◌, Bool, true, ◌&&◌, ◌||◌, ◌==◌, IsTrue, List, [], ◌∷◌, ◌++◌, Option, None, Some, inl, inr, refl, arith}
+use Rattle.std.proofs.Common.{◌≡◌, ℕ, ◌≤◌, ◌⊎◌, Bool, true, ◌&&◌, ◌||◌, ◌==◌, IsTrue, List, [], ◌∷◌, ◌++◌, Option, None, Some, inl, refl, arith}
 use Rattle.std.{proofs.lemmas.Bool.{and_from, or_left, or_right, or_cases, eq-eqb, false_from_ne_true, Decides.{nat_tests}}, specs.List.{list_any}}
 use Rattle.std.specs.Prelude.{IsFalse, MatchOption}
 use Rattle.nntp_wire.specs.declared.{marks.Marks.TheVariants.{Strict}, water_marks.WaterMarks.{WaterMarks}}
 use Rattle.nntp_said.specs.{Asks.{Ask, Estimates, ListsIn, Has, StandsAt, StepsUp, StepsDown}, declared.position.Position.TheVariants.{First}}
 use Rattle.nntp_theory.{proofs.{GivenNumbers.GivenNumbersMeet.{shows_some, no_demand}, Members.{In, any_in, found_in}}, specs.Given.{shows, is_shown}}
-use Rattle.nntp_theory.specs.{Given.{is_denied, is_known, is_end, says_some, demand_in, join, demand}, Inner.{Conflict.{AreApart}, OneMore.{is_demanding}}}
-use Rattle.nntp_theory.specs.{Inner.Together.{AsksStand}, declared.demand.Demand.{Demand}}
+use Rattle.nntp_theory.specs.{Given.{is_denied, is_known, is_end, says_some, demand_in, demand}, Inner.{Conflict.{AreApart}, OneMore.{is_demanding}}}
+use Rattle.nntp_theory.specs.Inner.Together.{AsksStand}
 use Rattle.nntp_numbers.specs.{Inner.Part.{join_ends, ends_in, ends_of, is_end_of}, declared.ends.Ends.{Ends}}
 
 -- ---- the hull
@@ -90,23 +90,10 @@ shows_or_demands (StepsUp at m) t = inl (m, eq-eqb m m refl)
 shows_or_demands (StepsDown at m) t = inl (m, eq-eqb m m refl)
 shows_or_demands ask t = grind arith
 
--- where one of two demands wants a number, both as one do
-join_demands : (d e : Demand) → (is_demanding d ≡ true) ⊎ (is_demanding e ≡ true) → is_demanding (join d e) ≡ true
-join_demands d e either = grind arith
-
 -- so all say it exactly if one shows a number, or the demand wants one
 pub said_some : (asks : List Ask) → list_any says_some asks ≡ true → ((n : ℕ) × IsTrue (is_shown asks n)) ⊎ (is_demanding (demand asks) ≡ true)
 said_some [] t = cc
-said_some (ask ∷ asks) t = elim (or_cases (says_some ask) (list_any says_some asks) t) [
-  | inl own ↦ elim (shows_or_demands ask own) [
-    | inl (n, s) ↦ inl (n, or_left (shows ask n) (is_shown asks n) s)
-    | inr d ↦ inr (join_demands (demand_in ask) (demand asks) (inl d))
-  ]
-  | inr more ↦ elim (said_some asks more) [
-    | inl (n, s) ↦ inl (n, or_right (shows ask n) (is_shown asks n) s)
-    | inr d ↦ inr (join_demands (demand_in ask) (demand asks) (inr d))
-  ]
-]
+said_some (ask ∷ asks) t = grind (arith, said_some asks, or_cases, shows_or_demands, or_left, or_right)
 
 pub shown_says : (asks : List Ask) (n : ℕ) → IsTrue (is_shown asks n) → list_any says_some asks ≡ true
 shown_says asks n s = grind (arith, found_in (λ ask. shows ask n) asks s, any_in, shows_some)

@@ -30,10 +30,9 @@ in_map_of ns n = grind (arith, any_in, of_key_map, nat_cmp-IsAntisymmetric, key_
 -- as many
 pub len_map_of : (ns : List ℕ) → IsStrictlySortedBy nat_cmp ns → len (map_of ns) ≡ length ns
 len_map_of ns up =
-    let M = map_of ns in
-    let same = length-from_same_keys (eq_by_cmp_equiv nat_cmp_total) (keys M) ns in
-    let sorted = sorted_keys nat_cmp (entries M) (entries_sorted M) in
-    grind (arith, same, IsDistinct-from_sorted nat_cmp, sorted, contains_key-keys M, both_ways, in_map_of ns, len-entries, length-map)
+    let same = length-from_same_keys (eq_by_cmp_equiv nat_cmp_total) (keys (map_of ns)) ns in
+    let sorted = sorted_keys nat_cmp (entries (map_of ns)) (entries_sorted (map_of ns)) in
+    grind (arith, same, IsDistinct-from_sorted nat_cmp, sorted, contains_key-keys (map_of ns), both_ways, in_map_of ns, len-entries, length-map)
 
 -- ---- more asks
 

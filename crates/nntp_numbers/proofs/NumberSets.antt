@@ -26,8 +26,7 @@ unfolding IsStrictlySortedBy
 ascend_both [] ys up more below = more
 ascend_both (x ∷ xs) ys up more below =
     let less : (y : ℕ) → In y ys → nat_cmp x y ≡ Less = λ y i. grind (arith, below x y (one_has (x ∷ xs) x (inl refl)) (one_has ys y i), nat_tests) in
-    let rest = ascend_both xs ys up.1 more (λ n m a b. below n m (or_right (is_at (nat_cmp n) x) (has xs n) a) b) in
-    (all_both (λ y. nat_cmp x y ≡ Less) xs ys up.0 (all_from (λ y. nat_cmp x y ≡ Less) ys less), rest)
+    (all_both (λ y. nat_cmp x y ≡ Less) xs ys up.0 (all_from (λ y. nat_cmp x y ≡ Less) ys less), ascend_both xs ys up.1 more (λ n m a b. below n m (or_right (is_at (nat_cmp n) x) (has xs n) a) b))
 
 -- ---- a set
 
@@ -47,8 +46,7 @@ unfolding IsStrictlySortedBy
 ascend None ks are = tt
 ascend (Some e) ks are =
     let high = option_to_list (cond (nat_lt e.low e.high) (Some e.high) None) in
-    let sorted : IsStrictlySortedBy nat_cmp high = grind arith in
-    ascend_both (e.low ∷ []) (ks ++ high) (tt, tt) (ascend_both ks high are.ascend sorted (grind (arith, are.within.1, nat_tests))) (grind (arith, list_any-append, are.within.1, nat_tests))
+    ascend_both (e.low ∷ []) (ks ++ high) (tt, tt) (ascend_both ks high are.ascend (grind arith) (grind (arith, are.within.1, nat_tests))) (grind (arith, list_any-append, are.within.1, nat_tests))
 
 pub opened_ascend : (o : Option Ends) (ks ns : List ℕ) → AreBetween o ks → numbers_in o ks ≡ ns → IsStrictlySortedBy nat_cmp ns
 opened_ascend o ks ns are view = subst (IsStrictlySortedBy nat_cmp) view (ascend o ks are)
@@ -65,10 +63,7 @@ abbrev with_one : Option Ends → ℕ → Option Ends
 with_one o n = join_ends o (Some (record { low = n; high = n }))
 
 module _ (ks : List ℕ) (n : ℕ) (after : List ℕ) where
-  within : (o : Option Ends) → AreWithin o ks → (k : Option ℕ) → brought_between o n ≡ k → Bring k ks after → AreWithin (with_one o n) after
-  within o are k t more = grind (arith, nat_tests)
-
-  -- it is found too
+  -- the number is found too
   found : (o : Option Ends) → AreWithin o ks → (k : Option ℕ) → brought_between o n ≡ k → Bring k ks after → (m : ℕ) → has (numbers_in (with_one o n) after) m ≡ (has (numbers_in o ks) m || n == m)
   found o are k t same m = grind (arith, list_any-append, nat_tests)
 
@@ -78,7 +73,7 @@ module _ (o : Option Ends) (ks ns : List ℕ) (n : ℕ) (are : AreBetween o ks) 
   grown view m = ap (λ o. has (numbers_in o after) m) joined ∙ found ks n after o are.within k (sym brought) bring m ∙ ap (λ l. has l m || n == m) view
 
   pub grown_ascend : IsStrictlySortedBy nat_cmp after → IsStrictlySortedBy nat_cmp (numbers_in ends after)
-  grown_ascend up = grind (arith, ascend, within)
+  grown_ascend up = grind (arith, ascend, nat_tests)
 
 -- ---- how many there are
 
@@ -86,18 +81,15 @@ module _ (e : Ends) (ks ns : List ℕ) (is : Keeps e ks ns) where
   low_in : has ns e.low ≡ true
   low_in = grind (arith, is.same e.low, eq-eqb)
 
-  high_in : has ns e.high ≡ true
-  high_in = grind (arith, is.same e.high, eq-eqb)
-
   -- none is outside the marks exactly if the high end isn't, where the low end isn't below them
   pub outside_none : (low high : ℕ) → low ≤ e.low → IsTrue (nat_le e.high high) ↔ ((n : ℕ) → has ns n ≡ true → (nat_lt n low || nat_lt high n) ≡ false)
-  outside_none low high above = grind (arith, high_in, is.within, is.order, nat_tests)
+  outside_none low high above = grind (arith, is.same e.high, eq-eqb, is.within, is.order, nat_tests)
 
   pub one_kept : e.low ≡ e.high → PassSoMany (has ns) Single
   one_kept same = grind (arith, low_in, is.within, is.order)
 
   pub several_kept : e.low ≢ e.high → PassSoMany (has ns) Several
-  several_kept apart = (e.low, e.high, apart, low_in, high_in)
+  several_kept apart = (e.low, e.high, apart, low_in, grind (arith, is.same e.high, eq-eqb))
 
   -- ---- those below k, by the second one
 
@@ -109,7 +101,7 @@ module _ (e : Ends) (ks ns : List ℕ) (is : Keeps e ks ns) where
 
   pub second_is : (s : ℕ) (copied : Option ℕ) (first : Option (Bor ℕ)) → s ≡ unwrap_or copied e.high → copied ≡ option_copied first → (0 < length ks → IsTrue (is_some first))
       → IfSome first (λ s. has ks s.now ≡ true) → IfSome first (λ s. (n : ℕ) → has ks n ≡ true → is_gt (nat_cmp s.now n) ≡ false) → IsSecond s
-  second_is s copied first is_so same some here least = grind (arith, le_from_not_gt, high_in, there_is)
+  second_is s copied first is_so same some here least = grind (arith, le_from_not_gt, eq-eqb, there_is)
 
   module _ (s : ℕ) (second : IsSecond s) (k : ℕ) (below : e.low < k) where
     pub several_below : e.low < s → s < k → PassSoMany (λ n. has ns n && nat_lt n k) Several

@@ -8,9 +8,9 @@ use Rattle.nntp_numbers.{proofs.NumberSets.{one_has}, specs.Inner.{Part.{ends_of
 use Rattle.nntp_numbers.specs.Inner.{Summary.{FirstFreeBelow}, Unseen.{one_more_in, known_ends_in, unseen_beside, unseen_in, unseen_high_beside}}
 use Rattle.nntp_numbers.specs.{Inner.Unseen.{unseen_high_in}, declared.{ends.Ends.{Ends}, shown.HowMany.{HowMany, TheVariants.{Absent}}}}
 use Rattle.nntp_said.specs.Asks.{Ask}
-use Rattle.nntp_theory.proofs.{GivenNumbers.{MetNumbersStand.{shown_known, wants_less}, FirstFreeNumber.{free_is, free_none, first_free_once}}, Members.{In}}
-use Rattle.nntp_theory.{proofs.Members.{any_in, found_in}, specs.{declared.demand.Demand.{Demand}, Inner.OneMore.{is_demanding, free, if_wanted, all_numbers}}}
-use Rattle.nntp_theory.specs.{Inner.{Unseen.{AreUnseen}, Together.{AsksStand}}, Given.{is_shown, demand, wants, says_some, IsOneMore, IsGivenNumber, is_known}}
+use Rattle.nntp_theory.proofs.GivenNumbers.{MetNumbersStand.{shown_known, wants_less}, FirstFreeNumber.{free_is, free_none, first_free_once}}
+use Rattle.nntp_theory.{proofs.Members.{any_in, found_in}, specs.Inner.{OneMore.{is_demanding, free, if_wanted, all_numbers}, Unseen.{AreUnseen}}}
+use Rattle.nntp_theory.specs.{Inner.Together.{AsksStand}, Given.{is_shown, demand, wants, says_some, IsOneMore, IsGivenNumber, is_known}}
 
 -- ---- the first free number
 
@@ -20,24 +20,10 @@ unfolding free
 free_within taken zero n j e = cc
 free_within taken (suc k) n j e = grind (arith, free_within taken k (n + 1) j)
 
--- the numbers that are searched are those of 64 bits
-all_small : 1 + all_numbers ≡ 2 ^ 64
-unfolding all_numbers
-all_small = refl
-
 -- what is found is the first below 2^64, if there is one
 pub first_free : (denied : ℕ → Bool) → FirstFreeBelow denied (free denied all_numbers 1)
-first_free denied = grind (arith, free_none denied all_numbers 1, all_small, free_within denied all_numbers 1, free_is denied all_numbers 1)
-
--- ---- what the demand wants of the numbers that are shown
-
--- what is found is one of them
-has_one : (ns : List ℕ) (n : ℕ) → has ns n ≡ true → In n ns
-has_one ns n t = grind (arith, found_in, nat_tests)
-
--- one that is wanted is found
-some_wanted : (ns : List ℕ) (d : Demand) (n : ℕ) → (has ns n && wants d n) ≡ true → list_any (wants d) ns ≡ true
-some_wanted ns d n t = let p = and_parts (has ns n) (wants d n) t in any_in (wants d) n ns (has_one ns n p.0) p.1
+unfolding all_numbers
+first_free denied = grind (arith, free_none denied all_numbers 1, free_within denied all_numbers 1, free_is denied all_numbers 1)
 
 -- ---- what the code finds
 
@@ -45,7 +31,7 @@ some_wanted ns d n t = let p = and_parts (has ns n) (wants d n) t in any_in (wan
 module _ (s v : Summary) (view : v ≡ s) (w : HowMany) (found : PassSoMany (λ n. has v.shown n && wants v.demand n) w) where
   -- where a number is shown that is wanted
   pub met : (w ≡ Absent → ⊥) → None ≡ one_more_in s
-  met some = grind (arith, some_wanted)
+  met some = grind (arith, and_parts, any_in, found_in, nat_tests)
 
   -- or else what is first of those that aren't denied
   pub first_wanted : w ≡ Absent → (o : Option ℕ) → MatchOption o (IsFullFrom v.denied 1) (IsLeastFree v.denied 1)
@@ -60,37 +46,26 @@ module _ (s : Summary) (asks : List Ask) (sum : IsSummary s asks) (bounded : Are
       → MatchOption (one_more_in s) ((n : ℕ) → IsOneMore asks n → ⊥) (IsOneMore asks)
   one_more_is needed = grind (arith, free_of_all sum.denied bounded, first_free (holds s.denied), found_in (wants s.demand), shown_known, one_has, true≢false, first_free_once, false_from_ne_true)
 
-  -- none is known that is wanted, where what is known is shown, and none that is shown is wanted
-  shown_unwanted : ((n : ℕ) → is_known asks n ≡ is_shown asks n) → list_any (wants s.demand) s.shown ≡ false → (n : ℕ) → IsTrue (is_known asks n) → IsFalse (wants (demand asks) n)
-  shown_unwanted same none n k = grind (arith, false_from_ne_true, true≢false, any_in (wants s.demand) n s.shown, has_one s.shown n, sum.shown n, same n, sum.demand)
-
-  -- whether it is said that there is a number
-  some_kept : (not (length s.shown == 0) || is_demanding s.demand) ≡ list_any says_some asks
-  some_kept = grind (arith, some_is asks (not (length s.shown == 0) || is_demanding s.demand), one_found s.shown [], found_some s.shown [], sum.shown, or_right)
-
   -- the strict marks that are kept, where there is a number
   pub ends_kept : (e : Ends) → known_ends_in s ≡ Some e → (list_any says_some asks ≡ true) × (ends_of asks ≡ Some e)
-  ends_kept e is = grind (arith, some_kept)
+  ends_kept e is = grind (arith, some_is asks (not (length s.shown == 0) || is_demanding s.demand), one_found s.shown [], found_some s.shown [], sum.shown, or_right)
 
   -- what is known by the hull is shown, or one of these
   pub hull_is : (n : ℕ) → is_known_by asks n ≡ (is_shown asks n || is_end_of (known_ends_in s) n)
-  hull_is n = grind (arith, some_kept)
+  hull_is n = grind (arith, some_is asks (not (length s.shown == 0) || is_demanding s.demand), one_found s.shown [], found_some s.shown [], sum.shown, or_right)
 
   module _ (stand : AsksStand asks) where
     -- ---- with strict marks
 
     module _ (e : Ends) (is : known_ends_in s ≡ Some e) where
-      are_known : IsTrue (is_known asks e.low) × IsTrue (is_known asks e.high)
-      are_known = let kept = ends_kept e is in ends_known asks e kept.1 kept.0
-
       -- so each given number is known, and between them
       of_given : (n : ℕ) → IsGivenNumber asks n → IsTrue (is_known asks n) × (e.low ≤ n) × (n ≤ e.high)
-      of_given n g = grind (arith, between_ends, stand.not_denied n, wants_less (demand asks) n e.low, are_known)
+      of_given n g = grind (arith, between_ends, stand.not_denied n, wants_less (demand asks) n e.low, ends_known asks e (ends_kept e is).1 (ends_kept e is).0)
 
       -- the low one, where it isn't shown; and the high one, where it isn't shown, and isn't the low one
       by_ends : (a : Bool) → is_shown asks e.low ≡ a → (b : Bool) → (e.high == e.low) ≡ b → (c : Bool) → is_shown asks e.high ≡ c
           → AreUnseen asks (cond a None (Some e.low)) (cond b None (cond c None (Some e.high)))
-      by_ends a at b bt c ct = grind (arith, or_cases, of_given, eqb-true, shown_known, are_known, true≢false, eq-eqb, stands_by_hull, hull_is)
+      by_ends a at b bt c ct = grind (arith, or_cases, of_given, eqb-true, shown_known, ends_kept, ends_known, true≢false, eq-eqb, stands_by_hull, hull_is)
 
     -- what is read off is what is given beside what is shown
     pub are_unseen : AreUnseen asks (unseen_in s) (unseen_high_in s)
@@ -99,5 +74,5 @@ module _ (s : Summary) (asks : List Ask) (sum : IsSummary s asks) (bounded : Are
         by : (o : Option Ends) → known_ends_in s ≡ o → AreUnseen asks (unseen_beside o s) (unseen_high_beside o s.shown)
         by None is =
             let same : (n : ℕ) → is_known asks n ≡ is_shown asks n = λ n. grind (arith, stands_by_hull asks stand n, hull_is n) in
-            grind (arith, one_more_is (shown_unwanted same))
+            grind (arith, one_more_is (λ none n k. grind (arith, false_from_ne_true, true≢false, any_in (wants s.demand) n s.shown, found_in, nat_tests, sum.shown n, same n, sum.demand)))
         by (Some e) is = by_ends e is (has s.shown e.low) (sym (sum.shown e.low)) (e.high == e.low) refl (has s.shown e.high) (sym (sum.shown e.high))

@@ -8,10 +8,9 @@ returns-in-Some g c = λ regular all.
     let n = c.in-Some.n.now in
     let head = sym c.in-Some.ensures.value in
     let begins = may_begin c.args.denied.now p regular all n head in
-    let up = c.free_before.ensures.up begins.3 in
     let from = c.free_before.ensures.from (grind (arith, c.max-start.ensures)) in (
       omega arith,
       first_of_part c.args.denied.now p regular all n head c.free_before.result
-          (grind (arith, c.max-start.ensures)) (grind (arith, c.max-start.ensures)) c.free_before.ensures.kind (c.free_before.ensures.free begins.5) up
+          (grind (arith, c.max-start.ensures)) (grind (arith, c.max-start.ensures)) c.free_before.ensures.kind (c.free_before.ensures.free begins.5) (c.free_before.ensures.up begins.3)
           (λ m one low lt below. c.free_before.ensures.before m (grind (arith, c.max-start.ensures)) lt below),
     )

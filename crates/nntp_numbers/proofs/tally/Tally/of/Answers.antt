@@ -1,4 +1,4 @@
-use Rattle.std.proofs.{Common.{arith, ◌≡◌, ◌||◌, ◌==◌}, lemmas.Bool.Decides.{nat_tests}}
+use Rattle.std.proofs.{Common.{arith, ◌||◌, ◌==◌}, lemmas.Bool.Decides.{nat_tests}}
 use Rattle.nntp_numbers.{proofs.Tallies.{tally_no_ends, tally_ends}, specs.Inner.Summary.{shown_after}}
 use Rattle.nntp_numbers.proofs.tally.Tally.of.Goals as goal
 
@@ -9,6 +9,5 @@ pub returns-clause-tally : goal.returns-clause-tally
 returns-clause-tally g c = λ up.
     let p = shown_after c.args.shown.now c.args.numbers.now in
     let e = c.in-Some.ends in
-    let there : c.if-ends.high ≡ (p e.high || e.low == e.high) = grind (arith, nat_tests, c.if-ends.branch) in
     tally_ends p _ e c.in-Some.is _ _ _
-    (c.with-2.ensures.tally (λ n. p n || e.low == n) there (c.with.ensures.tally p c.is_shown_after-low.ensures (c.tally_shown-tally.ensures.tally up)))
+    (c.with-2.ensures.tally (λ n. p n || e.low == n) (grind (arith, nat_tests, c.if-ends.branch)) (c.with.ensures.tally p c.is_shown_after-low.ensures (c.tally_shown-tally.ensures.tally up)))
