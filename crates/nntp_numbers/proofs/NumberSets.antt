@@ -63,14 +63,10 @@ abbrev with_one : Option Ends → ℕ → Option Ends
 with_one o n = join_ends o (Some (record { low = n; high = n }))
 
 module _ (ks : List ℕ) (n : ℕ) (after : List ℕ) where
-  -- the number is found too
-  found : (o : Option Ends) → AreWithin o ks → (k : Option ℕ) → brought_between o n ≡ k → Bring k ks after → (m : ℕ) → has (numbers_in (with_one o n) after) m ≡ (has (numbers_in o ks) m || n == m)
-  found o are k t same m = grind (arith, list_any-append, nat_tests)
-
 module _ (o : Option Ends) (ks ns : List ℕ) (n : ℕ) (are : AreBetween o ks) (after : List ℕ) (k : Option ℕ) (brought : k ≡ brought_between o n) (bring : Bring k ks after)
     (ends : Option Ends) (joined : ends ≡ with_one o n) where
   pub grown : numbers_in o ks ≡ ns → (m : ℕ) → has (numbers_in ends after) m ≡ (has ns m || n == m)
-  grown view m = ap (λ o. has (numbers_in o after) m) joined ∙ found ks n after o are.within k (sym brought) bring m ∙ ap (λ l. has l m || n == m) view
+  grown view m = grind (arith, list_any-append, nat_tests)
 
   pub grown_ascend : IsStrictlySortedBy nat_cmp after → IsStrictlySortedBy nat_cmp (numbers_in ends after)
   grown_ascend up = grind (arith, ascend, nat_tests)
@@ -78,18 +74,15 @@ module _ (o : Option Ends) (ks ns : List ℕ) (n : ℕ) (are : AreBetween o ks) 
 -- ---- how many there are
 
 module _ (e : Ends) (ks ns : List ℕ) (is : Keeps e ks ns) where
-  low_in : has ns e.low ≡ true
-  low_in = grind (arith, is.same e.low, eq-eqb)
-
   -- none is outside the marks exactly if the high end isn't, where the low end isn't below them
   pub outside_none : (low high : ℕ) → low ≤ e.low → IsTrue (nat_le e.high high) ↔ ((n : ℕ) → has ns n ≡ true → (nat_lt n low || nat_lt high n) ≡ false)
   outside_none low high above = grind (arith, is.same e.high, eq-eqb, is.within, is.order, nat_tests)
 
   pub one_kept : e.low ≡ e.high → PassSoMany (has ns) Single
-  one_kept same = grind (arith, low_in, is.within, is.order)
+  one_kept same = grind (arith, is.same e.low, eq-eqb, is.within, is.order)
 
   pub several_kept : e.low ≢ e.high → PassSoMany (has ns) Several
-  several_kept apart = (e.low, e.high, apart, low_in, grind (arith, is.same e.high, eq-eqb))
+  several_kept apart = (e.low, e.high, apart, grind (arith, is.same e.low, eq-eqb), grind (arith, is.same e.high, eq-eqb))
 
   -- ---- those below k, by the second one
 
@@ -105,10 +98,10 @@ module _ (e : Ends) (ks ns : List ℕ) (is : Keeps e ks ns) where
 
   module _ (s : ℕ) (second : IsSecond s) (k : ℕ) (below : e.low < k) where
     pub several_below : e.low < s → s < k → PassSoMany (λ n. has ns n && nat_lt n k) Several
-    several_below a b = (e.low, s, (λ same. absurd (omega arith)), grind (arith, low_in, lt-ltb), grind (arith, second.there, lt-ltb))
+    several_below a b = (e.low, s, (λ same. absurd (omega arith)), grind (arith, eq-eqb, lt-ltb), grind (arith, second.there, lt-ltb))
 
     pub one_below : (e.low < s → k ≤ s) → PassSoMany (λ n. has ns n && nat_lt n k) Single
-    one_below far = (e.low, grind (arith, low_in, lt-ltb), λ m t. grind (arith, cases_eq m e.low, second.next m, second.apart, is.within m, is.order, nat_tests))
+    one_below far = (e.low, grind (arith, eq-eqb, lt-ltb), λ m t. grind (arith, cases_eq m e.low, second.next m, second.apart, is.within m, is.order, nat_tests))
 
 -- ---- the list
 

@@ -11,15 +11,11 @@ use Rattle.nntp_theory.{specs.Inner.Together.{AsksStand}, proofs.Members.{In, al
 use Rattle.nntp_theory.proofs.GivenNumbers.MetNumbersStand.{firsts, least_is, listed_in, finds, in_range_back, shown_known, wants_less}
 use Rattle.nntp_theory.proofs.Session.NumbersOfShownGroups.{IsSelectable, Placed}
 
--- numbers that meet two demands as one meet each
-join_meets : (P : ℕ → Type 0) (d e : Demand) → MeetsDemand (join d e) P → MeetsDemand d P × MeetsDemand e P
-join_meets P d e h = grind (arith, eqb-true)
-
 -- numbers that meet the demand of all asks meet that of each
 demand_of_one : (P : ℕ → Type 0) (ask : Ask) (asks : List Ask) → In ask asks → MeetsDemand (demand asks) P → MeetsDemand (demand_in ask) P
 demand_of_one P ask [] i h = absurd i
-demand_of_one P ask (x ∷ asks) (inl e) h = subst (λ ask. MeetsDemand (demand_in ask) P) e (join_meets P (demand_in x) (demand asks) h).0
-demand_of_one P ask (x ∷ asks) (inr i) h = demand_of_one P ask asks i (join_meets P (demand_in x) (demand asks) h).1
+demand_of_one P ask (x ∷ asks) (inl e) h = grind (arith, eqb-true)
+demand_of_one P ask (x ∷ asks) (inr i) h = demand_of_one P ask asks i (grind (arith, eqb-true))
 
 -- the same numbers, said otherwise
 pub same_demand : (P Q : ℕ → Type 0) → ((n : ℕ) → P n → Q n) → ((n : ℕ) → Q n → P n) → (d : Demand) → MeetsDemand d P → MeetsDemand d Q

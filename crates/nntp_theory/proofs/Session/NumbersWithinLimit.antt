@@ -31,10 +31,6 @@ module _ (profile : Profile) (facts : List Fact) (how : Marks) (fitting : AllByR
           grind (arith, fits (GroupsAre p lines) j, all_at, there, f.2, denied_by name (GroupsAre p lines) j bounds, or_right, lt-ltb)
       by fact j t = cc
 
-  -- a number that an ask shows is one
-  num_of : (name : Name) (ask : Ask) (n : ℕ) → IsFitting profile (Asks name ask) → shows ask n ≡ true → IsTrue (is_article_number profile.limit n)
-  num_of name ask n h t = grind (arith, found_in, eqb-true, all_at)
-
   -- and so is one of all
   pub end_in_limit : (name : Name) (n count : ℕ) → IsTrue (list_any (λ ask. is_end ask n) (asks_of name facts))
       → ((ask : Ask) → In ask (asks_of name facts) → IsTrue (is_within (estimate_in ask) count)) → 1 ≤ count → IsFalse (is_denied (asks_of name facts) n) → (1 ≤ n) × (n ≤ profile.limit)
@@ -48,4 +44,4 @@ module _ (profile : Profile) (facts : List Fact) (how : Marks) (fitting : AllByR
 
   -- and so is one that is shown
   pub shown_in_limit : (name : Name) (n : ℕ) → IsTrue (is_shown (asks_of name facts) n) → (1 ≤ n) × (n ≤ profile.limit)
-  shown_in_limit name n t = grind (arith, found_in, from_flat (asks_in name), fits, num_of name, from_flat, true≢false, num_of, and_parts, leb-true)
+  shown_in_limit name n t = grind (arith, found_in, from_flat, fits, true≢false, and_parts, leb-true, eqb-true, all_at)

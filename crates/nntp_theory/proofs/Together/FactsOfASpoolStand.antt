@@ -62,10 +62,6 @@ give_one : {A : Type 0} (Q : A → Type 0) → ((x y : A) → Q x → Q y → x 
 give_one Q one f facts says = all_from _ facts (λ fact i. if_some (f fact) (λ x. first_given f facts ≡ Some x) (first_is Q one f facts says fact i))
 
 module _ (limit : ℕ) (S : Spool) (facts : List Fact) (spool : IsSpool limit S) (holds : AllByRecursion (Holds S) facts) where
-  -- a fact holds
-  of_fact : (fact : Fact) → In fact facts → Holds S fact
-  of_fact fact i = all_at (Holds S) fact facts holds i
-
   -- a group that a fact shows is S's
   shown_by_one : (name : Name) (fact : Fact) → Holds S fact → shows_group name fact ≡ true → IsGroup S name
   shown_by_one name (ThereIs g) h t = grind (arith, same_text g name)
@@ -73,7 +69,7 @@ module _ (limit : ℕ) (S : Spool) (facts : List Fact) (spool : IsSpool limit S)
 
   -- a group that is shown is S's
   pub group_in_S : (name : Name) → IsTrue (is_shown_group facts name) → IsGroup S name
-  group_in_S name t = let f = found_in (shows_group name) facts t in shown_by_one name f.0 (of_fact f.0 f.1) f.2
+  group_in_S name t = grind (arith, found_in, shown_by_one, all_at)
 
   -- and no group of S is denied
   denied_by_one : (name : Name) (fact : Fact) → Holds S fact → IsGroup S name → denies_group name fact ≡ true → ⊥
@@ -88,7 +84,7 @@ module _ (limit : ℕ) (S : Spool) (facts : List Fact) (spool : IsSpool limit S)
 
   -- an id that is shown is S's
   pub id_in_S : (name : Name) (n : ℕ) (id : Id) → id_shown facts name n ≡ Some id → get (numbers S name) n ≡ Some id
-  id_in_S name n id e = let f = first_found (id_in name n) facts id e in id_by_one name n id f.0 (of_fact f.0 f.1) f.2
+  id_in_S name n id e = grind (arith, first_found, id_by_one, all_at)
 
   -- and stands at its number
   number_by_one : (name : Name) (id : Id) (n : ℕ) (fact : Fact) → Holds S fact → number_in name id fact ≡ Some n → get (numbers S name) n ≡ Some id
@@ -167,17 +163,17 @@ module _ (limit : ℕ) (S : Spool) (facts : List Fact) (spool : IsSpool limit S)
   -- a head that is sent is S's
   pub head_in_S : (id : Id) (lines : List Line) → first_given (head_in id) facts ≡ Some lines → (t : Text) × (get S.articles id ≡ Some t) × (t.head ≡ lines)
   unfolding HasPart
-  head_in_S id lines e = let f = first_found (head_in id) facts lines e in head_by_one id lines f.0 (of_fact f.0 f.1) f.2
+  head_in_S id lines e = grind (arith, first_found, head_by_one, all_at)
 
   -- what is told of an id, its head in S tells
   pub fields_in_S : (id : Id) (told : Fields) → first_given (fields_in id) facts ≡ Some told → (t : Text) × (get S.articles id ≡ Some t) × (fields t ≡ told)
   unfolding HasPart
-  fields_in_S id told e = let f = first_found (fields_in id) facts told e in fields_by_one id told f.0 (of_fact f.0 f.1) f.2
+  fields_in_S id told e = grind (arith, first_found, fields_by_one, all_at)
 
   -- a body that is sent is S's
   pub body_in_S : (id : Id) (lines : List Line) → first_given (body_in id) facts ≡ Some lines → (t : Text) × (get S.articles id ≡ Some t) × (t.body ≡ lines)
   unfolding HasPart
-  body_in_S id lines e = let f = first_found (body_in id) facts lines e in body_by_one id lines f.0 (of_fact f.0 f.1) f.2
+  body_in_S id lines e = grind (arith, first_found, body_by_one, all_at)
 
   -- lines that are sent of an article are lines
   sent_lines : (what : What) (id : Id) (t : Text) (lines : Option (List Line)) → get S.articles id ≡ Some t
@@ -231,16 +227,16 @@ module _ (limit : ℕ) (S : Spool) (facts : List Fact) (spool : IsSpool limit S)
   unfolding HasPart
   stand =
       record {
-        well_formed = all_from IsWellFormed facts (λ fact i. well_formed fact (of_fact fact i));
-        lists = all_from AgreesWithItself facts (λ fact i. agrees_with_itself fact (of_fact fact i));
-        groups = λ name t. false_from_ne_true _ (λ d. let f = found_in (denies_group name) facts d in denied_by_one name f.0 (of_fact f.0 f.1) (group_in_S name t) f.2);
+        well_formed = all_from IsWellFormed facts (λ fact i. well_formed fact (all_at (Holds S) fact facts holds i));
+        lists = all_from AgreesWithItself facts (λ fact i. agrees_with_itself fact (all_at (Holds S) fact facts holds i));
+        groups = λ name t. false_from_ne_true _ (λ d. let f = found_in (denies_group name) facts d in denied_by_one name f.0 (all_at (Holds S) f.0 facts holds f.1) (group_in_S name t) f.2);
         numbers = λ name. asks_stand (asks_of name facts) (numbers S name) (met_by_facts S name facts holds) (λ n j. (spool.numbers_in_limit name n j).0);
         ids = λ name n. give_one (λ id. get (numbers S name) n ≡ Some id) (λ x y e f. let q : Some x ≡ Some y = sym e ∙ f in cc)
-            (id_in name n) facts (λ fact i id e. id_by_one name n id fact (of_fact fact i) e);
+            (id_in name n) facts (λ fact i id e. id_by_one name n id fact (all_at (Holds S) fact facts holds i) e);
         ids_once = λ name id. give_one (λ n. get (numbers S name) n ≡ Some id) (λ n m e f. spool.one_to_one name n m id e f)
-            (number_in name id) facts (λ fact i n e. number_by_one name id n fact (of_fact fact i) e);
-        articles = grind (arith, false_from_ne_true, found_in, article_denied, of_fact, article_by_one);
-        heads = λ id. give_one (HasPart (λ t. t.head) id) (λ x y h g. grind arith) (head_in id) facts (λ fact i lines e. head_by_one id lines fact (of_fact fact i) e);
-        fields = λ id. give_one (HasPart fields id) (λ x y h g. grind arith) (fields_in id) facts (λ fact i told e. fields_by_one id told fact (of_fact fact i) e);
-        bodies = λ id. give_one (HasPart (λ t. t.body) id) (λ x y h g. grind arith) (body_in id) facts (λ fact i lines e. body_by_one id lines fact (of_fact fact i) e);
+            (number_in name id) facts (λ fact i n e. number_by_one name id n fact (all_at (Holds S) fact facts holds i) e);
+        articles = grind (arith, false_from_ne_true, found_in, article_denied, all_at, article_by_one);
+        heads = λ id. give_one (HasPart (λ t. t.head) id) (λ x y h g. grind arith) (head_in id) facts (λ fact i lines e. head_by_one id lines fact (all_at (Holds S) fact facts holds i) e);
+        fields = λ id. give_one (HasPart fields id) (λ x y h g. grind arith) (fields_in id) facts (λ fact i told e. fields_by_one id told fact (all_at (Holds S) fact facts holds i) e);
+        bodies = λ id. give_one (HasPart (λ t. t.body) id) (λ x y h g. grind arith) (body_in id) facts (λ fact i lines e. body_by_one id lines fact (all_at (Holds S) fact facts holds i) e);
       }
