@@ -1,11 +1,11 @@
 -- Numbers that are kept as their ends and those between them.
-use Rattle.std.proofs.Common.{◌≡◌, ◌≢◌, ℕ, ◌<◌, ◌≤◌, true, false, cond, ◌&&◌, ◌||◌, ◌==◌, List, [], ◌∷◌, ◌++◌, Option, None, Some, length, inl, refl, sym, ap}
-use Rattle.std.proofs.{Common.{subst, ◌∙◌, arith}, lemmas.Bool.{or_right, cases_eq, lt-ltb, le-ltb, eq-eqb, Decides.{nat_tests}}}
-use Rattle.std.{proofs.lemmas.{List.Folds.{list_any-append}, Map.Keys.{le_from_not_gt}}, specs.{BTreeMap.{is_at}, Borrow.{Bor}, Cmp.{nat_cmp_total}}}
-use Rattle.std.specs.{Cmp.{eq_by_cmp_equiv}, List.Sorted.{IsStrictlySortedBy}, Option.{option_to_list, option_copied, IfSome}, Ordering.{nat_cmp, is_gt}}
-use Rattle.std.specs.{Prelude.{nat_lt, nat_le, IsTrue, ◌↔◌, unwrap_or, is_some}, declared.cmp.Ordering.TheVariants.{Less}}
+use Rattle.std.proofs.Common.{◌≡◌, ◌≢◌, ℕ, ◌<◌, ◌≤◌, true, false, cond, ◌&&◌, ◌||◌, ◌==◌, List, [], ◌∷◌, ◌++◌, Option, None, Some, length, inl, refl, subst}
+use Rattle.std.proofs.{Common.{arith}, lemmas.{Bool.{or_right, cases_eq, lt-ltb, le-ltb, eq-eqb, Decides.{nat_tests}}, List.Folds.{list_any-append}}}
+use Rattle.std.{proofs.lemmas.Map.Keys.{le_from_not_gt}, specs.{BTreeMap.{is_at}, Borrow.{Bor}, Cmp.{nat_cmp_total, eq_by_cmp_equiv}}}
+use Rattle.std.specs.{List.Sorted.{IsStrictlySortedBy}, Option.{option_to_list, option_copied, IfSome}, Ordering.{nat_cmp, is_gt}, Prelude.{nat_lt, nat_le}}
+use Rattle.std.specs.{Prelude.{IsTrue, ◌↔◌, unwrap_or, is_some}, declared.cmp.Ordering.TheVariants.{Less}}
 use Rattle.nntp_theory.proofs.Members.{In, any_in, all_from, all_both}
-use Rattle.nntp_numbers.specs.Inner.{NumberSets.{numbers_in, AreWithin, AreBetween, brought_between}, Part.{join_ends}, Summary.{has, PassSoMany}}
+use Rattle.nntp_numbers.specs.Inner.{NumberSets.{numbers_in, AreBetween, brought_between}, Part.{join_ends}, Summary.{has, PassSoMany}}
 use Rattle.nntp_numbers.specs.declared.{ends.Ends.{Ends}, shown.HowMany.TheVariants.{Single, Several}}
 
 -- ---- the numbers of a list
@@ -62,9 +62,9 @@ Bring (Some k) ks after = (m : ℕ) → has after m ≡ cond (is_at (nat_cmp k) 
 abbrev with_one : Option Ends → ℕ → Option Ends
 with_one o n = join_ends o (Some (record { low = n; high = n }))
 
-module _ (ks : List ℕ) (n : ℕ) (after : List ℕ) where
 module _ (o : Option Ends) (ks ns : List ℕ) (n : ℕ) (are : AreBetween o ks) (after : List ℕ) (k : Option ℕ) (brought : k ≡ brought_between o n) (bring : Bring k ks after)
     (ends : Option Ends) (joined : ends ≡ with_one o n) where
+  -- the number is found too
   pub grown : numbers_in o ks ≡ ns → (m : ℕ) → has (numbers_in ends after) m ≡ (has ns m || n == m)
   grown view m = grind (arith, list_any-append, nat_tests)
 

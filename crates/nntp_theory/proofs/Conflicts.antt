@@ -3,7 +3,7 @@ use Rattle.std.{specs.{Prelude.{Contains}, FinMap.{len-entries}, Cmp.{nat_cmp_to
 use Rattle.std.proofs.{lemmas.{Bool.{cases_lt, cases_eq, true≢false, not-true}, List.{length-map}}, Common.{append-nil, map, length-append, ◌≡◌, ℕ, zero, suc}}
 use Rattle.std.proofs.Common.{◌+◌, ◌<◌, ◌≤◌, ◌^◌, ◌⊎◌, ◌↔◌, List, [], ◌∷◌, ◌++◌, length, Option, None, Some, inl, inr, refl, sym, ap, subst, ◌∙◌, arith}
 use Rattle.nntp_said.specs.{declared.position.Position.{Position, TheVariants.{Nowhere}}, Asks.{position_after}, Facts.{Fact, Holds, facts_of, facts_from}}
-use Rattle.nntp_said.specs.{Facts.{group_of, ThereIs}, Inner.Facts.{FitsAll}}
+use Rattle.nntp_said.specs.{Facts.{group_of}, Inner.Facts.{FitsAll}}
 use Rattle.nntp_theory.specs.{Classes.{visible_from, position_from, asked_next}, Inner.{Permits.{SomePermits}, Given.{size}, Together.{Together}}}
 use Rattle.nntp_theory.specs.{Inner.Conflict.{FitsThere, AreFound, IsPartOfCore}, Given.{fields_in}, Conflict.{Placed, placed_from, said as said_there}}
 use Rattle.nntp_theory.specs.Conflict.{a_group, the_group, with_group, told, SomeHas, told_at, told_with, below, IsCore, Point, Step, Group, Number, Count}
@@ -225,8 +225,7 @@ group_there how all (fact ∷ facts) name p e = grind (arith, group_there how al
 -- and so facts that hold and are placed hold with that there is such a group
 with_group_holds : (profile : Profile) (S : Spool) (all facts : List Fact) (group : Option Name) → IsSpool profile.limit S → AllByRecursion (Holds S) all
     → AllByRecursion (IsPlaced profile.marks all) facts → group_of facts ≡ group → AllByRecursion (Holds S) facts → AllByRecursion (Holds S) (the_group profile group ++ facts)
-with_group_holds profile S all facts (Some name) spool holds p e h =
-    grind (arith, all_at (Holds S) (ThereIs name) all holds (group_there profile.marks all facts name p e).there, all_at, group_there, all_both, group_holds)
+with_group_holds profile S all facts (Some name) spool holds p e h = grind (arith, all_at, group_there profile.marks all facts name, all_both, group_holds)
 with_group_holds profile S all facts None spool holds p e h = h
 
 -- what is told of a session holds where all that it says does
@@ -234,15 +233,8 @@ told_holds : (profile : Profile) (S : Spool) (all : List Fact) → IsSpool profi
     → AllByRecursion (Holds S) (facts_from profile.marks v at ps answers) → AllByRecursion (IsPlaced profile.marks all) (facts_from profile.marks v at ps answers)
     → AllByRecursion (Holds S) (flat_map (told profile) (placed_from v at ps answers))
 told_holds profile S all spool holds v at (q ∷ ps) (a ∷ more) h p =
-    let placed : Placed = record { selected = v.selected; position = at; asked = q; response = a } in
-    let w = visible_after v q a in
-    let next = position_after at q a in
     let own = facts_of profile.marks v at q a in
-    let rest = facts_from profile.marks w next ps more in
-    let first = with_group_holds profile S all own (group_of own) spool holds (all_front (IsPlaced profile.marks all) own rest p) refl (all_front (Holds S) own rest h) in
-    all_both (Holds S) (told profile placed) (flat_map (told profile) (placed_from w next ps more))
-    (subst (λ facts. AllByRecursion (Holds S) (with_group profile facts)) (there_said profile.marks placed v refl) first)
-    (told_holds profile S all spool holds w next ps more (all_back (Holds S) own rest h) (all_back (IsPlaced profile.marks all) own rest p))
+    grind (arith, told_holds profile S all spool holds (visible_after v q a) (position_after at q a) ps more, with_group_holds profile S all own (group_of own) spool holds, all_front, all_back, all_both, there_said profile.marks)
 told_holds profile S all spool holds v at ps answers h p = tt
 
 -- a session that fits is permitted exactly if some spool has what is told of it
@@ -276,9 +268,8 @@ contradicts profile ps answers asked response comes fits none (S, spool, holds) 
     let bad : Placed = record { selected = v.selected; position = position_from Nowhere ps answers; asked = asked; response = response } in
     let placed = placed_from start.visible Nowhere ps answers in
     let others = flat_map (told_at profile placed) (below (length placed)) in
-    let own = told_own profile S (said_there profile.marks bad) (all_front (Holds S) (told profile bad) others holds) in
     let before = session_told profile S start.visible Nowhere ps answers (all_places profile S placed (all_back (Holds S) (told profile bad) others holds)) in
-    none (S, spool, permits profile S ps (answers ++ response ∷ []) fits (grind (arith, facts_grow profile.marks start.visible Nowhere ps answers asked response comes, all_both)))
+    none (S, spool, permits profile S ps (answers ++ response ∷ []) fits (grind (arith, facts_grow profile.marks start.visible Nowhere ps answers asked response comes, all_both, told_own, there_said, all_front)))
 
 -- ---- where facts conflict
 

@@ -87,6 +87,11 @@ pub all_parts : {A B : Type 0} (P : B → Type 0) (f : A → List B) (xs : List 
 all_parts P f [] h = tt
 all_parts P f (x ∷ xs) h = all_both P (f x) (flat_map f xs) (h x (inl refl)) (all_parts P f xs (λ y i. h y (inr i)))
 
+-- parts without elements, joined
+pub flat_none : {A B : Type 0} (f : A → List B) (xs : List A) → ((x : A) → In x xs → f x ≡ []) → flat_map f xs ≡ []
+flat_none f [] h = refl
+flat_none f (x ∷ xs) h = ap (λ ys. ys ++ flat_map f xs) (h x (inl refl)) ∙ flat_none f xs (λ y i. h y (inr i))
+
 -- one of them gives what the first gives
 pub first_found : {A B : Type 0} (f : B → Option A) (xs : List B) (y : A) → first_given f xs ≡ Some y → (x : B) × In x xs × (f x ≡ Some y)
 first_found f [] y e = cc

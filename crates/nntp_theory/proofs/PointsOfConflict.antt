@@ -1,6 +1,6 @@
 -- What doesn't stand together conflicts at some point, and so at a first one.
-use Rattle.nntp_theory.proofs.{Members.{if_some, In, all_at, all_from, in_map, any_in, found_in, first_there, part_first, to_flat}, PointsByRank.{each}}
-use Rattle.nntp_theory.proofs.{PointsByRank.{or_next, PointsOf, of_rank}, Given.{GivenHolds.{one_given}, ConstructedSpool.{made, made_group, made_given}}}
+use Rattle.nntp_theory.proofs.Members.{flat_none, if_some, In, all_at, all_from, in_map, any_in, found_in, first_there, part_first, to_flat}
+use Rattle.nntp_theory.proofs.{PointsByRank.{each, or_next, PointsOf, of_rank}, Given.{GivenHolds.{one_given}, ConstructedSpool.{made, made_group, made_given}}}
 use Rattle.nntp_theory.proofs.{Together.ListedOverviews.{overview_at, overview_of, told_by}, Session.NumbersOfShownGroups.{Placed as IsPlaced}}
 use Rattle.nntp_theory.proofs.{Session.{NumbersWithinLimit.{free_in_limit}, FittingFacts.{IsFitting}}, GivenNumbers.AsksDecided.{denied_or_not}}
 use Rattle.nntp_theory.proofs.{GivenNumbers.AsksDecided.{too_many_or_not, unmet_or_met}, Conflicts.{with_told, told_together, told_fit}}
@@ -9,9 +9,9 @@ use Rattle.nntp_theory.specs.{Given.{fields_in, body_in, is_known, is_denied, de
 use Rattle.nntp_theory.specs.{Inner.{Together.{IsWellFormed, AgreesWithItself, Together}, Conflict.{FitsThere}}, Together.{is_possible, MeetsDemand, IsFewFor}}
 use Rattle.nntp_theory.specs.{Together.{denies_group, number_in, shows_article, denies_article, GiveOne}, Conflict.{Placed, told_with, SomeHas, Point, Step}}
 use Rattle.nntp_theory.specs.Conflict.{Group, Number, Count, First, IdOf, PlaceOf, Article, HeadOf, BodyOf, FieldOf, words_told, ConflictAt, rank, IsFirstPoint}
-use Rattle.std.proofs.Common.{◌≡◌, ℕ, ◌+◌, ◌<◌, ◌^◌, ◌⊎◌, false, IsTrue, List, [], ◌∷◌, ◌++◌, map, Option, Some, inl, inr, refl, sym, ap, subst, ◌∙◌, arith}
-use Rattle.std.{proofs.{Common.{Bool}, lemmas.Bool.{true≢false, cases_Bool, cases_eq, eqb-true, false_from_ne_true, cases_lt}}, specs.Prelude.{IsFalse, IfSome}}
-use Rattle.std.specs.{Prelude.{not}, List.{AllByRecursion, list_any, flat_map}, Cmp.Lexicographic.{same_text}}
+use Rattle.std.proofs.Common.{◌≡◌, ℕ, ◌+◌, ◌<◌, ◌^◌, ◌⊎◌, false, IsTrue, List, [], ◌∷◌, map, Option, Some, inl, inr, refl, sym, ap, subst, ◌∙◌, arith, Bool}
+use Rattle.std.{proofs.lemmas.Bool.{true≢false, cases_Bool, cases_eq, eqb-true, false_from_ne_true, cases_lt}, specs.Prelude.{IsFalse, IfSome, not}}
+use Rattle.std.specs.{List.{AllByRecursion, list_any, flat_map}, Cmp.Lexicographic.{same_text}}
 use Rattle.nntp_wire.specs.{declared.marks.Marks.{Marks, TheVariants.{Lenient}}, Listing.{OverviewValue, Fields}}
 use Rattle.nntp_article.specs.{Article.{Fields.{Word, words_in}, Parts.{Id}}, Session.{Machine.{is_same}, Spool.{Name, Numbers, numbers}}}
 use Rattle.nntp_article.specs.declared.{article.field.Field.{Field, TheVariants.{Subject, From, Date, References}}, session.profile.Profile.{Profile}}
@@ -76,11 +76,6 @@ fields_keyed id fact fields e = grind (arith, same_or_not)
 
 words_keyed : (k : Id × Field) (fact : Fact) (words : List Word) → words_told k.0 k.1 fact ≡ Some words → In k (field_keys fact)
 words_keyed k fact words e = grind (arith, to_flat each_field k.0 k (article_keys fact), fields_keyed k.0 fact)
-
--- nothing is given by any
-flat_none : {A B : Type 0} (f : A → List B) (xs : List A) → ((x : A) → In x xs → f x ≡ []) → flat_map f xs ≡ []
-flat_none f [] h = refl
-flat_none f (x ∷ xs) h = ap (λ ys. ys ++ flat_map f xs) (h x (inl refl)) ∙ flat_none f xs (λ y i. h y (inr i))
 
 -- ---- each kind of point
 

@@ -1,11 +1,11 @@
 -- The given numbers meet what is asked of them, if that stands together; where marks are strict, they are those that are known.
 use Rattle.nntp_wire.specs.declared.{marks.Marks.TheVariants.{Strict}, water_marks.WaterMarks.{WaterMarks}}
-use Rattle.std.proofs.{Common.{◌≡◌, ℕ, true, false, IsTrue, List, [], ◌∷◌, inl, refl, subst, arith, inr}, lemmas.Bool.{true≢false, false_from_ne_true}}
-use Rattle.std.proofs.lemmas.Bool.{eqb-true, ltb-false, eq-eqb, or_cases, or_left, or_right, and_parts, and_from, cases_Bool, or_parts, cases_lt, lt-ltb}
+use Rattle.std.proofs.{Common.{◌≡◌, ℕ, true, false, IsTrue, List, [], ◌∷◌, inl, refl, arith, inr}, lemmas.Bool.{true≢false, false_from_ne_true, eqb-true}}
+use Rattle.std.proofs.lemmas.Bool.{ltb-false, eq-eqb, or_cases, or_left, or_right, and_parts, and_from, cases_Bool, or_parts, cases_lt, lt-ltb}
 use Rattle.std.{proofs.lemmas.Bool.Decides.{nat_tests}, specs.List.{AllByRecursion, list_any}}
 use Rattle.nntp_article.specs.Session.{Spool.{Numbers, IsNumber, Name}, Machine.{is_in_range, is_same}}
 use Rattle.nntp_said.specs.{Asks.{Ask, Meets, Estimates, ListsIn, StandsAt}, declared.position.Position.TheVariants.{First}, Facts.{Fact, Asks}}
-use Rattle.nntp_theory.specs.Given.{shows, demand_in, join, demand, IsGivenNumber, HasGivenNumbers, says_some, asks_in, asks_of, is_known, IsOneMore}
+use Rattle.nntp_theory.specs.Given.{shows, demand_in, demand, IsGivenNumber, HasGivenNumbers, says_some, asks_in, asks_of, is_known, IsOneMore}
 use Rattle.nntp_theory.specs.{declared.demand.Demand.{Demand, TheVariants.{NoDemand}}, Together.{is_possible, MeetsDemand, IsFewFor}}
 use Rattle.nntp_theory.{specs.Inner.Together.{AsksStand}, proofs.Members.{In, all_at, all_from, any_in, in_contains, each_of, found_in, to_flat, from_flat}}
 use Rattle.nntp_theory.proofs.GivenNumbers.MetNumbersStand.{firsts, least_is, listed_in, finds, in_range_back, shown_known, wants_less}

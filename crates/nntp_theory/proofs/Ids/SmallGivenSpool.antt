@@ -1,5 +1,5 @@
 -- A session that says little is given a small spool.
-use Rattle.nntp_theory.proofs.{GivenNumbers.MetNumbersStand.{known_or_more}, Members.{In, any_in, found_in, to_flat, from_flat, parts_few}}
+use Rattle.nntp_theory.proofs.{GivenNumbers.MetNumbersStand.{known_or_more}, Members.{In, any_in, found_in, to_flat, from_flat, flat_none, parts_few}}
 use Rattle.nntp_theory.proofs.{Ids.NumbersOfInventedIds.{mentioned}, Maps.{sorted_keys, keys_among, in_get}, Together.FactsOfASpoolStand.{same_itself, listed}}
 use Rattle.nntp_theory.{proofs.Together.FactsOfASpoolStand.{in_listed}, specs.Given.{HasGivenNumbers, asks_in, asks_of, shows_group, is_shown_group}}
 use Rattle.nntp_theory.specs.{Given.{unshown_in, unshown_ids, is_known}, Inner.Given.{size_in, size}}
@@ -92,18 +92,13 @@ unfolding IsDistinct
 ask_few g ask [] d = omega arith
 ask_few g ask (name ∷ names) d = grind (arith, none_left, length-append, ask_few g ask names d.1)
 
--- where nothing is shown of any group
-nothing_few : (f : Name → List ℕ) (names : List Name) → ((name : Name) → f name ≡ []) → length (flat_map f names) ≡ 0
-nothing_few f [] none = refl
-nothing_few f (name ∷ names) none = grind (arith, nothing_few f names)
-
 -- and so a fact
 one_few : (fact : Fact) (names : List Name) → IsDistinct (eq_by_cmp (slice_cmp nat_cmp)) names → length (flat_map (λ name. numbers_in name fact) names) ≤ size_in fact
 one_few (Asks g ask) names d = ask_few g ask names d
 one_few (IdAt g n id) names d = ask_few g (Has n) names d
 one_few (OverviewsAre g r os) names d = let count = ask_few g (ListsIn r (overview_numbers os)) names d in omega (arith, length-map os (λ (o : OverviewValue). o.number))
-one_few (GroupsAre p lines) names d = let none = nothing_few (λ name. numbers_in name (GroupsAre p lines)) names (λ name. no_number name lines) in omega arith
-one_few fact names d = let none = nothing_few (λ name. []) names (λ name. refl) in omega arith
+one_few (GroupsAre p lines) names d = omega (arith, ap length (flat_none (λ name. numbers_in name (GroupsAre p lines)) names (λ name i. no_number name lines)))
+one_few fact names d = omega (arith, ap length (flat_none {B = ℕ} (λ (name : Name). []) names (λ name i. refl)))
 
 -- two parts for each group
 both_parts : (f h : Name → List ℕ) (names : List Name) → length (flat_map (λ name. f name ++ h name) names) ≡ length (flat_map f names) + length (flat_map h names)
@@ -112,7 +107,7 @@ both_parts f h (name ∷ names) = grind (arith, length-append, both_parts f h na
 
 -- there are few numbers, over all groups
 numbers_few : (facts : List Fact) (names : List Name) → IsDistinct (eq_by_cmp (slice_cmp nat_cmp)) names → length (flat_map (λ name. shown_numbers name facts) names) ≤ size facts
-numbers_few [] names d = let none = nothing_few (λ name. []) names (λ name. refl) in omega arith
+numbers_few [] names d = omega (arith, ap length (flat_none {B = ℕ} (λ (name : Name). []) names (λ name i. refl)))
 numbers_few (fact ∷ facts) names d = grind (arith, both_parts (λ name. numbers_in name fact) (λ name. shown_numbers name facts) names, one_few, numbers_few facts names d)
 
 -- no more ids are mentioned than the size

@@ -1,11 +1,11 @@
 -- The numbers of a group are within the limit.
 use Rattle.std.proofs.{lemmas.Bool.{true≢false, and_parts, or_right, eqb-true, leb-true, lt-ltb, cases_lt}, Common.{◌≡◌, ℕ, ◌≤◌, ◌<◌, true, cond, IsTrue, List}}
 use Rattle.std.{proofs.Common.{[], ◌∷◌, inl, inr, sym, ◌∙◌, arith}, specs.{Prelude.{IsFalse}, List.{AllByRecursion, list_any}}}
-use Rattle.nntp_theory.specs.{Inner.Estimates.{estimate_in, is_within}, Given.{is_shown_group, asks_in, asks_of, shows, denies, is_shown, is_denied}}
-use Rattle.nntp_theory.{specs.Given.{shows_group, is_end}, proofs.Members.{In, all_at, any_in, found_in, to_flat, from_flat}}
-use Rattle.nntp_theory.proofs.Session.{NumbersOfShownGroups.{Placed}, FittingFacts.{IsFitting}}
+use Rattle.nntp_theory.specs.{Inner.Estimates.{estimate_in, is_within}, Given.{is_shown_group, asks_in, asks_of, denies, is_shown, is_denied, shows_group}}
+use Rattle.nntp_theory.{specs.Given.{is_end}, proofs.{Members.{In, all_at, any_in, found_in, to_flat, from_flat}, Session.NumbersOfShownGroups.{Placed}}}
+use Rattle.nntp_theory.proofs.Session.FittingFacts.{IsFitting}
 use Rattle.nntp_wire.specs.{declared.marks.Marks.{Marks}, Listing.{ActiveValue}}
-use Rattle.nntp_article.specs.{Session.{Spool.{Name}, Machine.{is_same, is_article_number}}, declared.session.profile.Profile.{Profile}}
+use Rattle.nntp_article.specs.{Session.{Spool.{Name}, Machine.{is_same}}, declared.session.profile.Profile.{Profile}}
 use Rattle.nntp_said.specs.{Asks.{Ask, Estimates, Bounds}, Facts.{Fact, ThereIs, Asks, GroupsAre}}
 
 module _ (profile : Profile) (facts : List Fact) (how : Marks) (fitting : AllByRecursion (IsFitting profile) facts) (placed : AllByRecursion (Placed how facts) facts) where

@@ -5,8 +5,8 @@ use Rattle.nntp_theory.{proofs.{Together.ListedOverviews.{told_by}, GivenNumbers
 use Rattle.nntp_theory.specs.Given.{is_shown_group, first_given, id_of_overview, id_in, id_shown, has_overview_of, head_in, fields_of_overview, fields_in}
 use Rattle.nntp_theory.specs.{Given.{body_in, asks_in}, Inner.Together.{IsProperOverview, IsWellFormed, TellsOwn, AgreesWithItself, Together}}
 use Rattle.nntp_theory.specs.Together.{denies_group, number_of_overview, number_in, shows_article, denies_article, GiveOne}
-use Rattle.std.proofs.Common.{◌≡◌, ℕ, ◌↔◌, Bool, true, cond, IsTrue, List, ◌++◌, map, Option, None, Some, is_some, IsSome, refl, sym, ap, subst, ◌∙◌, arith, []}
-use Rattle.std.proofs.{Common.{◌∷◌}, lemmas.{Bool.{true≢false, and_parts, eqb-true, eq-eqb, false_from_ne_true, not-true}, List.Elements.{recursion_from_All}}}
+use Rattle.std.proofs.Common.{◌≡◌, ℕ, ◌↔◌, Bool, true, cond, IsTrue, List, ◌++◌, map, Option, None, Some, is_some, IsSome, refl, ap, subst, arith, [], ◌∷◌}
+use Rattle.std.proofs.lemmas.{Bool.{true≢false, and_parts, eqb-true, eq-eqb, false_from_ne_true, not-true}, List.Elements.{recursion_from_All}}
 use Rattle.std.specs.{Prelude.{IfSome, option_map}, List.{AllByRecursion, list_any}, Option.{option_map_or}, Cmp.Lexicographic.{same_text, nat_list_eq_equiv}}
 use Rattle.std.specs.FinMap.{get}
 use Rattle.nntp_article.specs.{Article.{Parts.{Line, Id, body_part}, Fields.{fields_of_head}}, Session.Spool.{Spool, Text, IsGroup, numbers, IsSpool, HasText}}
@@ -231,10 +231,8 @@ module _ (limit : ℕ) (S : Spool) (facts : List Fact) (spool : IsSpool limit S)
         lists = all_from AgreesWithItself facts (λ fact i. agrees_with_itself fact (all_at (Holds S) fact facts holds i));
         groups = λ name t. false_from_ne_true _ (λ d. let f = found_in (denies_group name) facts d in denied_by_one name f.0 (all_at (Holds S) f.0 facts holds f.1) (group_in_S name t) f.2);
         numbers = λ name. asks_stand (asks_of name facts) (numbers S name) (met_by_facts S name facts holds) (λ n j. (spool.numbers_in_limit name n j).0);
-        ids = λ name n. give_one (λ id. get (numbers S name) n ≡ Some id) (λ x y e f. let q : Some x ≡ Some y = sym e ∙ f in cc)
-            (id_in name n) facts (λ fact i id e. id_by_one name n id fact (all_at (Holds S) fact facts holds i) e);
-        ids_once = λ name id. give_one (λ n. get (numbers S name) n ≡ Some id) (λ n m e f. spool.one_to_one name n m id e f)
-            (number_in name id) facts (λ fact i n e. number_by_one name id n fact (all_at (Holds S) fact facts holds i) e);
+        ids = λ name n. give_one (λ id. get (numbers S name) n ≡ Some id) (λ x y e f. grind arith) (id_in name n) facts (grind (arith, id_by_one, all_at));
+        ids_once = λ name id. give_one (λ n. get (numbers S name) n ≡ Some id) (grind (arith, spool.one_to_one)) (number_in name id) facts (grind (arith, number_by_one, all_at));
         articles = grind (arith, false_from_ne_true, found_in, article_denied, all_at, article_by_one);
         heads = λ id. give_one (HasPart (λ t. t.head) id) (λ x y h g. grind arith) (head_in id) facts (λ fact i lines e. head_by_one id lines fact (all_at (Holds S) fact facts holds i) e);
         fields = λ id. give_one (HasPart fields id) (λ x y h g. grind arith) (fields_in id) facts (λ fact i told e. fields_by_one id told fact (all_at (Holds S) fact facts holds i) e);
