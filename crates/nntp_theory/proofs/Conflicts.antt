@@ -268,8 +268,9 @@ contradicts profile ps answers asked response comes fits none (S, spool, holds) 
     let bad : Placed = record { selected = v.selected; position = position_from Nowhere ps answers; asked = asked; response = response } in
     let placed = placed_from start.visible Nowhere ps answers in
     let others = flat_map (told_at profile placed) (below (length placed)) in
+    let own = told_own profile S (said_there profile.marks bad) (all_front (Holds S) (told profile bad) others holds) in
     let before = session_told profile S start.visible Nowhere ps answers (all_places profile S placed (all_back (Holds S) (told profile bad) others holds)) in
-    none (S, spool, permits profile S ps (answers ++ response ∷ []) fits (grind (arith, facts_grow profile.marks start.visible Nowhere ps answers asked response comes, all_both, told_own, there_said, all_front)))
+    none (S, spool, permits profile S ps (answers ++ response ∷ []) fits (grind (arith, facts_grow profile.marks start.visible Nowhere ps answers asked response comes, all_both)))
 
 -- ---- where facts conflict
 
