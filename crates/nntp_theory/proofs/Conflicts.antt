@@ -234,7 +234,8 @@ told_holds : (profile : Profile) (S : Spool) (all : List Fact) → IsSpool profi
     → AllByRecursion (Holds S) (flat_map (told profile) (placed_from v at ps answers))
 told_holds profile S all spool holds v at (q ∷ ps) (a ∷ more) h p =
     let own = facts_of profile.marks v at q a in
-    grind (arith, told_holds profile S all spool holds (visible_after v q a) (position_after at q a) ps more, with_group_holds profile S all own (group_of own) spool holds, all_front, all_back, all_both, there_said profile.marks)
+    let rest = told_holds profile S all spool holds (visible_after v q a) (position_after at q a) ps more in
+    grind (arith, rest, with_group_holds profile S all own (group_of own) spool holds, all_front, all_back, all_both, there_said profile.marks)
 told_holds profile S all spool holds v at ps answers h p = tt
 
 -- a session that fits is permitted exactly if some spool has what is told of it

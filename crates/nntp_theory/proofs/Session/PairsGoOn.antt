@@ -27,8 +27,9 @@ pub permitted_next : (profile : Profile) (earlier : List Answered) (ps : List As
     → SomePermitsEach profile (earlier ++ of_these (ps ++ asked ∷ []) (answers ++ response ∷ []) ∷ [])
     ↔ MayFollow profile (visible_from start.visible ps answers) (position_from Nowhere ps answers) (facts_of_all profile.marks earlier ++ facts_of_session profile.marks ps answers) asked response
 permitted_next profile earlier ps answers asked response e small h =
+    let own = run_longer profile h.0 start ps (asked ∷ []) answers in
     let g : SomePermitsEach profile (earlier ++ of_these (ps ++ asked ∷ []) answers ∷ []) =
-    (h.0, h.1, grind (arith, all_front (Runs profile h.0), all_back (Runs profile h.0), all_both (Runs profile h.0), run_longer)) in
+    (h.0, h.1, grind (arith, all_front (Runs profile h.0), all_back (Runs profile h.0), all_both (Runs profile h.0), own)) in
     grind (arith, permitted_more_behind profile earlier (ps ++ asked ∷ []) answers asked response (next_behind ps [] asked answers e) small g, visible_longer, position_longer, facts_longer)
 
 -- what is said then
