@@ -7,7 +7,7 @@ use Rattle.nntp_article.specs.{Session.{Spool.{Name}, Machine.{Visible, visible_
 use Rattle.nntp_pair.specs.Pairing.{Paired, asked_at, asked_of, responses_of}
 use Rattle.nntp_theory.specs.Classes.{visible_from}
 use Rattle.nntp_facts.specs.{declared.standing.Standing.{Standing}, Standing.{nowhere, standing_after}}
-use Rattle.nntp_kept.proofs.Keeping.FactsOfOneGroup.{flip_text}
+use Rattle.nntp_kept_articles.proofs.TextKeys.{flip_text}
 use Rattle.nntp_explain.specs.{Reasons.{gives_low, low_giver}, Standing.{cited, cited_from}}
 
 -- a place is found among so many

@@ -2,7 +2,7 @@
 ghost use Rattle.std.specs.Prelude.{◌≡◌, ◌++◌, ◌<◌, ◌-◌, ◌^◌, [], Some, IfSome, OnOk, codes, decimal, length, option_map, slice_get};
 ghost use Rattle.std.specs.Option.{option_copied, option_map_or};
 ghost use Rattle.nntp_article.specs.Article.Parts.{head_part, body_part};
-ghost use Rattle.nntp_kept.specs.Inner.Articles.{head_sent, body_sent};
+ghost use Rattle.nntp_kept_articles.specs.Inner.Articles.{head_sent, body_sent};
 ghost use Rattle.nntp_explain.specs.Says.{first_difference, line_text, part_line, subject};
 
 use crate::said_numbers::put_subject;

@@ -5,8 +5,8 @@ ghost use Rattle.nntp_article.specs.{declared.session.profile.Profile.{Profile},
 ghost use Rattle.nntp_article.specs.Inner.MisfitView.{why_if};
 ghost use Rattle.nntp_said.specs.Facts.{Fact};
 ghost use Rattle.nntp_theory.specs.{Given.{is_mentioned}, Inner.Exchanged.{said_behind}};
-ghost use Rattle.nntp_kept.specs.Inner.{Kept.{AreKeptArticles}, Readers.{ShownGroup as GroupValue, ShownArticle as ArticleValue, AreShownGroups}};
-ghost use Rattle.nntp_kept.specs.Inner.Readers.{AreShownArticles};
+ghost use Rattle.nntp_kept_articles.specs.Inner.{Articles.{AreKeptArticles}, Readers.{ShownArticle as ArticleValue, AreShownArticles}};
+ghost use Rattle.nntp_kept.specs.Inner.Readers.{ShownGroup as GroupValue, AreShownGroups};
 ghost use Rattle.nntp_facts.specs.Inner.{Points.{held_by}, StatementView.{held_of_refusal}, Noted.{HasNoted, HasNotedBehind, IsDue, IsNotedBehind}};
 ghost use Rattle.nntp_facts.specs.{Inner.Noted.{NotesBehind, begun, profile_kept}, Standing.{stands_of}};
 

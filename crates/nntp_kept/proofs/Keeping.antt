@@ -1,4 +1,3 @@
-pub mod ArticleReaders
 pub mod CountedGroups
 pub mod FactsOfOneGroup
 pub mod FactsOfParts
@@ -6,9 +5,7 @@ pub mod FactsSaid
 pub mod GroupOfASaying
 pub mod GroupReaders
 pub mod HeldIds
-pub mod KeptArticles
 pub mod KeptGroups
-pub mod KeptIds
 pub mod KeptNames
 pub mod ListedGroups
 pub mod ListedOverviews
@@ -18,5 +15,4 @@ pub mod OverviewsJoin
 pub mod OverviewsTold
 pub mod PartsJoin
 pub mod SaidAgain
-pub mod SaidOfArticles
 pub mod SayingRows

@@ -1,5 +1,3 @@
-pub mod ArticleView
-pub mod Articles
 pub mod Between
 pub mod GroupHeld
 pub mod GroupView

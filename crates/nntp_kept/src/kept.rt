@@ -4,22 +4,23 @@ ghost use Rattle.std.specs.{List.{list_any}, Option.{option_map_or}, Rc.{rc_str_
 ghost use Rattle.nntp_article.specs.{Inner.Listed.{lists}, Article.Parts.{Id}, Session.{Spool.{Name}, Machine.{is_same}}};
 ghost use Rattle.nntp_said.specs.{Asks.{Ask}, Facts.{Fact}};
 ghost use Rattle.nntp_theory.specs.{Given.{is_shown_group, is_mentioned}, Inner.Together.{IsWellFormed, Together}, Together.{denies_group}};
-ghost use Rattle.nntp_kept.specs.Inner.{Saying.{AreListed, Saying as SayingValue, facts_in, IsToExist, MaySay, Tells}, SayingView.{of_group, article_said}};
-ghost use Rattle.nntp_kept.specs.Inner.{SayingView.{saying_of}, ArticleView.{is_added, text_of}, Kept.{joins_at_all, IsKept, AreKeptGroups, AreKeptNames}};
-ghost use Rattle.nntp_kept.specs.Inner.{Kept.{AreKeptArticles, AreAdded}, Readers.{shown_groups, shown_articles}, KeptSaying.{GroupJoins, JoinGroups}};
-ghost use Rattle.nntp_kept.specs.{Inner.KeptSaying.{IsTextOf, IsThereAlready, MayBeSaid, IsArticleAdded}, declared.joins.Joins.TheVariants.{Again}};
+ghost use Rattle.nntp_kept.specs.Inner.{Saying.{AreListed, Saying as SayingValue, facts_in, MaySay, Tells}, SayingView.{of_group, saying_of}};
+ghost use Rattle.nntp_kept.specs.Inner.{Kept.{joins_at_all, IsKept, AreKeptGroups, AreKeptNames, AreAdded}, Readers.{shown_groups}, KeptSaying.{GroupJoins}};
+ghost use Rattle.nntp_kept.specs.{Inner.KeptSaying.{JoinGroups, IsTextOf}, declared.joins.Joins.TheVariants.{Again}};
+ghost use Rattle.nntp_kept_articles.specs.Inner.{ArticleSaid.{IsToExist, IsThereAlready, MayBeSaid, IsArticleAdded}, PartView.{article_said}};
+ghost use Rattle.nntp_kept_articles.specs.Inner.{ArticleView.{is_added, text_of}, Articles.{AreKeptArticles}, Readers.{shown_articles}};
 
 mod listed_groups;
 mod listed_overviews;
 mod noted;
 
-use crate::articles::{Added, Articles, TakenArticles};
 use crate::groups::Groups;
 use crate::joins::Joins;
 use crate::names::Names;
-use crate::saying::{ArticlePart, GroupPart, Saying};
+use crate::saying::{GroupPart, Saying};
 use crate::taken_groups::TakenGroups;
 use nntp_article::Listed;
+use nntp_kept_articles::{Added, ArticlePart, Articles, TakenArticles};
 use nntp_wire::GroupName;
 use std::alloc::{AllocError, Allocator, Global};
 use std::marker::Model;
@@ -118,9 +119,10 @@ impl<A: Allocator + Copy> Kept<A> {
         ensures text { IfOk result (λ added. IfSome (option_map article_said article.now) MayBeSaid → joins ≢ Again → IsTrue (is_added added)
             → (id : Id) → IsToExist (option_map article_said article.now) id → text_of added ≡ Some id) }
     {
-        match article {
-            Some(article) => self.articles.note(joins, article),
-            None => Ok(Added::Unnamed),
+        match (joins, article) {
+            (_, None) => Ok(Added::Unnamed),
+            (Joins::Again, Some(article)) => self.articles.note_again(article),
+            (_, Some(article)) => self.articles.note(article),
         }
     }
 

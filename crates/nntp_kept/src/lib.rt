@@ -1,7 +1,6 @@
 //! What is kept of all that answers said of the spool, and whether more stands together with it.
 #![tactic(auto)]
 
-mod articles;
 mod details;
 mod group;
 mod groups;
@@ -14,10 +13,12 @@ mod shown_groups;
 mod shown_numbers;
 mod taken_groups;
 
-pub use articles::{Articles, Sent, ShownArticle, ShownArticles, TakenArticle, TakenArticles};
 pub use groups::Groups;
 pub use kept::Kept;
-pub use saying::{ActivePart, ArticlePart, GroupPart, IdAt, OverviewsPart, Saying};
+pub use nntp_kept_articles::{
+    ArticlePart, Articles, Sent, ShownArticle, ShownArticles, TakenArticle, TakenArticles,
+};
+pub use saying::{ActivePart, GroupPart, IdAt, OverviewsPart, Saying};
 pub use shown_groups::{ShownGroup, ShownGroups};
 pub use shown_numbers::{ShownNumber, ShownNumbers};
 pub use taken_groups::{TakenGroup, TakenGroups};

@@ -9,9 +9,10 @@ ghost use Rattle.nntp_kept.specs.Inner.Saying.{AreListed, IsSelectedShown, Tells
 ghost use Rattle.nntp_kept.specs.Inner.{Saying.{saying_with, with_ask}, SayingView.{id_at, of_group, saying_of}};
 ghost use Rattle.nntp_numbers.specs.Inner.{Part.{Says}, PartView.{said}, Summary.{AreBounded}};
 
+use nntp_kept_articles::ArticlePart;
 use nntp_numbers::NumbersPart;
 use nntp_said::{Ask, Fact, NumberLines, Position, SaidFacts, facts_of};
-use nntp_wire::{ActiveLine, Answer, Block, GroupName, Marks, Prompt, Range, What, Wildmat};
+use nntp_wire::{ActiveLine, Answer, Block, GroupName, Marks, Prompt, Range, Wildmat};
 use std::slice;
 
 /// A number of a group, and the message-id that it has.
@@ -81,31 +82,6 @@ impl<'s> GroupPart<'s> {
         group.numbers.list(number, number, shown);
         group
     }
-}
-
-/// The part of a saying that is about one message-id.
-#[derive(Drop)]
-pub enum ArticlePart<'s> {
-    /// The id of these octets, which need be no text, has no article.
-    Lacks(&'s [u8]),
-    /// The id has an article.
-    Exists(&'s str),
-    /// A success names the id, and sends this block of its article.
-    Sends {
-        /// The message-id.
-        id: &'s str,
-        /// The parts of the article that the command asks for.
-        what: What,
-        /// The lines that are sent, if any are.
-        block: Option<&'s Block<'s>>,
-    },
-    /// A success that no range was asked of is the overview of the id's article.
-    Describes {
-        /// The message-id.
-        id: &'s str,
-        /// The line that is the overview.
-        block: &'s Block<'s>,
-    },
 }
 
 /// The part of a saying that lists the overviews of all numbers in a range.

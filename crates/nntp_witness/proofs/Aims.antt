@@ -6,7 +6,7 @@ use Rattle.nntp_theory.specs.{Answered.{Answered}, Given.{IsGiven}, Permitted.{e
 use Rattle.nntp_theory.proofs.Given.{SessionsByFacts.{given_exists_of_all, given_permits_all, made_for_all, said_each, stand_each}, SessionsGoOn.{facts_behind}}
 use Rattle.nntp_theory.proofs.Given.SessionsGoOn.{small_behind}
 use Rattle.nntp_facts.specs.Inner.Noted.{FactsKept, HasNotedBehind, profile_kept}
-use Rattle.nntp_kept.specs.Inner.Kept.{AreKeptArticles}
+use Rattle.nntp_kept_articles.specs.Inner.Articles.{AreKeptArticles}
 use Rattle.nntp_said.specs.Facts.{Fact}
 use Rattle.nntp_witness.specs.Inner.Witness.{HaveNoted, IsGivenSpool, IsWitness}
 

@@ -6,8 +6,8 @@ use Rattle.nntp_facts.proofs.Base.{said_nothing, AreSame, In, any_in, found_in, 
 use Rattle.nntp_facts.proofs.Base.{said_listed, ◌⊎◌, cases_Bool, head_fits, Point, Article, HeadOf, BodyOf, ConflictAt, none_there, of_rank, apart_both}
 use Rattle.nntp_facts.proofs.{Base.{give_same_of_both, IsPointOf}, PointsFound.{Statements.{article_told}, KindsOfPoints.{one_given}}}
 use Rattle.nntp_facts.specs.Inner.Points.{Statement, IsBeside}
-use Rattle.nntp_kept.{specs.Inner.{KeptSaying.{said_by, said_in}, Articles.{is_there}}, proofs.Keeping.OverviewsTold.{Overviews, plain_by_article}}
-use Rattle.nntp_kept.proofs.Keeping.KeptArticles.{shown_kept, denied_kept}
+use Rattle.nntp_kept.{specs.Inner.KeptSaying.{said_by}, proofs.Keeping.OverviewsTold.{Overviews, plain_by_article}}
+use Rattle.nntp_kept_articles.{specs.Inner.{ArticleSaid.{said_in}, Articles.{is_there}}, proofs.KeptArticles.{shown_kept, denied_kept}}
 
 -- ---- the parts of an article
 

@@ -6,7 +6,8 @@ use Rattle.nntp_facts.proofs.Base.{told_by, Kept, said_kept, head_sent, OfArticl
 use Rattle.nntp_facts.proofs.Base.{GiveOne, Point, ConflictAt, words_told, if_some, part_first, of_rank, give_same_of_both, IsPointOf}
 use Rattle.nntp_facts.proofs.PointsFound.{Statements.{article_told}, KindsOfPoints.{one_given}, ArticlesBeside.{own, others, said, said_plain}}
 use Rattle.nntp_facts.specs.Inner.Points.{IsBeside, IsFieldOf, IsFieldAmong, IsOtherField, OneTellsOther, Statement}
-use Rattle.nntp_kept.{specs.Inner.KeptSaying.{said_by, said_in}, proofs.Keeping.{OverviewsTold.{of_range}, ListedOverviews.{own_agree}}}
+use Rattle.nntp_kept.{specs.Inner.KeptSaying.{said_by}, proofs.Keeping.{OverviewsTold.{of_range}, ListedOverviews.{own_agree}}}
+use Rattle.nntp_kept_articles.specs.Inner.ArticleSaid.{said_in}
 
 -- ---- of one header what is given of all
 

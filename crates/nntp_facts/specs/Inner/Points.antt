@@ -7,7 +7,8 @@ use Rattle.nntp_wire.specs.{Listing.{Fields, OverviewValue}, Decided.{matches_na
 use Rattle.nntp_said.specs.Facts.{Fact, group_of}
 use Rattle.nntp_theory.specs.{Inner.{Together.{IsWellFormed, AgreeWithin, Together, AreSame}, Conflict.{FitsThere}}, Conflict.{Placed, told, with_group, Point}}
 use Rattle.nntp_theory.specs.Conflict.{Number, Count, First, IdOf, PlaceOf, FieldOf, rank, ConflictAt}
-use Rattle.nntp_kept.specs.Inner.{Kept.{Kept, IsKept, said_kept}, ListedGroups.{is_listed}, KeptSaying.{id_said, place_said}, Saying.{Saying, Tells}}
+use Rattle.nntp_kept.specs.Inner.{Kept.{Kept, IsKept}, ListedGroups.{is_listed}, KeptSaying.{id_said, place_said}, Saying.{Saying, Tells}}
+use Rattle.nntp_kept_articles.specs.Inner.Articles.{said_kept}
 use Rattle.nntp_facts.specs.Inner.Noted.{FactsKept, profile_kept}
 
 -- ---- what the last answer of a conflict says

@@ -1,7 +1,8 @@
 //! Articles that are kept otherwise.
 ghost use Rattle.std.specs.{Prelude.{◌≡◌, ◌++◌, if◌then◌else◌, false, List, None, Some, MatchOption, option_map}, Option.{option_map_or}, FinMap.{get}};
 ghost use Rattle.nntp_wire.specs.Listing.{overviews_of};
-ghost use Rattle.nntp_kept.specs.Inner.{Articles.{is_there}, Kept.{IsKept}};
+ghost use Rattle.nntp_kept_articles.specs.Inner.Articles.{is_there};
+ghost use Rattle.nntp_kept.specs.Inner.Kept.{IsKept};
 ghost use Rattle.nntp_facts.specs.Inner.{Points.{IsBeside, IsPointOf}, PointView.{point_of}, StatementView.{statement_of}};
 ghost use Rattle.nntp_theory.specs.{Conflict.{Article, HeadOf, BodyOf}, Given.{first_given, head_in, body_in}, Inner.Together.{AreSame}};
 ghost use Rattle.nntp_article.specs.declared.session.profile.Profile.{Profile};

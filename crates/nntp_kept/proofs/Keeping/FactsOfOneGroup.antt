@@ -1,9 +1,10 @@
 -- Facts of one group, or of none: what they ask of its numbers, the ids that they give, how they join what was said, and what is kept then.
 use Rattle.nntp_kept.proofs.Base.{◌≡◌, ℕ, false, ◌==◌, cond, List, [], Option, None, Some, refl, sym, ap, ◌∙◌, arith, ◌++◌, subst, append-nil, eqb-true, eq-eqb}
-use Rattle.nntp_kept.proofs.Base.{◌↔◌, nat_cmp, eq_by_cmp, slice_cmp, same_text, nat_list_eq_equiv, nat_list_cmp_total, Id, Name, is_same, Ask, Fact, asks_of}
-use Rattle.nntp_kept.proofs.Base.{first_given, id_in, shows_group, number_in, JoinIds, AsksStand, Together, JoinNumbers, same_itself, FinMap, insert}
-use Rattle.nntp_kept.proofs.Base.{get-insert, any_silent, given_silent, asks_append, told, MayShow, id_of, place_of, KeptGroup, Told, IsUntold, AreKept, Bool}
-use Rattle.nntp_kept.{proofs.Base.{true, texts_ties}, specs.Inner.Kept.{IsKeptGroup}}
+use Rattle.nntp_kept.proofs.Base.{◌↔◌, nat_cmp, eq_by_cmp, slice_cmp, same_text, nat_list_cmp_total, Id, Name, is_same, Ask, Fact, asks_of, first_given, id_in}
+use Rattle.nntp_kept.proofs.Base.{shows_group, number_in, JoinIds, AsksStand, Together, JoinNumbers, same_itself, FinMap, insert, get-insert, any_silent}
+use Rattle.nntp_kept.proofs.Base.{given_silent, asks_append, told, MayShow, id_of, place_of, KeptGroup, Told, IsUntold, AreKept, Bool, true}
+use Rattle.nntp_kept.specs.Inner.Kept.{IsKeptGroup}
+use Rattle.nntp_kept_articles.proofs.TextKeys.{flip_text}
 
 -- ---- asks
 
@@ -42,10 +43,6 @@ gives_joins facts more here (Some e) is = (
 
 pub flip_number : (k n : ℕ) → eq_by_cmp nat_cmp k n ≡ (n == k)
 flip_number k n = grind arith
-
--- the same octets, either way
-pub flip_text : (i id : Id) → eq_by_cmp (slice_cmp nat_cmp) i id ≡ is_same id i
-flip_text i id = sym (texts_ties i id) ∙ nat_list_eq_equiv.symm i id
 
 -- ---- ids at numbers
 

@@ -1,26 +1,10 @@
 -- What is shown of the groups that are kept.
-use Rattle.nntp_kept.proofs.Base.{◌≡◌, Bool, ◌==◌, ◌||◌, List, [], ◌∷◌, map, Some, refl, sym, ap, subst, ◌∙◌, arith, list_any, AllByRecursion, nat_cmp}
-use Rattle.nntp_kept.proofs.Base.{eq_by_cmp, slice_cmp, nat_list_cmp_total, FinMap, get, entries, octet_keys, Name, is_same, Fact, asks_of, AsksStand}
-use Rattle.nntp_kept.proofs.{Base.{sorted_keys, in_get, In, all_from, from_map, KeptGroup, told, AreKeptGroups, are_unseen}, Keeping.KeptGroups.{kept_of}}
-use Rattle.nntp_kept.{proofs.Keeping.{KeptGroups.{shown_kept}, FactsOfOneGroup.{flip_number, flip_text}}, specs.Inner.Kept.{IsKeptGroup}}
+use Rattle.nntp_kept.proofs.Base.{◌≡◌, ◌==◌, List, Some, refl, sym, ap, subst, ◌∙◌, arith, list_any, nat_cmp, eq_by_cmp, slice_cmp, nat_list_cmp_total, FinMap}
+use Rattle.nntp_kept.proofs.Base.{get, entries, octet_keys, Name, is_same, Fact, asks_of, AsksStand, sorted_keys, in_get, KeptGroup, told, AreKeptGroups}
+use Rattle.nntp_kept.{proofs.{Base.{are_unseen}, Keeping.{KeptGroups.{kept_of, shown_kept}, FactsOfOneGroup.{flip_number}}}, specs.Inner.Kept.{IsKeptGroup}}
 use Rattle.nntp_kept.specs.Inner.Readers.{shown_groups, AreShownNumbers, HasShownNumbers, AreShownGroups, ShownGroup, with_ids, shown_group}
+use Rattle.nntp_kept_articles.proofs.{TextKeys.{flip_text}, MadeLists.{read_off, any_along, all_along}}
 use Rattle.std.{specs.{FinMap.{entries_sorted, contains_key-keys}, List.Sorted.{IsStrictlySortedBy}, BTreeMap.{is_at}}, proofs.lemmas.List.{map-id}}
-
--- ---- lists that are made of another
-
--- what is read off the made ones can be read off the others
-pub read_off : {A B C : Type 0} (f : C → A) (k : A → B) (h : C → B) (xs : List C) → ((x : C) → k (f x) ≡ h x) → map k (map f xs) ≡ map h xs
-read_off f k h [] same = refl
-read_off f k h (x ∷ xs) same = λ i. same x i ∷ read_off f k h xs same i
-
--- a test of the made ones is one of the others
-pub any_along : {A B C : Type 0} (f : C → A) (h : C → B) (p : A → Bool) (q : B → Bool) (xs : List C) → ((x : C) → p (f x) ≡ q (h x)) → list_any p (map f xs) ≡ list_any q (map h xs)
-any_along f h p q [] same = refl
-any_along f h p q (x ∷ xs) same = λ i. same x i || any_along f h p q xs same i
-
--- what holds of each of them
-pub all_along : {A C : Type 0} (P : A → Type 0) (f : C → A) (xs : List C) → ((x : C) → In x xs → P (f x)) → AllByRecursion P (map f xs)
-all_along P f xs each = all_from P (map f xs) (λ y i. let g = from_map f y xs i in subst P g.2 (each g.0 g.1))
 
 -- ---- one group
 

@@ -1,6 +1,7 @@
 -- An id that is held beside maps of ids.
 use Rattle.nntp_kept.proofs.Base.{◌≡◌, ℕ, Option, None, Some, refl, arith, option_or, FinMap, get, get-insert, nat_cmp, nat_cmp_total, slice_cmp}
-use Rattle.nntp_kept.proofs.{Base.{nat_list_cmp_total, Id, ids_with, places_with, id_of, place_of}, Keeping.FactsOfOneGroup.{flip_number, flip_text}}
+use Rattle.nntp_kept.proofs.{Base.{nat_list_cmp_total, Id, ids_with, places_with, id_of, place_of}, Keeping.FactsOfOneGroup.{flip_number}}
+use Rattle.nntp_kept_articles.proofs.TextKeys.{flip_text}
 
 -- what is found at a number is the id that is held, if that is there, or else what the map has
 pub id_beside : (ids : FinMap nat_cmp Id) (held : Option (ℕ × Id)) (n : ℕ) → get (ids_with ids held) n ≡ option_or (id_of held n) (get ids n)

@@ -4,7 +4,8 @@ use Rattle.nntp_kept.proofs.Base.{eqb-true, or_left, list_any-append, option_or,
 use Rattle.nntp_kept.proofs.Base.{nat_cmp-IsAntisymmetric, nat_cmp, nat_cmp_total, slice_cmp, same_text, nat_list_cmp_total, ◌↔◌, list_any, insert-same, Id}
 use Rattle.nntp_kept.proofs.Base.{Name, Ask, IsSummary, AreBounded, or_none, KeptGroup, Told, IsUntold, AreKept, with_part, Changes, Agree, MayHave, MayShow}
 use Rattle.nntp_kept.proofs.{Base.{ids_with, places_with, id_of, place_of, option_map_or, false, empty, IfSome, denies}, Keeping.FactsOfOneGroup.{flip_number}}
-use Rattle.nntp_kept.{proofs.Keeping.FactsOfOneGroup.{flip_text, kept_at}, specs.Inner.Kept.{IsKeptGroup}}
+use Rattle.nntp_kept.{proofs.Keeping.FactsOfOneGroup.{kept_at}, specs.Inner.Kept.{IsKeptGroup}}
+use Rattle.nntp_kept_articles.proofs.TextKeys.{flip_text}
 
 abbrev pub Groups : Type 0
 Groups = FinMap (slice_cmp nat_cmp) KeptGroup

@@ -1,61 +1,37 @@
 -- Names that are kept: more of them, and whether a name is denied; and the names that are listed.
 use Rattle.nntp_kept.proofs.Base.{◌≡◌, ℕ, Bool, true, false, ◌||◌, ◌&&◌, IsTrue, List, [], ◌∷◌, ◌++◌, map, Option, None, Some, refl, sym, ap, subst, ◌∙◌, arith}
-use Rattle.nntp_kept.proofs.Base.{not, MatchOption, is_some, true≢false, or_left, true_from_ne_false, and_from, list_any-append, IfSome, Ordering, Equal}
-use Rattle.nntp_kept.proofs.Base.{nat_cmp, is_eq, slice_cmp, same_text, nat_list_cmp_total, AllByRecursion, list_any, option_map_or, insert_entry, matches_name}
-use Rattle.nntp_kept.proofs.Base.{ActiveValue, Name, is_same, Fact, GroupsAre, is_shown_group, denies_group, all_at, all_from, contains_in, in_back, any_silent}
-use Rattle.nntp_kept.proofs.Base.{get, IsGroupName, get-shown, Together, shown_named, AreKeptNames, KeptGroup, told, AreKeptGroups, MayList, WereListed}
-use Rattle.nntp_kept.proofs.Base.{is_listed, NoneIsMissing, KeptNames, WasAnswered, length, is_wildmat, shown, shown_entry, is_some-option_map, any-insert_key}
-use Rattle.nntp_kept.proofs.Keeping.{CountedGroups.{listed_still}, FactsOfOneGroup.{flip_text}, KeptGroups.{Groups, shown_kept}}
+use Rattle.nntp_kept.proofs.Base.{not, MatchOption, is_some, true≢false, or_left, true_from_ne_false, and_from, list_any-append, IfSome, nat_cmp, is_eq}
+use Rattle.nntp_kept.proofs.Base.{slice_cmp, same_text, nat_list_cmp_total, AllByRecursion, list_any, option_map_or, insert_entry, matches_name, ActiveValue}
+use Rattle.nntp_kept.proofs.Base.{Name, is_same, Fact, GroupsAre, is_shown_group, denies_group, all_at, all_from, contains_in, in_back, any_silent, get}
+use Rattle.nntp_kept.proofs.Base.{IsGroupName, get-shown, Together, shown_named, AreKeptNames, KeptGroup, told, AreKeptGroups, MayList, WereListed, is_listed}
+use Rattle.nntp_kept.proofs.Base.{NoneIsMissing, KeptNames, WasAnswered, length, is_wildmat, shown, shown_entry, is_some-option_map}
+use Rattle.nntp_kept.proofs.Keeping.{CountedGroups.{listed_still}, KeptGroups.{Groups, shown_kept}}
+use Rattle.nntp_kept_articles.proofs.TextKeys.{flip_text, any-map, texts, order, tied, any_put}
 use Rattle.std.specs.{BTreeSet.{insert_key}, Map.{lookup, keys_of}, Borrow.{Bor}}
 
--- ---- keys of a set
+-- ---- entries of a map whose keys are seen as their octets
 
-pub any-map : {X Y : Type 0} (p : Y → Bool) (f : X → Y) (xs : List X) → list_any p (map f xs) ≡ list_any (λ x. p (f x)) xs
-any-map p f [] = refl
-any-map p f (x ∷ xs) = ap (λ b. p (f x) || b) (any-map p f xs)
-
--- keys that are seen as their octets
 module _ {V : Type 0} (text : V → List ℕ) where
-  -- the octets of the keys
-  abbrev pub texts : List V → List (List ℕ)
-  texts ks = map text ks
-
-  abbrev pub order : V → V → Ordering
-  order a b = slice_cmp nat_cmp (text a) (text b)
-
-  -- keys that are tied have the same octets
-  tied : (k x : V) → order k x ≡ Equal → text x ≡ text k
-  tied k x e = same_text (text x) (text k) (sym (sym (flip_text (text k) (text x)) ∙ ap is_eq e))
-
-  -- a test of the octets, once more of them were put among the keys
-  pub any_put : (p : List ℕ → Bool) (ks : List V) (k : V) → list_any p (texts (insert_key order ks k)) ≡ (p (text k) || list_any p (texts ks))
-  any_put p ks k =
-      any-map p text (insert_key order ks k)
-      ∙ any-insert_key order (λ k. p (text k)) k ks (λ x e. ap p (tied k x e))
-      ∙ ap (λ b. p (text k) || b) (sym (any-map p text ks))
-
-  -- ---- entries of a map
-
   -- the octets of the keys, each with its count
   abbrev pub counts : List (V × ℕ) → List (List ℕ × ℕ)
   counts es = map (shown_entry text (λ (n : ℕ). n)) es
 
-  keys_put : (es : List (V × ℕ)) (k : V) (n : ℕ) → keys_of (insert_entry order es k n) ≡ insert_key order (keys_of es) k
+  keys_put : (es : List (V × ℕ)) (k : V) (n : ℕ) → keys_of (insert_entry (order text) es k n) ≡ insert_key (order text) (keys_of es) k
   keys_put [] k n = refl
   keys_put (x ∷ es) k n = grind (arith, keys_put es k n)
 
-  any_key : (p : List ℕ → Bool) (es : List (V × ℕ)) → list_any (λ e. p e.0) (counts es) ≡ list_any p (texts (keys_of es))
+  any_key : (p : List ℕ → Bool) (es : List (V × ℕ)) → list_any (λ e. p e.0) (counts es) ≡ list_any p (texts text (keys_of es))
   any_key p [] = refl
   any_key p (x ∷ es) = ap (λ b. p (text x.0) || b) (any_key p es)
 
   -- a test of the octets, once more of them were put in
-  pub any_counted : (p : List ℕ → Bool) (es : List (V × ℕ)) (k : V) (n : ℕ) → list_any (λ e. p e.0) (counts (insert_entry order es k n)) ≡ (p (text k) || list_any (λ e. p e.0) (counts es))
+  pub any_counted : (p : List ℕ → Bool) (es : List (V × ℕ)) (k : V) (n : ℕ) → list_any (λ e. p e.0) (counts (insert_entry (order text) es k n)) ≡ (p (text k) || list_any (λ e. p e.0) (counts es))
   any_counted p es k n = grind (arith, any_key, keys_put, any_put)
 
   -- what holds of each
-  all_counted : (P : List ℕ × ℕ → Type 0) (es : List (V × ℕ)) (k : V) (n : ℕ) → P (text k, n) → AllByRecursion P (counts es) → AllByRecursion P (counts (insert_entry order es k n))
+  all_counted : (P : List ℕ × ℕ → Type 0) (es : List (V × ℕ)) (k : V) (n : ℕ) → P (text k, n) → AllByRecursion P (counts es) → AllByRecursion P (counts (insert_entry (order text) es k n))
   all_counted P [] k n h all = (h, tt)
-  all_counted P (x ∷ es) k n h all = grind (arith, tied k x.0, all_counted P es k n h all.1)
+  all_counted P (x ∷ es) k n h all = grind (arith, tied text k x.0, all_counted P es k n h all.1)
 
 -- ---- names
 
@@ -112,9 +88,6 @@ pub some_matches : {V : Type 0} (text : V → List ℕ) (facts : List Fact) (nam
     → list_any (λ k. is_wildmat (text k) && matches_name (text k) name) (keys_of es) ≡ list_any (λ e. matches_name e.0 name) (counts text es)
 some_matches text facts name [] all = refl
 some_matches text facts name (x ∷ es) all = (λ i. (all.0.0 i && matches_name (text x.0) name) || some_matches text facts name es all.1 i)
-
-pub is_key : {V : Type 0} (text : V → List ℕ) (name : Name) (ks : List V) → list_any (λ k. is_eq (slice_cmp nat_cmp name (text k))) ks ≡ list_any (λ k. is_same (text k) name) ks
-is_key text name ks = λ i. list_any (λ k. flip_text name (text k) i) ks
 
 -- how many groups were listed for a wildmat that is found
 pub answered_found : {V : Type 0} (text : V → List ℕ) (facts : List Fact) (es : List (V × ℕ)) (w : List ℕ) → AllByRecursion (WasAnswered facts) (counts text es)

@@ -5,7 +5,8 @@ use Rattle.nntp_kept.proofs.Base.{AllByRecursion, list_all, option_map_or, same_
 use Rattle.nntp_kept.proofs.Base.{Bounds, Fact, GroupsAre, asks_of, is_shown_group, first_given, id_in, IsWellFormed, AsksStand, Together, Join, denies_group}
 use Rattle.nntp_kept.proofs.Base.{number_in, In, all_at, all_from, any_in, found_in, same_itself, list_any-append, flat_map-append, given_silent, or_none}
 use Rattle.nntp_kept.proofs.Base.{asks_append, is_listed, LineJoins, NoneIsMissing, told, with_part, Changes, said_of, subst, any_more}
-use Rattle.nntp_kept.{proofs.Keeping.{FactsOfOneGroup.{ids_join, same_told}, SaidOfArticles.{nothing_joins}}, specs.Inner.ListedGroups.{bounds_of}}
+use Rattle.nntp_kept.{proofs.Keeping.FactsOfOneGroup.{ids_join, same_told}, specs.Inner.ListedGroups.{bounds_of}}
+use Rattle.nntp_kept_articles.proofs.SaidOfArticles.{nothing_joins}
 
 -- where the group isn't listed, no bounds are reported for it
 pub no_bounds : (name : Name) (lines : List ActiveValue) → is_listed lines name ≡ false → bounds_of name lines ≡ []

@@ -7,10 +7,11 @@ use Rattle.nntp_kept.proofs.Base.{IsWellFormed, JoinNumbers, JoinIds, Together, 
 use Rattle.nntp_kept.proofs.Base.{found_in, same_itself, asks_append, given_append, given_silent, or_none, any_silent, Kept, IsKept, Told, told, AreKept}
 use Rattle.nntp_kept.proofs.Base.{AreKeptNames, AreKeptArticles, with_part, Changes, MayShow, said_kept, IsSaidKept, IsSaidAdded, MayGive, with_overviews}
 use Rattle.nntp_kept.proofs.Base.{said_alone, said_listed, HaveOwn, OverviewJoins, id_listed, place_listed, telling, SaidOfArticle, Fields, id_of_overview}
-use Rattle.nntp_kept.proofs.{Base.{number_of_overview, overview_at, overview_of, told_by}, Keeping.{KeptNames.{names_kept}, KeptArticles.{Articles, MayKeep}}}
-use Rattle.nntp_kept.proofs.Keeping.{KeptArticles.{article_joins, denied_kept}, ListedOverviews.{listed_asks, listed_ids, listed_places, listed_said}}
-use Rattle.nntp_kept.proofs.Keeping.{ListedOverviews.{own_agree, none_in_front}, FactsOfOneGroup.{asked_here, asked_elsewhere, numbers_join, told_same}}
-use Rattle.nntp_kept.{proofs.Keeping.{FactsOfOneGroup.{same_told}, PartsJoin.{agree_told}, SaidOfArticles.{said_append}}, specs.Inner.KeptSaying.{MayBeGiven}}
+use Rattle.nntp_kept.proofs.{Base.{number_of_overview, overview_at, overview_of, told_by}, Keeping.{KeptNames.{names_kept}, ListedOverviews.{listed_asks}}}
+use Rattle.nntp_kept.proofs.Keeping.{ListedOverviews.{listed_ids, listed_places, listed_said, own_agree, none_in_front}, FactsOfOneGroup.{asked_here}}
+use Rattle.nntp_kept.proofs.Keeping.{FactsOfOneGroup.{asked_elsewhere, numbers_join, told_same, same_told}, PartsJoin.{agree_told}}
+use Rattle.nntp_kept.specs.Inner.KeptSaying.{MayBeGiven}
+use Rattle.nntp_kept_articles.proofs.{KeptArticles.{Articles, MayKeep, article_joins, denied_kept}, SaidOfArticles.{said_append}}
 
 -- what is told of a group, once its numbers have the ids of these overviews
 abbrev pub with_listed : Told → List OverviewValue → Told

@@ -8,10 +8,15 @@ use Rattle.nntp_kept.proofs.Base.{asked_id, sent_facts, lack_facts, id_facts, gr
 use Rattle.nntp_kept.proofs.Base.{with_part, Changes, Agree, IsShownAt, id_of, place_of, GroupJoins, ArticleJoins, Bool, IsTrue, JoinNames, alone_agrees}
 use Rattle.nntp_kept.proofs.{Base.{agree_together, shown_with_id}, Keeping.FactsOfOneGroup.{numbers_join, no_numbers_join, GiveNoIds, ids_join, told_same}}
 use Rattle.nntp_kept.proofs.Keeping.{FactsOfOneGroup.{AskOf, asked_here, asked_elsewhere, GivesId, gives_joins, same_told}, KeptGroups.{Groups}}
-use Rattle.nntp_kept.proofs.Keeping.FactsOfParts.{asks_of_group, ids_in, of_articles, group_asks, shown_group, denied_group, group_gives}
-use Rattle.nntp_kept.{proofs.Keeping.SaidOfArticles.{nothing_more, said_is_read, overview_said, said_at}, specs.Inner.KeptSaying.{JoinGroups, said_in}}
+use Rattle.nntp_kept.proofs.Keeping.FactsOfParts.{IsRead, asks_of_group, ids_in, of_articles, group_asks, shown_group, denied_group, group_gives}
+use Rattle.nntp_kept.specs.Inner.KeptSaying.{JoinGroups}
+use Rattle.nntp_kept_articles.{proofs.SaidOfArticles.{nothing_more, said_append, overview_said, said_at}, specs.Inner.ArticleSaid.{said_in}}
 
 -- ---- articles
+
+-- what facts say of an id is read off them one list behind the other
+said_is_read : (id : Id) → IsRead (λ facts. said_of facts id) join_said said_nothing
+said_is_read id = record { none = refl; append = λ facts more. said_append facts more id; left = λ s. refl; right = nothing_more }
 
 -- of each id the facts of the article's part, and the id at a number, say what that part does
 of_part : (a : Option (Id × OfArticle)) (name : Name) (e : Option (ℕ × Id)) → IfSome e (λ e. IsToExist a e.1) → ((other : Id) → a ≡ Some (other, Exists) → MatchOption e ⊥ (λ e. e.1 ≡ other))

@@ -1,21 +1,16 @@
 -- What is kept of all that a session says: of each group, of each id, and of the names that are no groups.
-use Rattle.std.specs.Prelude.{◌≡◌, ℕ, Bool, true, false, not, ◌||◌, ◌==◌, if◌then◌else◌, List, [], ◌++◌, Option, None, Some, MatchOption, IsTrue, IfSome}
-use Rattle.std.specs.{Prelude.{is_some}, Option.{option_or}, List.{list_any, count_by, AllByRecursion}, Ordering.{nat_cmp}, Cmp.Lexicographic.{slice_cmp}}
-use Rattle.std.specs.FinMap.{FinMap, get, insert, entries}
-use Rattle.nntp_wire.specs.{Inner.Decided.{is_asked}, Decided.{matches_name}, Wildmat.{is_wildmat}, Listing.{Fields}}
-use Rattle.nntp_article.specs.{Article.Parts.{Id, Line}, Session.{Spool.{Name}, Machine.{is_same}}}
+use Rattle.std.specs.Prelude.{◌≡◌, ℕ, Bool, true, false, ◌||◌, ◌==◌, if◌then◌else◌, List, [], ◌++◌, Option, None, Some, MatchOption, IsTrue, IfSome, is_some}
+use Rattle.std.specs.{Option.{option_or}, List.{list_any, count_by, AllByRecursion}, Ordering.{nat_cmp}, Cmp.Lexicographic.{slice_cmp}, FinMap.{FinMap, get}}
+use Rattle.std.specs.FinMap.{insert, entries}
+use Rattle.nntp_wire.specs.{Inner.Decided.{is_asked}, Decided.{matches_name}, Wildmat.{is_wildmat}}
+use Rattle.nntp_article.specs.{Article.Parts.{Id}, Session.{Spool.{Name}, Machine.{is_same}}}
 use Rattle.nntp_said.specs.{Asks.{Ask}, Facts.{Fact}}
-use Rattle.nntp_theory.specs.{Given.{is_shown, asks_of, is_shown_group, first_given, id_in}, Together.{number_in, denies_group}, Inner.Together.{SaidOfArticle}}
-use Rattle.nntp_theory.specs.Inner.Together.{said_of, said_nothing, Join}
+use Rattle.nntp_theory.specs.{Given.{is_shown, asks_of, is_shown_group, first_given, id_in}, Together.{number_in, denies_group}, Inner.Together.{Join}}
 use Rattle.nntp_numbers.specs.Inner.Summary.{Summary, IsSummary, AreBounded}
 use Rattle.nntp_kept.specs.{Inner.ListedGroups.{WereListed}, declared.joins.Joins.{Joins, TheVariants.{Never}}}
+use Rattle.nntp_kept_articles.specs.Inner.Articles.{KeptArticle, AreKeptArticles, IsAddedIf}
 
 -- ---- what is added
-
--- what is new has something added, if it may be added, and else is what was old
-abbrev pub IsAddedIf : {K : Type 0} → Type 0 → (K → Type 0) → K → K → Bool → Type 0
-IsAddedIf May Has old new true = May × Has new
-IsAddedIf May Has old new false = (May → ⊥) × (new ≡ old)
 
 -- what is said joins all before
 abbrev pub joins_at_all : Joins → Bool
@@ -148,33 +143,6 @@ pub record AreKeptNames (facts : List Fact) (k : KeptNames) : Type 0 where
   pub wildmats : AllByRecursion (WasAnswered facts) k.wildmats
   pub all_listed : IfSome k.all_listed (WereListed facts None)
   pub denied : (name : Name) → is_shown_group facts name ≡ false → list_any (denies_group name) facts ≡ is_denied_name k name
-
--- ---- ids
-
--- what is kept of an id: whether it is denied, whether a success names it, what was sent of its article, and what was told of four headers
-pub record KeptArticle : Type 0 where
-  pub is_denied : Bool
-  pub is_sent : Bool
-  pub head : Option (List Line)
-  pub fields : Option Fields
-  pub body : Option (List Line)
-
--- what facts say of an id of which this is kept, or nothing
-abbrev pub said_kept : Option KeptArticle → SaidOfArticle
-said_kept None = said_nothing
-said_kept (Some a) = record {
-  is_mentioned = true;
-  is_shown = not a.is_denied;
-  is_denied = a.is_denied;
-  is_sent = a.is_sent;
-  head = a.head;
-  fields = a.fields;
-  body = a.body;
-}
-
--- what is said of each id is kept
-abbrev pub AreKeptArticles : List Fact → FinMap (slice_cmp nat_cmp) KeptArticle → Type 0
-AreKeptArticles facts articles = (id : Id) → said_of facts id ≡ said_kept (get articles id)
 
 -- ---- the whole
 

@@ -1,17 +1,16 @@
 -- What each part of an answer has to join, and what is kept then.
 use Rattle.std.specs.Prelude.{◌≡◌, ◌&&◌, ◌==◌, not, ℕ, Bool, true, false, if◌then◌else◌, List, [], ◌∷◌, ◌++◌, Option, None, Some, MatchOption, IfSome, IsTrue}
-use Rattle.std.specs.{Prelude.{IsFalse, ⊤}, List.{list_any}, Option.{option_or, option_map_or}, Ordering.{nat_cmp}, Cmp.Lexicographic.{slice_cmp}}
-use Rattle.std.specs.FinMap.{FinMap, get}
+use Rattle.std.specs.{Prelude.{IsFalse}, List.{list_any}, Option.{option_or, option_map_or}, Ordering.{nat_cmp}, Cmp.Lexicographic.{slice_cmp}, FinMap.{FinMap}}
+use Rattle.std.specs.FinMap.{get}
 use Rattle.nntp_wire.specs.{Listing.{OverviewValue}, declared.range.Range.{Range}}
-use Rattle.nntp_article.specs.{Article.Parts.{Id}, Session.{Spool.{Name}, Machine.{is_same, head_fits, overview_numbers, only}}}
+use Rattle.nntp_article.specs.{Article.Parts.{Id}, Session.{Spool.{Name}, Machine.{is_same, overview_numbers}}}
 use Rattle.nntp_said.specs.{Asks.{Ask, ListsIn}, Facts.{Fact}}
 use Rattle.nntp_theory.specs.{Given.{asks_of, is_shown_group, first_given, has_overview_of, fields_of_overview, fields_in}, Inner.Together.{AsksStand}}
-use Rattle.nntp_theory.specs.{Inner.Together.{SaidOfArticle, said_of, said_nothing, join_said, AreSame, JoinArticle}, Together.{denies_group, shows_article}}
-use Rattle.nntp_theory.specs.Together.{denies_article}
+use Rattle.nntp_theory.specs.{Inner.Together.{SaidOfArticle, AreSame}, Together.{denies_group, denies_article}}
 use Rattle.nntp_numbers.specs.Inner.{Part.{Says, only_has}, Summary.{AddsNothing}}
-use Rattle.nntp_kept.specs.Inner.{Saying.{OfGroup, OfArticle, Lacks, Exists, Sends, Describes, Saying, asked_id}, Kept.{KeptGroup, Told, told, Agree, MayShow}}
-use Rattle.nntp_kept.specs.Inner.{Kept.{id_of, place_of, KeptArticle, said_kept, IsAddedIf}, ListedOverviews.{HaveOwn, id_listed, place_listed}}
-use Rattle.nntp_kept.specs.Inner.Articles.{head_sent, body_sent, denied, unsent, telling, with_sent}
+use Rattle.nntp_kept.specs.Inner.{Saying.{OfGroup, Saying, asked_id}, Kept.{KeptGroup, Told, told, Agree, MayShow, id_of, place_of}, ListedOverviews.{HaveOwn}}
+use Rattle.nntp_kept.specs.Inner.ListedOverviews.{id_listed, place_listed}
+use Rattle.nntp_kept_articles.specs.Inner.{Articles.{KeptArticle, said_kept}, ArticleSaid.{said_in}}
 
 -- ---- of a group
 
@@ -76,33 +75,6 @@ place_said s at id = option_map_or (λ o. place_listed o.1 id) s.overviews (plac
 abbrev pub IsTextOf : Option Id → Option (ℕ × Id) → Type 0
 IsTextOf text id = IfSome id (λ e. text ≡ Some e.1)
 
--- where no more is said of an id than that it has an article, it was said before that it has
-abbrev pub IsThereAlready : List Fact → Option (Id × OfArticle) → Type 0
-IsThereAlready facts (Some (id, Exists)) = IsTrue (list_any (shows_article id) facts)
-IsThereAlready facts article = ⊤
-
--- the lines are a head, where a head is sent; and the overview is the only one, and that of the id, where one is
-abbrev pub MayBeSaid : Id × OfArticle → Type 0
-MayBeSaid (id, Sends what lines) = IsTrue (head_fits what id lines)
-MayBeSaid (id, Describes overviews) = MatchOption (only overviews) ⊥ (λ o. o.id ≡ id)
-MayBeSaid a = ⊤
-
--- what is kept of an id of which this alone is said
-abbrev pub kept_by : OfArticle → KeptArticle
-kept_by Lacks = denied
-kept_by Exists = unsent
-kept_by (Sends what lines) = with_sent unsent (head_sent what lines) (body_sent what lines)
-kept_by (Describes overviews) = telling true (option_map_or (λ o. o.told) (only overviews) None)
-
--- what is said of each id, where of one alone this is
-abbrev pub said_alone : Id → KeptArticle → Id → SaidOfArticle
-said_alone other a id = if is_same other id then said_kept (Some a) else said_nothing
-
--- what is said of each id, where this is said of one
-abbrev pub said_in : Option (Id × OfArticle) → Id → SaidOfArticle
-said_in None id = said_nothing
-said_in (Some a) id = said_alone a.0 (kept_by a.1) id
-
 -- what overviews of a range say of each id: those have an article that they have, which tells the same
 abbrev pub said_listed : List OverviewValue → Id → SaidOfArticle
 said_listed overviews id = record {
@@ -118,22 +90,3 @@ said_listed overviews id = record {
 -- what it says of an id: by overviews that it has an article, or otherwise
 abbrev pub said_by : Saying → Id → SaidOfArticle
 said_by s id = option_map_or (λ o. said_listed o.1 id) s.overviews (said_in s.article id)
-
--- what is said of ids joins what was said
-abbrev pub SaidJoins : List Fact → (Id → SaidOfArticle) → Type 0
-SaidJoins facts said = (id : Id) → JoinArticle (said_of facts id) (said id)
-
--- once it is said too, this is kept
-abbrev pub IsSaidKept : List Fact → (Id → SaidOfArticle) → FinMap (slice_cmp nat_cmp) KeptArticle → Type 0
-IsSaidKept facts said articles = (id : Id) → join_said (said_of facts id) (said id) ≡ said_kept (get articles id)
-
--- it is added, if it joins
-abbrev pub IsSaidAdded : List Fact → (Id → SaidOfArticle) → FinMap (slice_cmp nat_cmp) KeptArticle → FinMap (slice_cmp nat_cmp) KeptArticle → Bool → Type 0
-IsSaidAdded facts said old new does = IsAddedIf (SaidJoins facts said) (IsSaidKept facts said) old new does
-
--- the same of what is said of one id
-abbrev pub ArticleJoins : List Fact → Option (Id × OfArticle) → Type 0
-ArticleJoins facts article = SaidJoins facts (said_in article)
-
-abbrev pub IsArticleAdded : List Fact → Option (Id × OfArticle) → FinMap (slice_cmp nat_cmp) KeptArticle → FinMap (slice_cmp nat_cmp) KeptArticle → Bool → Type 0
-IsArticleAdded facts article old new does = IsSaidAdded facts (said_in article) old new does

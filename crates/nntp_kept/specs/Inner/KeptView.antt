@@ -1,6 +1,7 @@
 -- The codes of what is kept of all that was said.
 use Rattle.std.specs.{Prelude.{refl}, Coded.{Coded, code_by, coded×, coded_ℕ, coded_list, coded_option}}
-use Rattle.nntp_kept.specs.Inner.{Kept.{KeptNames, Kept}, GroupView.{coded_groups}, ArticleView.{coded_kept}}
+use Rattle.nntp_kept.specs.Inner.{Kept.{KeptNames, Kept}, GroupView.{coded_groups}}
+use Rattle.nntp_kept_articles.specs.Inner.ArticleView.{coded_kept}
 use Rattle.std.specs.FinMap as map
 
 abbrev pub coded_names : Coded KeptNames

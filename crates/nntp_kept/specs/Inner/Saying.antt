@@ -1,26 +1,20 @@
 -- What an answer says of the spool, in parts (RFC 3977, sections 6 and 7.6.3).
 use Rattle.std.specs.Prelude.{◌≡◌, ℕ, true, IsTrue, List, [], ◌∷◌, ◌++◌, map, Option, None, Some, option_map, unwrap_or, IfSome, MatchOption, ⊤, ◌⊎◌}
 use Rattle.std.specs.Option.{option_map_or}
-use Rattle.nntp_article.specs.{Article.Parts.{Id, Line}, Session.{Spool.{Name}, Machine.{Visible, head_fits, overview_numbers, only}}, Inner.Listed.{Lists}}
-use Rattle.nntp_wire.specs.{declared.{command.What.{What}, range.Range.{Range}}, Answer.{Response, sends}, Listing.{ActiveValue, OverviewValue}}
+use Rattle.nntp_article.specs.{Article.Parts.{Id}, Session.{Spool.{Name}, Machine.{Visible, head_fits, overview_numbers, only}}, Inner.Listed.{Lists}}
+use Rattle.nntp_wire.specs.{declared.range.Range.{Range}, Answer.{Response, sends}, Listing.{ActiveValue, OverviewValue}}
 use Rattle.nntp_said.specs.{Asks.{Ask, ListsIn, Has}, Facts.{Fact, ThereIs, ThereIsNo, Asks, IdAt, TextIs, NoArticle, FieldsAre, OverviewsAre, GroupsAre}}
 use Rattle.nntp_said.specs.Facts.{group_of}
 use Rattle.nntp_theory.specs.Given.{is_shown_group}
 use Rattle.nntp_numbers.specs.Inner.{Part.{Said, Says}, PartOf.{nothing_said, part_with}, Summary.{AreBounded}}
 use Rattle.nntp_kept.specs.Inner.{ListedGroups.{MayList}, ListedOverviews.{HaveOwn}}
+use Rattle.nntp_kept_articles.specs.Inner.ArticleSaid.{OfArticle, IsToExist, Lacks, Exists, Sends, Describes}
 
 -- what is said of one group: of its numbers, and the id at a number, if one is shown
 pub record OfGroup : Type 0 where
   pub name : Name
   pub numbers : Said
   pub id : Option (ℕ × Id)
-
--- what is said of an id: that it has no article; that it has one; that a success names it, and sends these lines; or that it has an article of which this is the overview
-pub data OfArticle : Type 0 where
-  Lacks : OfArticle
-  Exists : OfArticle
-  Sends : (what : What) → (lines : Option (List Line)) → OfArticle
-  Describes : (overviews : List OverviewValue) → OfArticle
 
 -- all that an answer says: that there is such a group, or none; what it says of the numbers of one group, and of an id; the
 -- overviews of those in a range; and the groups that match
@@ -144,12 +138,6 @@ saying_by shown s (fact ∷ facts) = saying_by shown (saying_with shown fact s) 
 -- the group was shown; or it is shown now, and no number from 2^64 on is left open
 abbrev pub IsShownThen : List Fact → Option Name → List Ask → Name → Type 0
 IsShownThen facts there_is asks name = (is_shown_group facts name ≡ true) ⊎ ((there_is ≡ Some name) × AreBounded asks)
-
--- the id is said to have an article
-abbrev pub IsToExist : Option (Id × OfArticle) → Id → Type 0
-IsToExist None id = ⊥
-IsToExist (Some (other, Lacks)) id = ⊥
-IsToExist (Some (other, said)) id = other ≡ id
 
 -- an id of which nothing is sent is at a number of the group; where a head is sent, it is one; and an overview is the only one, and that of the id
 abbrev pub MayBeOf : Option OfGroup → Id × OfArticle → Type 0

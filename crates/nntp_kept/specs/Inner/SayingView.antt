@@ -3,8 +3,8 @@ use Rattle.std.specs.Prelude.{ℕ, List, Option, option_map}
 use Rattle.nntp_wire.specs.{Listing.{ActiveValue, OverviewValue, active_groups, overviews_of}, declared.range.Range.{Range}}
 use Rattle.nntp_article.specs.Article.Parts.{Id}
 use Rattle.nntp_numbers.specs.Inner.PartView.{said}
-use Rattle.nntp_kept.specs.declared.saying.{IdAt.{IdAt}, GroupPart.{GroupPart}, ArticlePart.{ArticlePart, TheVariants.{Lacks, Exists, Sends, Describes}}}
-use Rattle.nntp_kept.specs.declared.saying.{OverviewsPart.{OverviewsPart}, ActivePart.{ActivePart}, Saying.{Saying}}
+use Rattle.nntp_kept.specs.declared.saying.{IdAt.{IdAt}, GroupPart.{GroupPart}, OverviewsPart.{OverviewsPart}, ActivePart.{ActivePart}, Saying.{Saying}}
+use Rattle.nntp_kept_articles.specs.Inner.PartView.{article_said}
 use Rattle.nntp_kept.specs.Inner.Saying as said_of
 
 -- the id at a number
@@ -14,13 +14,6 @@ id_at id = option_map (λ e. (e.number, e.id.now)) id
 -- what is said of a group
 abbrev pub of_group : GroupPart → said_of.OfGroup
 of_group g = record { name = g.name.now; numbers = said g.numbers; id = id_at g.id }
-
--- the id, and what is said of it
-abbrev pub article_said : ArticlePart → Id × said_of.OfArticle
-article_said (Lacks id) = (id.now, said_of.Lacks)
-article_said (Exists id) = (id.now, said_of.Exists)
-article_said (Sends id what block) = (id.now, said_of.Sends what (option_map (λ b. b.now) block))
-article_said (Describes id block) = (id.now, said_of.Describes (overviews_of block.now))
 
 -- the overviews of a range
 abbrev pub overviews_said : OverviewsPart → Range × List OverviewValue

@@ -4,9 +4,10 @@ ghost use Rattle.nntp_wire.specs.{declared.range.Range.{Range}, Inner.View.{over
 ghost use Rattle.nntp_article.specs.{Article.Parts.{Id}, Inner.Fields.{TellsWords}, Session.Spool.{Name}};
 ghost use Rattle.nntp_said.specs.Facts.{Fact};
 ghost use Rattle.nntp_theory.specs.Inner.Together.{AreSame, IsWellFormed, Join, Together, join_said, said_of};
-ghost use Rattle.nntp_kept.specs.Inner.{Articles.{telling}, Kept.{AreAdded, AreKept, AreKeptArticles, AreKeptWith, IsKept, Told, said_kept}};
-ghost use Rattle.nntp_kept.specs.Inner.KeptSaying.{IsSaidKept, MayBeGiven, MayGive, MayListOf, may_give, said_alone, said_listed, with_overviews};
-ghost use Rattle.nntp_kept.specs.Inner.{ListedOverviews.{HaveOwn, OverviewJoins}, Saying.{overviews_facts}, SayingView.{of_group}};
+ghost use Rattle.nntp_kept_articles.specs.Inner.{Articles.{telling, AreKeptArticles, said_kept}, ArticleSaid.{IsSaidKept, said_alone}};
+ghost use Rattle.nntp_kept.specs.Inner.{Kept.{AreAdded, AreKept, AreKeptWith, IsKept, Told}, KeptSaying.{MayBeGiven, MayGive, MayListOf, may_give}};
+ghost use Rattle.nntp_kept.specs.Inner.{KeptSaying.{said_listed, with_overviews}, ListedOverviews.{HaveOwn, OverviewJoins}, Saying.{overviews_facts}};
+ghost use Rattle.nntp_kept.specs.Inner.SayingView.{of_group};
 
 use crate::kept::Kept;
 use crate::saying::GroupPart;
@@ -65,7 +66,7 @@ impl<A: Allocator + Copy> Kept<A> {
 
     /// Adds that each number of the group has the id of its overview, and that this has an article.
     /// After an error the value says nothing of use.
-    #[tactic(auto, using(crate::proofs::Keeping::OverviewsJoin::none_yet, crate::proofs::Keeping::SaidOfArticles::nothing_more))]
+    #[tactic(auto, using(crate::proofs::Keeping::OverviewsJoin::none_yet, nntp_kept_articles::proofs::SaidOfArticles::nothing_more))]
     fn give_all(&mut self, name: &[u8], overviews: &[OverviewLine<'_>]) -> Result<(), AllocError>
         requires { AllByRecursion TellsWords (map overview_value overviews.now) }
         ensures names { self.new.names ≡ self.old.names }

@@ -7,7 +7,8 @@ use Rattle.nntp_article.specs.{Article.{Parts.{Id}, Fields.{made_head}}, Session
 use Rattle.nntp_article.specs.Session.Spool.{numbers}
 use Rattle.nntp_said.specs.Facts.{Fact}
 use Rattle.nntp_theory.specs.{Given.{id_shown, is_mentioned, invented, AreInvented}, Together.{shows_article}}
-use Rattle.nntp_kept.specs.Inner.Readers.{ShownGroup, ShownArticle, HasShownNumbers, IsShownArticle}
+use Rattle.nntp_kept.specs.Inner.Readers.{ShownGroup, HasShownNumbers}
+use Rattle.nntp_kept_articles.specs.Inner.Readers.{ShownArticle, IsShownArticle}
 use Rattle.nntp_store.specs.{Inner.Building.{Building}, declared.value.spool_fault.SpoolFault.{SpoolFault, TheVariants.{Memory}}}
 
 -- the outcome of making something: it is so, or memory was refused

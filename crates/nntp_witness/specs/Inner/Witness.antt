@@ -5,7 +5,7 @@ use Rattle.nntp_article.specs.{declared.session.profile.Profile.{Profile}, Sessi
 use Rattle.nntp_pair.specs.Pairing.{Paired}
 use Rattle.nntp_theory.specs.{Answered.{PermitsEach}, Given.{IsGiven}, Permitted.{exchanged}, Inner.Exchanged.{said_behind}}
 use Rattle.nntp_facts.specs.Inner.Noted.{FactsKept, HasNotedBehind, profile_kept}
-use Rattle.nntp_kept.specs.Inner.Kept.{AreKeptArticles}
+use Rattle.nntp_kept_articles.specs.Inner.Articles.{AreKeptArticles}
 use Rattle.nntp_said.specs.Facts.{Fact, Holds}
 use Rattle.nntp_store.specs.Limited.{LimitedSpool}
 

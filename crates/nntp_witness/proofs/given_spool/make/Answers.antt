@@ -1,5 +1,6 @@
 use Rattle.std.proofs.Common.{[], sym, subst}
-use Rattle.nntp_kept.specs.Inner.{Kept.{AreKeptArticles}, Readers.{AreShownGroups}}
+use Rattle.nntp_kept_articles.specs.Inner.Articles.{AreKeptArticles}
+use Rattle.nntp_kept.specs.Inner.Readers.{AreShownGroups}
 use Rattle.nntp_witness.{specs.Inner.{Making.{ArticlesLeft}, Witness.{IsGivenSpool}}, proofs.{Faults.{memory_passed}, Aims.{so_of_said, articles_noted}}}
 use Rattle.nntp_witness.proofs.given_spool.make.Goals as goal
 

@@ -1,7 +1,7 @@
 use Rattle.nntp_facts.proofs.Base.{rules, cond, ap, refl, sym, ◌∙◌, None, Some, option_map, overviews_of, first_given, Lacks, Exists, Sends, Describes}
 use Rattle.nntp_facts.proofs.{Base.{article_said, Article, overviews_said, point_of, statement_of}, PointsFound.ArticlesBeside.{lacks, has, listed_article}}
 use Rattle.nntp_facts.proofs.PointsFound.ArticlesBeside.{no_article}
-use Rattle.nntp_kept.proofs.Keeping.KeptArticles.{denied_kept}
+use Rattle.nntp_kept_articles.proofs.KeptArticles.{denied_kept}
 use Rattle.nntp_facts.proofs.beside.articles.denied_article.Goals as goal
 
 pub returns-in-Some : goal.returns-in-Some

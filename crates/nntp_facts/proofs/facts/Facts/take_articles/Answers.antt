@@ -1,5 +1,5 @@
 use Rattle.nntp_facts.proofs.Base.{arith}
-use Rattle.nntp_kept.proofs.Keeping.ArticleReaders.{articles_shown}
+use Rattle.nntp_kept_articles.proofs.ArticleReaders.{articles_shown}
 use Rattle.nntp_facts.proofs.facts.Facts.take_articles.Goals as goal
 
 pub returns : goal.returns

@@ -1,4 +1,5 @@
-use Rattle.nntp_kept.proofs.{Base.{◌∙◌}, Keeping.KeptNames.{is_key}}
+use Rattle.nntp_kept.proofs.Base.{◌∙◌}
+use Rattle.nntp_kept_articles.proofs.TextKeys.{is_key}
 use Rattle.nntp_kept.proofs.groups.listed.is_one_of.Goals as goal
 
 pub returns : goal.returns

@@ -1,5 +1,5 @@
 use Rattle.nntp_kept.proofs.Base.{[], ◌∷◌, map, sym, subst, active_value, GroupsAre, on_ok, IsKept, said_of, ◌∙◌, ◌++◌, AreKeptArticles, length-map}
-use Rattle.nntp_kept.proofs.Keeping.SaidOfArticles.{said_append, nothing_more}
+use Rattle.nntp_kept_articles.proofs.SaidOfArticles.{said_append, nothing_more}
 use Rattle.nntp_kept.proofs.kept.Kept.list_groups.Goals as goal
 
 pub returns : goal.returns

@@ -1,6 +1,7 @@
 use Rattle.nntp_kept.proofs.Base.{◌++◌, refl, sym, subst, ◌∙◌, IfSome, is_added, saying_of, AreKeptNames, AreKeptGroups, facts_in, IsTextOf, IsArticleAdded}
 use Rattle.nntp_kept.proofs.{Base.{true≢false, join_said, said_of, IsKept, ap, true}, Keeping.NotedParts.{kept_is, may_be_said, texts_of, joins, parts_tell}}
-use Rattle.nntp_kept.proofs.Keeping.{FactsOfParts.{denied_group}, SaidOfArticles.{said_append}, PartsJoin.{said_of_parts}}
+use Rattle.nntp_kept.proofs.Keeping.{FactsOfParts.{denied_group}, PartsJoin.{said_of_parts}}
+use Rattle.nntp_kept_articles.proofs.SaidOfArticles.{said_append}
 use Rattle.nntp_kept.proofs.kept.Kept.note_parts.Goals as goal
 
 pub returns-then-not-at_all : goal.returns-then-not-at_all

@@ -1,5 +1,5 @@
 use Rattle.std.proofs.Common.{List, ◌∷◌, sym, subst, ap, ◌∙◌}
-use Rattle.nntp_kept.specs.Inner.Readers.{ShownArticle}
+use Rattle.nntp_kept_articles.specs.Inner.Readers.{ShownArticle}
 use Rattle.nntp_witness.{specs.Inner.Making.{ArticlesLeft}, proofs.{Faults.{memory_passed}, ArticleSteps.{articles_start}}}
 use Rattle.nntp_witness.proofs.maker.SpoolMaker.add_articles.Goals as goal
 

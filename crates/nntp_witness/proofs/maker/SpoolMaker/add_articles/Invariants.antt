@@ -2,7 +2,7 @@ use Rattle.std.proofs.Common.{List, []}
 use Rattle.nntp_article.specs.Session.Spool.{Spool as SpoolValue}
 use Rattle.nntp_said.specs.Facts.{Fact}
 use Rattle.nntp_wire.specs.declared.limit.Limit.{Limit}
-use Rattle.nntp_kept.specs.Inner.Readers.{AreShownArticles}
+use Rattle.nntp_kept_articles.specs.Inner.Readers.{AreShownArticles}
 use Rattle.nntp_witness.specs.Inner.{Witness.{IsGivenSpool}, Making.{GroupsLeft, ArticlesLeft}}
 use Rattle.nntp_witness.proofs.maker.SpoolMaker.add_articles.Given as goal
 

@@ -1,5 +1,0 @@
-use Rattle.nntp_kept.proofs.{Base.{◌∙◌}, Keeping.KeptIds.{there}}
-use Rattle.nntp_kept.proofs.articles.Articles.has.Goals as goal
-
-pub returns : goal.returns
-returns g c = c.contains_key.ensures ∙ there c.self.inside.known.entries c.self.inside.denied.keys c.args.self.now c.self.view_is c.args.id.now

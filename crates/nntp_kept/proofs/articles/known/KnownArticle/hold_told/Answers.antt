@@ -1,7 +1,0 @@
-use Rattle.nntp_kept.proofs.{Base.{◌≡◌, None, arith, known_article}, Keeping.KeptIds.{not_denied}}
-use Rattle.nntp_kept.proofs.articles.known.KnownArticle.hold_told.Goals as goal
-
-pub returns-then-is_none : goal.returns-then-is_none
-returns-then-is_none g c =
-    let none : (known_article c.args.self.now).fields ≡ None = grind (arith, c.fields.ensures, c.is_none.ensures, c.if-is_none.true) in
-    grind (arith, none, not_denied c.args.self.now)
