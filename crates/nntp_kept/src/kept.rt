@@ -3,7 +3,7 @@ ghost use Rattle.std.specs.{Prelude.{◌≡◌, ◌≢◌, ◌↔◌, ◌++◌, 
 ghost use Rattle.std.specs.{List.{list_any}, Option.{option_map_or}, Rc.{rc_str_bytes}};
 ghost use Rattle.nntp_article.specs.{Inner.Listed.{lists}, Article.Parts.{Id}, Session.{Spool.{Name}, Machine.{is_same}}};
 ghost use Rattle.nntp_said.specs.{Asks.{Ask}, Facts.{Fact}};
-ghost use Rattle.nntp_theory.specs.{Given.{is_shown_group, is_mentioned}, Inner.Together.{IsWellFormed, Together}, Together.{denies_group}};
+ghost use Rattle.nntp_theory.specs.{Given.{is_shown_group}, Inner.Together.{IsWellFormed, Together}, Together.{denies_group}};
 ghost use Rattle.nntp_kept.specs.Inner.{Saying.{AreListed, Saying as SayingValue, facts_in, MaySay, Tells}, SayingView.{of_group, saying_of}};
 ghost use Rattle.nntp_kept.specs.Inner.{Kept.{joins_at_all, IsKept, AreKeptGroups, AreKeptNames, AreAdded}, Readers.{shown_groups}, KeptSaying.{GroupJoins}};
 ghost use Rattle.nntp_kept.specs.{Inner.KeptSaying.{JoinGroups, IsTextOf}, declared.joins.Joins.TheVariants.{Again}};

@@ -1,10 +1,10 @@
 //! What answers say of articles.
-ghost use Rattle.std.specs.{Prelude.{◌≡◌, ◌≢◌, ◌↔◌, false, Some, IsTrue, List, MatchOption, Option, IfOk, IfSome, OnOk, is_some}, List.{list_any}};
+ghost use Rattle.std.specs.Prelude.{◌≡◌, ◌≢◌, ◌↔◌, false, Some, IsTrue, List, MatchOption, Option, IfOk, IfSome, OnOk, is_some};
 ghost use Rattle.std.specs.{Option.{option_map_or}, BTreeMap.{get_by}, Ordering.{nat_cmp}, Cmp.Lexicographic.{slice_cmp}, Rc.{rc_str_bytes}};
 ghost use Rattle.nntp_wire.specs.{declared.command.What.{What}, Listing.{overviews_of}};
 ghost use Rattle.nntp_article.specs.{Article.{Parts.{Id, Line}, Fields.{words_in}}, Inner.Fields.{AreWords}};
 ghost use Rattle.nntp_said.specs.Facts.{Fact};
-ghost use Rattle.nntp_theory.specs.{Given.{is_mentioned, first_given, head_in, body_in}, Together.{shows_article}, Inner.Together.{AreSame}};
+ghost use Rattle.nntp_theory.specs.{Given.{is_mentioned, first_given, head_in, body_in}, Inner.Together.{AreSame}};
 ghost use Rattle.nntp_kept_articles.specs.Inner.Articles.{head_sent, body_sent, is_there, denied, telling, with_new, AreKeptArticles, said_kept};
 ghost use Rattle.nntp_kept_articles.specs.Inner.ArticleSaid.{IsThereAlready, MayBeSaid, IsArticleAdded, IsSaidAdded, said_alone, Lacks, Exists, Sends};
 ghost use Rattle.nntp_kept_articles.specs.Inner.{ArticleSaid.{Describes, IsToExist}, PartView.{article_said}, Readers.{shown_articles}, ArticleView.{is_added}};
