@@ -20,7 +20,7 @@ use std::{mem, str};
 #[derive(Drop)]
 pub struct Articles<A: Allocator = Global> {
     /// The articles, by the order in which they came.
-    pub held: Held<A>,
+    held: Held<A>,
 }
 
 /// Articles, by the order in which they came.
@@ -143,6 +143,14 @@ impl<A: Allocator> Articles<A> {
             Ok(id) => held.get(id).is_some(),
             Err(_) => false,
         }
+    }
+
+    /// Returns the articles as they are held, by the order in which they came.
+    pub fn held(&self) -> &Held<A>
+        ensures shown { articles_shown (entries_held result.now) ≡ self.now }
+        ensures in_order { AreInOrder result.now }
+    {
+        &self.held
     }
 
     /// Returns how many articles there are.

@@ -8,6 +8,7 @@ ghost use Rattle.nntp_content.specs.Counts.{numbers_in};
 ghost use Rattle.nntp_content.specs.Ascending.{is_last};
 ghost use Rattle.nntp_content.specs.Content.{with_group, with_article, all_known, ids_have_articles, no_spool};
 ghost use Rattle.nntp_content.specs.Inner.Content.{asked_count, with_number_in, without_articles};
+ghost use Rattle.nntp_content.specs.Inner.ContentView.{groups_shown};
 ghost use Rattle.nntp_content.specs.Numbers.{has_id};
 ghost use Rattle.nntp_content.specs.Inner.ArticleLines.{text_stored, HasLineCount, HasLineCounts};
 
@@ -26,9 +27,9 @@ use std::string::String;
 /// The groups of a spool by their names, and its articles by their ids.
 pub struct Content<A: Allocator = Global> {
     /// The numbers of each group, by its name.
-    pub groups: BTreeMap<String<A>, BoxedNumbers<A>, A>,
+    pub(crate) groups: BTreeMap<String<A>, BoxedNumbers<A>, A>,
     /// The articles, each by its message-id.
-    pub articles: Articles<A>,
+    pub(crate) articles: Articles<A>,
     /// No numbers, which are lent where a word names no group, or one without numbers.
     pub(crate) no_numbers: Numbers<A>,
 }
@@ -159,6 +160,20 @@ impl<A: Allocator> Content<A> {
             },
             Err(_) => None,
         }
+    }
+
+    /// Returns the numbers of each group, by its name.
+    pub fn groups(&self) -> &BTreeMap<String<A>, BoxedNumbers<A>, A>
+        ensures { groups_shown result.now.entries ≡ self.now.groups }
+    {
+        &self.groups
+    }
+
+    /// Returns the articles, each by its message-id.
+    pub fn articles(&self) -> &Articles<A>
+        ensures { result.now ≡ self.now.articles }
+    {
+        &self.articles
     }
 
     /// Returns the numbers of a word that names no group: none.

@@ -24,7 +24,7 @@ pub type Numbered<A> = (u64, RcStr<A>);
 #[derive(Drop)]
 pub struct Numbers<A: Allocator = Global> {
     /// Each number with its message-id.
-    pub ids: Vec<Numbered<A>, A>,
+    pub(crate) ids: Vec<Numbered<A>, A>,
     /// The ids once more, each the same text, to look one up. It is empty while there are few.
     pub(crate) known: BTreeSet<RcStr<A>, A>,
 }
@@ -177,6 +177,14 @@ fn split_behind<A: Allocator>(ids: &[Numbered<A>], number: u64) -> (&[Numbered<A
 }
 
 impl<A: Allocator> Numbers<A> {
+    /// Returns the numbers, ascending, each with its message-id.
+    pub fn as_slice(&self) -> &[Numbered<A>]
+        ensures shown { numbers_shown result.now ≡ self.now }
+        ensures ascending { AreAscending result.now }
+    {
+        &self.ids
+    }
+
     /// Returns how many numbers there are.
     pub fn len(&self) -> usize
         ensures { result ≡ map.len self.now }

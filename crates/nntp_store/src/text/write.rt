@@ -85,7 +85,7 @@ fn put_numbers<W: Write, A: Allocator>(
 ) -> Result<(), WriteFault>
     ensures { Puts W.contents result output.old output.new (with_line_ends (list_map (λ e. number_line e.0 e.1) (map.entries numbers.now))) }
 {
-    output.put_each(numbers.ids.iter(), |output, numbered| {
+    output.put_each(numbers.as_slice().iter(), |output, numbered| {
         put_number_line(output, numbered.0, numbered.1.as_str().as_bytes())
     })
 }
@@ -174,7 +174,7 @@ fn put_all_groups<W: Write, A: Allocator>(
     ensures { Puts W.contents result output.old output.new (with_line_ends (flat_map group_lines (map.entries content.now.groups))) }
 {
     output.put_each(
-        content.groups.iter(),
+        content.groups().iter(),
         |output, (name, numbers)|
             ensures { Puts W.contents result output.old output.new (with_line_ends (group_lines (string_bytes name.entry.now, numbers.entry.now))) }
         { put_group(output, name.as_bytes(), numbers.or(content.no_numbers())) },
@@ -188,7 +188,7 @@ fn put_all_articles<W: Write, A: Allocator>(
 ) -> Result<(), WriteFault>
     ensures { Puts W.contents result output.old output.new (with_line_ends (flat_map article_lines (map.entries content.now.articles))) }
 {
-    match &content.articles.held {
+    match content.articles().held() {
         Held::InOrder(articles) => put_articles(output, articles.as_slice()),
         Held::InAnyOrder(articles) => put_articles_of_map(output, articles),
     }

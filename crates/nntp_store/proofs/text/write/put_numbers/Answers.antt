@@ -6,10 +6,10 @@ use Rattle.nntp_store.proofs.text.write.put_numbers.Goals as goal
 
 pub returns : goal.returns
 returns g c =
-    let all = ap entries (sym c.numbers.view_is) ∙ each_entry c.numbers.inside.ids.items c.numbers.invariant.0 in
+    let all = ap entries (sym c.as_slice.ensures.shown) ∙ each_entry c.as_slice.result.now c.as_slice.ensures.ascending in
     let p = c.put_each.ensures (λ s. text_of_numbers (iter_rest s)) (λ x. with_line_ends (number_line x.now.0 (rc_str_bytes x.now.1) ∷ [])) (record {
       none = λ s t e. rw (nil_from_length _ e.0);
       some = λ s t x e. rw e (with_line_ends-cons (number_line _ _) _);
       puts = λ x old new r next f. (search rules, search rules);
     }) in
-    rw (c.iter.ensures.rest, c.deref.ensures.value, ← all) at p
+    rw (c.iter.ensures.rest, ← all) at p
