@@ -1,6 +1,7 @@
 -- What is printed: of a verdict, and of what `verify` answers.
 use Rattle.std.specs.{Prelude.{ℕ, ◌+◌, Bool, true, false, if◌then◌else◌, List, [], ◌++◌, length, map, sum, codes, decimal, slice_get, unwrap_or}, FinMap.{len}}
-use Rattle.nntp_store.specs.{Counts.{numbers_in}, Text.{spool_text}}
+use Rattle.nntp_content.specs.Counts.{numbers_in}
+use Rattle.nntp_store.specs.Text.{spool_text}
 use Rattle.nntp_several.specs.{Sessions.{Named}, Verifying.{VerifiedOfAll, PermitsAll, RefusesOne}}
 use Rattle.nntp_printing.specs.{BadAnswer.{bad_lines}, Title.{title_line}}
 use Rattle.nntp_verdict.specs.Verdict.{JudgementOfAll, consistent_of_all, bad_of_all}

@@ -7,7 +7,7 @@ use Rattle.nntp_article.specs.{Session.{Misfit.{misfit}, Spool.{Spool}}, declare
 use Rattle.nntp_article.proofs.SessionLemmas.Misfits.{fits_by_reason}
 use Rattle.nntp_said.specs.{Facts.{Fact, Holds, facts_of, IdAt, TextIs}, Inner.{Asks.{state_at}, Places.{Place}}, declared.position.Position.{Position}}
 use Rattle.nntp_said.proofs.{FactsHold.{may_by_facts}, Rows.{Row, row}}
-use Rattle.nntp_store.specs.Inner.Content.{IdsHaveArticles}
+use Rattle.nntp_content.specs.Inner.Content.{IdsHaveArticles}
 use Rattle.nntp_spool.specs.Inner.Sessions.{SayThese}
 
 -- ---- what fits

@@ -3,7 +3,7 @@ use Rattle.std.{proofs.Common.{◌≡◌, ℕ, Bool, true, false, cond, List, Op
 use Rattle.std.specs.{Ordering.{nat_cmp, eq_by_cmp}, Cmp.Lexicographic.{slice_cmp, nat_list_cmp_total}, FinMap.{get, get-insert}}
 use Rattle.nntp_article.{proofs.ShownMaps.{equal_is}, specs.Session.Spool.{Spool}}
 use Rattle.nntp_spool.specs.Inner.AskedCounts.{AskedCounts, AreCounted, remembered, with_count}
-use Rattle.nntp_store.{specs.Inner.Content.{asked_count}, proofs.{MapEntries.{tied_itself}, ShownMaps.{octet_keys}}}
+use Rattle.nntp_content.{specs.Inner.Content.{asked_count}, proofs.{MapEntries.{tied_itself}, ShownMaps.{octet_keys}}}
 
 pub counts_are : (a b : AskedCounts) → a.all ≡ b.all → a.by_wildmat ≡ b.by_wildmat → a ≡ b
 counts_are a b e f i = record { all = e i; by_wildmat = f i }

@@ -1,12 +1,11 @@
 -- What a builder adds leaves groups and articles that a spool may hold.
-use Rattle.std.proofs.{Common.{arith, ◌≡◌, ⊎_elim, ℕ, Bool, true, false, cond, not, Option, None, Some, is_none, IsSome, sym, ap, ◌∙◌}, lemmas.Bool.{and_parts}}
-use Rattle.std.{proofs.lemmas.Bool.{not-false}, specs.{Cmp.Lexicographic.{nat_list_cmp_total}, FinMap.{get, insert, empty}, Prelude.{unwrap_or}}}
+use Rattle.std.proofs.{Common.{arith, ◌≡◌, ⊎_elim, ℕ, Bool, false, cond, not, Option, None, Some, is_none, IsSome}, lemmas.Bool.{and_parts, not-false}}
+use Rattle.std.specs.{Cmp.Lexicographic.{nat_list_cmp_total}, FinMap.{get, insert, empty}}
 use Rattle.nntp_wire.specs.Decided.{is_group_name}
-use Rattle.nntp_article.{proofs.ShownMaps.{insert-same}, specs.{Article.Parts.{Id}, Session.{Machine.{is_article_number}, Spool.{Name, Spool, Numbers, Text}}}}
-use Rattle.nntp_article.specs.Session.Spool.{numbers}
-use Rattle.nntp_store.specs.{Content.{with_group, with_article, no_spool}, Inner.{Building.{group_fault, place_fault, article_fault}, Content.{with_number_in}}}
-use Rattle.nntp_store.specs.{Inner.{Content.{without_articles, IsNamed, IsArticle, IsContent}, Numbers.{with_number}}, Numbers.{has_id}}
-use Rattle.nntp_store.proofs.{MapEntries.{value_of_some, empty_has, got_more}, NumbersInOrder.{no_numbers, one_more}, ShownMaps.{octet_keys, spool_is}}
+use Rattle.nntp_article.specs.{Article.Parts.{Id}, Session.{Machine.{is_article_number}, Spool.{Name, Spool, Numbers, Text, numbers}}}
+use Rattle.nntp_content.specs.{Content.{with_group, with_article, no_spool}, Inner.Content.{with_number_in, without_articles, IsNamed, IsArticle, IsContent}}
+use Rattle.nntp_content.{specs.Numbers.{has_id}, proofs.{MapEntries.{value_of_some, empty_has, got_more}, ShownMaps.{octet_keys}}}
+use Rattle.nntp_store.{specs.Inner.Building.{group_fault, place_fault, article_fault}, proofs.NumbersInOrder.{no_numbers, one_more}}
 use Rattle.nntp_store.specs.declared.value.spool_fault.SpoolFault.TheVariants as faults
 
 -- a test that found no fault
@@ -15,16 +14,6 @@ no_fault b x o e = grind arith
 
 pub nothing : (limit : ℕ) → IsContent limit no_spool
 nothing limit = grind (arith, empty_has)
-
--- a group with the numbers that it had, or with one more, by whether the id is new
-pub number_in_group : (S T : Spool) (name : Name) (N : Numbers) (n : ℕ) (id : Id) → get S.groups name ≡ Some N
-    → T.groups ≡ insert S.groups name (with_number N n id) → T.articles ≡ S.articles → T ≡ with_number_in S name n id
-number_in_group S T name N n id here groups articles =
-    by (has_id N id) groups ∙ ap (λ M. cond (has_id M id) S (with_group S name (insert M n id))) (sym (ap (λ o. unwrap_or o empty) here))
-  where
-    by : (b : Bool) → T.groups ≡ insert S.groups name (cond b N (insert N n id)) → T ≡ cond b S (with_group S name (insert N n id))
-    by true e = spool_is T S (e ∙ insert-same nat_list_cmp_total octet_keys S.groups name N here) articles
-    by false e = spool_is T (with_group S name (insert N n id)) e articles
 
 module _ (limit : ℕ) (S : Spool) (content : IsContent limit S) where
   pub articles_dropped : IsContent limit (without_articles S)

@@ -3,11 +3,11 @@ use Rattle.std.proofs.Common.{◌≡◌, ℕ, zero, suc, ◌+◌, ◌^◌, ◌<�
 use Rattle.std.{proofs.{Common.{length-append, arith}, lemmas.List.{append-nil}}, specs.{Cmp.Lexicographic.{nat_list_cmp_total}, FinMap.{entries}}}
 use Rattle.std.specs.{FinMap.{same_entries_map}, List.{flat_map}, Prelude.{codes}}
 use Rattle.nntp_article.specs.{Article.Parts.{Line, Id}, Session.Spool.{Name, Spool, Numbers, Text}}
-use Rattle.nntp_store.specs.{Content.{with_group, with_article, no_spool, ids_have_articles}, Inner.{Content.{IsContent}, Text.{HasLineCounts}}}
+use Rattle.nntp_content.specs.{Content.{with_group, with_article, no_spool, ids_have_articles}, Inner.{Content.{IsContent}, ArticleLines.{HasLineCounts}}}
+use Rattle.nntp_content.proofs.{MapEntries.{entries-empty, next_entry}, ShownMaps.{spool_is}}
 use Rattle.nntp_store.specs.{Reading.{Place, Turn, On, Done, item_at, items_at, turn_then, is_end, content_at}, Text.{group_lines, article_lines}}
 use Rattle.nntp_store.proofs.{BuiltContent.{nothing}, ItemsRead.{lines_then, ReadOn, ItemTaken, item_takes, item_group_again, item_article_again}}
-use Rattle.nntp_store.proofs.{ItemsRead.{item_end_again}, MapEntries.{entries-empty, next_entry}, NumbersRead.{bind_ok, ok_is, done, fits_test}}
-use Rattle.nntp_store.proofs.ShownMaps.{spool_is}
+use Rattle.nntp_store.proofs.{ItemsRead.{item_end_again}, NumbersRead.{bind_ok, ok_is, done, fits_test}}
 
 -- ---- what was read
 

@@ -4,13 +4,14 @@ use Rattle.std.proofs.{Common.{suc, Some}, lemmas.{Bool.{and_from, and_parts}, L
 use Rattle.std.specs.{Cmp.Lexicographic.{nat_list_cmp_total}, FinMap.{empty, entries, len, len-entries}, List.{list_all, flat_map}, Prelude.{codes}}
 use Rattle.nntp_wire.specs.Decided.{is_group_name, is_message_id}
 use Rattle.nntp_article.specs.{Article.Parts.{Line, Id}, Session.Spool.{Name, Spool, Numbers, Text, is_line}}
-use Rattle.nntp_store.specs.{Ascending.{is_last}, Content.{with_group, with_article, is_head_of, ids_have_articles}, Fields.{OpeningValue, Group, Article, End}}
-use Rattle.nntp_store.specs.{Fields.{fields_of, opening_of, unbarred}, Inner.Content.{IsContent, IsNamed, IsArticle}, Reading.{shaped, Place, Turn, On, Done}}
-use Rattle.nntp_store.specs.Reading.{line_at, numbers_at, barred_lines_at, group_at, article_at, item_then, item_at, barred_line_at, repeat}
-use Rattle.nntp_store.{specs.Text.{group_line, article_line, barred, group_lines, article_lines}, proofs.BuiltContent.{with_named, with_text}}
+use Rattle.nntp_content.specs.{Ascending.{is_last}, Content.{with_group, with_article, is_head_of, ids_have_articles}, Inner.Content.{IsContent, IsNamed}}
+use Rattle.nntp_content.{specs.Inner.Content.{IsArticle}, proofs.MapEntries.{entries-empty, entries-insert_last}}
+use Rattle.nntp_store.specs.{Fields.{OpeningValue, Group, Article, End, fields_of, opening_of, unbarred}, Reading.{shaped, Place, Turn, On, Done, line_at}}
+use Rattle.nntp_store.specs.{Reading.{numbers_at, barred_lines_at, group_at, article_at, item_then, item_at, barred_line_at, repeat}, Text.{group_line}}
+use Rattle.nntp_store.{specs.Text.{article_line, barred, group_lines, article_lines}, proofs.BuiltContent.{with_named, with_text}}
 use Rattle.nntp_store.proofs.LineFields.{opening-group_line, opening-article_line, OpeningLine, opening_line, name-lacks, name-some, id-lacks, id-some}
-use Rattle.nntp_store.proofs.{MapEntries.{entries-empty, entries-insert_last}, NumbersInOrder.{number_lines, few_numbers}, NumbersRead.{bind_ok, unless_ok}}
-use Rattle.nntp_store.proofs.NumbersRead.{guard_ok, fits_test, shaped_ok, ok_is, line_takes, line_again, numbers_take, numbers_again, done, repeated, one_line}
+use Rattle.nntp_store.proofs.{NumbersInOrder.{number_lines, few_numbers}, NumbersRead.{bind_ok, unless_ok, guard_ok, fits_test, shaped_ok, ok_is, line_takes}}
+use Rattle.nntp_store.proofs.NumbersRead.{line_again, numbers_take, numbers_again, done, repeated, one_line}
 
 -- ---- the lines of an article
 

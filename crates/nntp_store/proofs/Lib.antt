@@ -1,9 +1,6 @@
 pub mod Written
-pub mod ShownMaps
-mod ShownNumbers
 mod SplitLines
 mod RepeatedSteps
-pub mod MapEntries
 mod LineFields
 mod NumbersRead
 mod TextRead
@@ -12,7 +9,4 @@ mod ItemsRead
 mod ItemsOfText
 pub mod WholeSpools
 mod BuiltContent
-mod NumberIds
 mod NumberFaults
-mod GatheredEntries
-mod SearchedEntries

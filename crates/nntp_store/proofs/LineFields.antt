@@ -9,8 +9,9 @@ use Rattle.std.specs.{Char.{is_ascii_digit, encode_utf8}, Fmt.{decimal}, List.{l
 use Rattle.std.specs.Str.Parse.{digits_value}
 use Rattle.nntp_article.specs.Article.Parts.{is_empty}
 use Rattle.nntp_wire.{specs.{Decided.{is_group_name, is_message_id}, Name.{is_name_char}}, proofs.DecidedLemmas.{group_name-iff}}
+use Rattle.nntp_content.proofs.MapEntries.{some_is}
 use Rattle.nntp_store.specs.Fields.{fields_of, are_digits, is_decimal, is_count, value_of, number_and_id, opening_of, OpeningValue, Group, Article, End}
-use Rattle.nntp_store.{specs.Text.{spaced, number_line, group_line, article_line}, proofs.{MapEntries.{some_is}, SplitLines.{segments_at}}}
+use Rattle.nntp_store.{specs.Text.{spaced, number_line, group_line, article_line}, proofs.SplitLines.{segments_at}}
 
 -- ---- octets that are not there
 

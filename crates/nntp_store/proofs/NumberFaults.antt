@@ -3,8 +3,8 @@ use Rattle.std.{proofs.Common.{arith, ◌≡◌, ◌∙◌, refl, ap, ℕ, Bool,
 use Rattle.std.specs.FinMap.{insert}
 use Rattle.nntp_wire.specs.Limit.{greatest}
 use Rattle.nntp_article.specs.{Article.Parts.{Id}, Session.Spool.{Name, Spool, numbers}}
-use Rattle.nntp_store.specs.{declared.value.spool_fault.SpoolFault.{SpoolFault}, Numbers.{has_id}, Inner.Building.{Building, Builds, BuildsBy, number_fault}}
-use Rattle.nntp_store.specs.{Inner.Building.{place_fault}, Content.{with_group}}
+use Rattle.nntp_content.specs.{Numbers.{has_id}, Content.{with_group}}
+use Rattle.nntp_store.specs.{declared.value.spool_fault.SpoolFault.{SpoolFault}, Inner.Building.{Building, Builds, BuildsBy, number_fault, place_fault}}
 use Rattle.nntp_store.specs.declared.value.spool_fault.SpoolFault.TheVariants as faults
 
 -- where four tests find no fault the fifth decides

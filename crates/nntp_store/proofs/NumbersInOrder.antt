@@ -6,8 +6,9 @@ use Rattle.std.specs.{FinMap.{is_sorted, entries_sorted, len-entries, nat_cmp-Is
 use Rattle.std.specs.{Ordering.{nat_cmp, is_lt}, Prelude.{bytes_eq, map}}
 use Rattle.nntp_wire.specs.Decided.{is_message_id}
 use Rattle.nntp_article.specs.Session.{Machine.{is_article_number}, Spool.{Numbers}}
-use Rattle.nntp_store.{specs.{Ascending.{is_last}, Inner.Content.{AreNumbers}, Numbers.{has_id}, Text.{number_line}}, proofs.MapEntries.{is_passed, empty_has}}
-use Rattle.nntp_store.proofs.MapEntries.{absent_above, next_entry, got_front, got_all, all_got, got_more}
+use Rattle.nntp_content.{specs.{Ascending.{is_last}, Inner.Content.{AreNumbers}, Numbers.{has_id}}, proofs.MapEntries.{is_passed, empty_has, absent_above}}
+use Rattle.nntp_content.proofs.MapEntries.{next_entry, got_front, got_all, all_got, got_more}
+use Rattle.nntp_store.specs.Text.{number_line}
 
 -- a number that may stand behind others
 pub record Follows (limit : ℕ) (N : Numbers) (n : ℕ) (id : List ℕ) : Type 0 where

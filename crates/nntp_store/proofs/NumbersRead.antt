@@ -4,10 +4,11 @@ use Rattle.std.{proofs.{Common.{sym, ap, subst, ◌∙◌, append_assoc, length-
 use Rattle.std.specs.{Ordering.{nat_cmp}, Cmp.{nat_cmp_total}, FinMap.{empty, entries, insert, len, len-entries, same_entries_map}}
 use Rattle.nntp_wire.specs.Decided.{is_message_id}
 use Rattle.nntp_article.specs.{Article.Parts.{Line}, Session.{Spool.{Numbers}, Machine.{is_article_number}}}
+use Rattle.nntp_content.{specs.{Ascending.{is_last}, Numbers.{has_id}, Inner.Content.{AreNumbers}}, proofs.MapEntries.{entries-empty, entries-insert_last}}
+use Rattle.nntp_content.proofs.MapEntries.{next_entry}
 use Rattle.nntp_store.specs.{declared.text.read_fault.ReadFault.{ReadFault}, Text.{number_line}, Reading.{◌>>=◌, shaped, Place, line_at, next_line, number_in}}
-use Rattle.nntp_store.specs.{Reading.{number_at, numbers_at, repeat}, Fields.{fields_of, number_and_id}, Ascending.{is_last}, Numbers.{has_id}}
-use Rattle.nntp_store.{specs.Inner.Content.{AreNumbers}, proofs.NumbersInOrder.{num_between, no_numbers, one_more, Follows, follows, number_lines}}
-use Rattle.nntp_store.proofs.{MapEntries.{entries-empty, entries-insert_last, next_entry}, LineFields.{id-lacks, id-some, number_and_id-number_line}}
+use Rattle.nntp_store.{specs.{Reading.{number_at, numbers_at, repeat}, Fields.{fields_of, number_and_id}}, proofs.NumbersInOrder.{num_between, no_numbers}}
+use Rattle.nntp_store.proofs.{NumbersInOrder.{one_more, Follows, follows, number_lines}, LineFields.{id-lacks, id-some, number_and_id-number_line}}
 use Rattle.nntp_store.proofs.LineFields.{number_line-number_and_id}
 
 -- the value of a step that did not fail

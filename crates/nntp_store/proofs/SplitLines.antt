@@ -5,7 +5,8 @@ use Rattle.std.specs.{List.{slice_split, onto_first}, Prelude.{position}}
 use Rattle.memchr.specs.Find.{IsFirstByte, is_byte}
 use Rattle.nntp_wire.proofs.ArgumentLemmas.{position-found}
 use Rattle.nntp_article.specs.Article.Parts.{is_empty}
-use Rattle.nntp_store.{specs.Reading.{next_line, segments_of, fault, is_end}, proofs.MapEntries.{some_is, some_none}}
+use Rattle.nntp_content.proofs.MapEntries.{some_is, some_none}
+use Rattle.nntp_store.specs.Reading.{next_line, segments_of, fault, is_end}
 use Rattle.nntp_store.specs.declared.text.read_fault.Kind.TheVariants as kinds
 
 abbrev pub segments_at : ℕ → List ℕ → List (List ℕ)

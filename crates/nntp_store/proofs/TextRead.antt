@@ -6,13 +6,13 @@ use Rattle.std.specs.{Cmp.Lexicographic.{nat_list_cmp_total}, FinMap.{entries, l
 use Rattle.std.specs.{List.{flat_map, AllByRecursion}, Prelude.{codes, bytes_eq}}
 use Rattle.nntp_wire.specs.{Limit.{greatest}, declared.limit.Limit.{Limit, TheVariants.{Narrow, Wide}}}
 use Rattle.nntp_article.specs.{Article.Parts.{Line, Id}, Session.Spool.{Spool, Name, Numbers, Text, is_line}}
-use Rattle.nntp_store.specs.{Content.{ids_have_articles}, Inner.{Content.{IsContent, IsNamed, IsArticle}, Text.{HasLineCounts}}, Limited.{LimitedSpool}}
-use Rattle.nntp_store.specs.{Reading.{Place, fault, line_at, wide_at, limit_at, segments_of, content_at, spool_at}, Text.{limit_lines, content_lines}}
-use Rattle.nntp_store.specs.Text.{spool_lines, spool_text, with_line_ends, number_line, group_line, group_lines, article_lines}
+use Rattle.nntp_content.specs.{Content.{ids_have_articles}, Inner.{Content.{IsContent, IsNamed, IsArticle}, ArticleLines.{HasLineCounts}}}
+use Rattle.nntp_content.proofs.{MapEntries.{all_got, test_each, got_all}, ShownMaps.{octet_keys}}
+use Rattle.nntp_store.specs.{Limited.{LimitedSpool}, Reading.{Place, fault, line_at, wide_at, limit_at, segments_of, content_at, spool_at}, Text.{limit_lines}}
+use Rattle.nntp_store.specs.Text.{content_lines, spool_lines, spool_text, with_line_ends, number_line, group_line, group_lines, article_lines}
 use Rattle.nntp_store.proofs.{ItemsOfText.{content_takes, content_again}, ItemsRead.{lines_then}, LineFields.{lacks, lacks-append, lacks-digits}}
-use Rattle.nntp_store.proofs.{LineFields.{are_digits-decimal, parts_front, list_all_weaken, name-lacks, id-lacks}, MapEntries.{all_got, test_each, got_all}}
-use Rattle.nntp_store.proofs.{NumbersInOrder.{few_numbers}, NumbersRead.{bind_ok, done, ok_is, line_takes, line_again, fits_test, num_below}}
-use Rattle.nntp_store.proofs.ShownMaps.{octet_keys}
+use Rattle.nntp_store.proofs.{LineFields.{are_digits-decimal, parts_front, list_all_weaken, name-lacks, id-lacks}, NumbersInOrder.{few_numbers}}
+use Rattle.nntp_store.proofs.NumbersRead.{bind_ok, done, ok_is, line_takes, line_again, fits_test, num_below}
 use Rattle.nntp_store.specs.declared.text.read_fault.Kind.TheVariants as kinds
 
 -- ---- the lines of a limit

@@ -6,10 +6,11 @@ use Rattle.std.specs.{FinMap.{empty, nat_cmp-IsAntisymmetric}, List.{list_all}, 
 use Rattle.nntp_wire.{specs.Limit.{greatest}, proofs.DecidedLemmas.{group_name-iff, message_id-iff}}
 use Rattle.nntp_article.specs.{Article.Parts.{Id, is_clean_head, said_id}, Session.{Machine.{is_article_number, says_own_id, is_same}, Spool.{Name, Spool}}}
 use Rattle.nntp_article.specs.Session.Spool.{Numbers, numbers, IsSpool, is_line}
-use Rattle.nntp_store.specs.{Content.{all_known, ids_have_articles}, Inner.{Content.{AreNumbers, IsContent}, Text.{IsWritten}}, Limited.{LimitedSpool}}
-use Rattle.nntp_store.specs.{Limited.{IsWithinLimit}, Reading.{spool_at}, Text.{spool_text}, declared.text.read_fault.ReadFault.{ReadFault}}
-use Rattle.nntp_store.proofs.{LineFields.{list_all_weaken}, MapEntries.{value_of_some, some_is, empty_has, test_each}, NumbersInOrder.{num_between, no_numbers}}
-use Rattle.nntp_store.proofs.{NumbersRead.{ok_is}, ShownMaps.{octet_keys}, TextRead.{text_takes, text_again, counted}}
+use Rattle.nntp_content.{specs.{Content.{all_known, ids_have_articles}, Inner.Content.{AreNumbers, IsContent}}, proofs.MapEntries.{value_of_some, some_is}}
+use Rattle.nntp_content.proofs.{MapEntries.{empty_has, test_each}, ShownMaps.{octet_keys}}
+use Rattle.nntp_store.specs.{Inner.Text.{IsWritten}, Limited.{LimitedSpool, IsWithinLimit}, Reading.{spool_at}, Text.{spool_text}}
+use Rattle.nntp_store.{specs.declared.text.read_fault.ReadFault.{ReadFault}, proofs.{LineFields.{list_all_weaken}, NumbersInOrder.{num_between, no_numbers}}}
+use Rattle.nntp_store.proofs.{NumbersRead.{ok_is}, TextRead.{text_takes, text_again, counted}}
 
 num_is : (limit n : ℕ) → 1 ≤ n → n ≤ limit → is_article_number limit n ≡ true
 num_is limit n a b = grind (arith, nat_tests)

@@ -4,10 +4,10 @@ use Rattle.std.{proofs.lemmas.List.{append-nil, take-append-drop, Concat.{flat_m
 use Rattle.std.specs.{Prelude.{IsErr, IsErrAnd}, Rc.{rc_str_bytes}, String.{string_bytes}, declared.rc.RcStr.{RcStr}}
 use Rattle.nntp_wire.specs.declared.limit.Limit.{Limit}
 use Rattle.nntp_article.specs.Session.Spool.{Spool, Numbers}
-use Rattle.nntp_store.specs.{Inner.{ArticleLines.{text_stored}, Buffering.{Puts, waiting}, Writing.{WritesBut}}, Limited.{LimitedSpool}, Text.{with_line_ends}}
-use Rattle.nntp_store.specs.{Text.{number_line, limit_lines, content_lines, spool_text, group_lines, article_lines}, Watched.{inner_of}, Writing.{Wrote}}
-use Rattle.nntp_store.specs.declared.{buffered_output.BufferedOutput.{BufferedOutput}, output.WriteFault.{WriteFault}}
-use Rattle.nntp_store.specs.declared.{value.article.StoredArticle.{StoredArticle}, watched.Watched.{Watched}}
+use Rattle.nntp_content.specs.{Inner.ArticleLines.{text_stored}, declared.article.StoredArticle.{StoredArticle}}
+use Rattle.nntp_store.specs.{Inner.{Buffering.{Puts, waiting}, Writing.{WritesBut}}, Limited.{LimitedSpool}, Text.{with_line_ends, number_line, limit_lines}}
+use Rattle.nntp_store.specs.{Text.{content_lines, spool_text, group_lines, article_lines}, Watched.{inner_of}, Writing.{Wrote}}
+use Rattle.nntp_store.specs.declared.{buffered_output.BufferedOutput.{BufferedOutput}, output.WriteFault.{WriteFault}, watched.Watched.{Watched}}
 
 Appends-then : (a b c : Option (List ℕ)) (x y : List ℕ) → Appends a b x → Appends b c y → Appends a c (x ++ y)
 Appends-then a b c x y h g = grind (arith, append_assoc)

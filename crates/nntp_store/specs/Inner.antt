@@ -1,15 +1,9 @@
 pub mod Watched
 pub mod Writing
 pub mod Buffering
-pub mod Codes
 pub mod Limited
-pub mod ArticleLines
 pub mod Text
 pub mod Reading
 pub mod ReadingView
-pub mod Content
-pub mod ArticlesView
-pub mod ContentView
-pub mod Numbers
 pub mod Faults
 pub mod Building

@@ -4,9 +4,5 @@ pub mod Limited
 pub mod Text
 pub mod Fields
 pub mod Reading
-pub mod Ascending
-pub mod Content
-pub mod Numbers
-pub mod Counts
 pub mod Faults
 pub mod Inner

@@ -3,9 +3,9 @@ use Rattle.std.specs.Prelude.{ℕ, zero, suc, ◌+◌, Bool, true, false, not, �
 use Rattle.std.specs.{Prelude.{length, codes, bytes_eq}, List.{slice_split}, FinMap.{insert, empty}}
 use Rattle.nntp_wire.specs.{Decided.{is_group_name, is_message_id}, Limit.{greatest}, declared.limit.Limit.{Limit, TheVariants.{Narrow, Wide}}}
 use Rattle.nntp_article.specs.{Article.Parts.{Line, Id, is_empty}, Session.{Spool.{Name, Spool, Numbers}, Machine.{is_article_number}}}
-use Rattle.nntp_store.specs.{declared.text.read_fault.{Kind.{Kind}, ReadFault.{ReadFault}}, Limited.{LimitedSpool}, Ascending.{is_last}, Numbers.{has_id}}
-use Rattle.nntp_store.specs.{Content.{no_spool, with_group, with_article, is_head_of, ids_have_articles}, Fields.{fields_of, OpeningValue, Group, Article, End}}
-use Rattle.nntp_store.specs.Fields.{opening_of, number_and_id, unbarred}
+use Rattle.nntp_content.specs.{Ascending.{is_last}, Numbers.{has_id}, Content.{no_spool, with_group, with_article, is_head_of, ids_have_articles}}
+use Rattle.nntp_store.specs.{declared.text.read_fault.{Kind.{Kind}, ReadFault.{ReadFault}}, Limited.{LimitedSpool}, Fields.{fields_of, OpeningValue, Group}}
+use Rattle.nntp_store.specs.Fields.{Article, End, opening_of, number_and_id, unbarred}
 use Rattle.nntp_store.specs.declared.text.read_fault.Kind.TheVariants as kinds
 
 infixl 10 ◌>>=◌

@@ -9,9 +9,8 @@ mod text;
 mod value;
 mod watched;
 
+pub use nntp_content::{Article, Content, Numbers, StoredArticle};
 pub use output::{WriteFault, put};
 pub use text::{Kind, ReadFault};
-pub use value::{
-    Article, Content, Counts, Numbers, Spool, SpoolBuilder, SpoolFault, StoredArticle,
-};
+pub use value::{Counts, Spool, SpoolBuilder, SpoolFault};
 pub use watched::Watched;

@@ -1,6 +1,5 @@
 //! The text of a spool, which is written and read.
 mod fields;
-mod gathered;
 mod place;
 pub(crate) mod read;
 pub(crate) mod read_fault;

@@ -9,8 +9,8 @@ use Rattle.nntp_said.specs.Facts.{Fact, IdAt, OverviewsAre, Holds}
 use Rattle.nntp_theory.{specs.{Given.{IsGiven, mentions, is_mentioned}, Together.{shows_article}}, proofs.{Given.ConstructedSpool.{names_apart}, Members.{In}}}
 use Rattle.nntp_theory.proofs.{Members.{all_at, all_from, any_in, found_in}, Together.FactsOfASpoolStand.{same_itself}}
 use Rattle.nntp_kept_articles.specs.Inner.Readers.{ShownArticle, IsShownArticle, AreShownArticles}
-use Rattle.nntp_store.specs.{Inner.Building.{Building, Builds, article_fault}, Content.{with_article}, declared.value.spool_fault.SpoolFault.{SpoolFault}}
-use Rattle.nntp_store.proofs.MapEntries.{apart, got_more}
+use Rattle.nntp_content.{specs.Content.{with_article}, proofs.MapEntries.{apart, got_more}}
+use Rattle.nntp_store.specs.{Inner.Building.{Building, Builds, article_fault}, declared.value.spool_fault.SpoolFault.{SpoolFault}}
 use Rattle.nntp_witness.specs.Inner.{Witness.{IsGivenSpool}, Making.{Makes, IsPart, IsBegun, GroupsLeft, ArticlesLeft, given_text}}
 use Rattle.nntp_witness.proofs.{BuilderCalls.{called}, FaultsNone.{article_fits}, MoreMade.{got_here, got_still}}
 

@@ -10,8 +10,8 @@ use Rattle.nntp_said.specs.Facts.{Fact, FieldsAre, OverviewsAre}
 use Rattle.nntp_theory.specs.Given.{mentions, is_mentioned, has_overview_of, first_given, head_in, fields_of_overview, fields_in, body_in, IsGiven}
 use Rattle.nntp_theory.proofs.{Maps.{in_get}, Members.{found_in}, Given.GivenHolds.{group_of_number}}
 use Rattle.nntp_kept_articles.proofs.SaidOfArticles.{head_of_text, body_of_text}
-use Rattle.nntp_store.specs.{Inner.Building.{group_fault, number_fault, article_fault}, Content.{is_head_of}, Numbers.{has_id}}
-use Rattle.nntp_store.proofs.WholeSpools.{content_of_spool}
+use Rattle.nntp_content.specs.{Content.{is_head_of}, Numbers.{has_id}}
+use Rattle.nntp_store.{specs.Inner.Building.{group_fault, number_fault, article_fault}, proofs.WholeSpools.{content_of_spool}}
 use Rattle.nntp_witness.specs.Inner.Making.{IsPart}
 
 -- ---- faults by their tests

@@ -9,8 +9,8 @@ use Rattle.nntp_article.specs.{Article.Parts.{Id}, Session.{Machine.{is_same}, S
 use Rattle.nntp_said.{proofs.FiniteMapsDecided.{dec_texts}, specs.Facts.{Fact}}
 use Rattle.nntp_theory.{specs.Given.{id_shown, IsGiven}, proofs.{Maps.{key_of, of_key}, Members.{In, all_at, all_from, any_in, in_map, from_map}}}
 use Rattle.nntp_kept.specs.Inner.Readers.{ShownGroup}
-use Rattle.nntp_store.specs.{Inner.Building.{Building, Builds, group_fault}, Content.{with_group}, declared.value.spool_fault.SpoolFault.{SpoolFault}}
-use Rattle.nntp_store.specs.declared.value.spool_fault.SpoolFault.TheVariants.{Memory}
+use Rattle.nntp_content.specs.Content.{with_group}
+use Rattle.nntp_store.specs.{Inner.Building.{Building, Builds, group_fault}, declared.value.spool_fault.SpoolFault.{SpoolFault, TheVariants.{Memory}}}
 use Rattle.nntp_witness.{specs.Inner.Making.{Makes, unseen_number, given_numbers, unshown_of, GroupsLeft, NumbersLeft}, proofs.BuilderCalls.{call_done}}
 use Rattle.nntp_witness.proofs.{BuilderCalls.{call_refused}, FaultsNone.{group_fits}, GroupNumbers.{given_keys, given_ascends, given_ids}}
 use Rattle.nntp_witness.proofs.MoreMade.{numbers_here, group_here, group_other, part_with_group}

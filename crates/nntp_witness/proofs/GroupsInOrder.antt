@@ -8,7 +8,7 @@ use Rattle.nntp_said.specs.Facts.{Fact}
 use Rattle.nntp_theory.{specs.Given.{id_shown, unshown_in, unshown_ids, IsGiven}, proofs.{Given.ConstructedSpool.{names_apart}, Maps.{in_get}, Members.{In}}}
 use Rattle.nntp_theory.proofs.{Members.{all_from, any_in, found_in, in_map, from_map}, Together.FactsOfASpoolStand.{same_itself}}
 use Rattle.nntp_kept.specs.Inner.Readers.{ShownGroup, HasShownNumbers, AreShownGroups}
-use Rattle.nntp_store.specs.Content.{no_spool}
+use Rattle.nntp_content.specs.Content.{no_spool}
 use Rattle.nntp_witness.{specs.Inner.Making.{given_numbers, unshown_at, unshown_of, IsPart, GroupsLeft}, proofs.GroupNumbers.{keys_listed, given_keys}}
 use Rattle.nntp_witness.proofs.GroupNumbers.{given_ids}
 

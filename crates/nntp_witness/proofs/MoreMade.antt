@@ -5,7 +5,7 @@ use Rattle.std.specs.FinMap.{FinMap, get, insert, empty, get-insert, get-empty, 
 use Rattle.nntp_article.specs.{Article.Parts.{Id}, Session.Spool.{Spool, Name, Numbers, Text, IsGroup, numbers}}
 use Rattle.nntp_said.{proofs.FiniteMapsDecided.{dec_texts}, specs.Facts.{Fact}}
 use Rattle.nntp_theory.specs.Given.{id_shown}
-use Rattle.nntp_store.{specs.Content.{with_group}, proofs.{MapEntries.{tied_itself, got_more}, ShownMaps.{octet_keys}}}
+use Rattle.nntp_content.{specs.Content.{with_group}, proofs.{MapEntries.{tied_itself, got_more}, ShownMaps.{octet_keys}}}
 use Rattle.nntp_witness.specs.Inner.Making.{IsPart}
 
 -- ---- maps

@@ -9,9 +9,9 @@ use Rattle.nntp_article.specs.{Article.{Parts.{Id}, Fields.{plain_head}}, Sessio
 use Rattle.nntp_said.specs.Facts.{Fact}
 use Rattle.nntp_theory.{specs.Given.{is_mentioned, invented, AreInvented, IsFirstFree, IsGiven}, proofs.GivenNumbers.FirstFreeNumber.{first_free_once}}
 use Rattle.nntp_theory.proofs.Ids.InventedIds.{invented_number, number-invented}
+use Rattle.nntp_content.{specs.Content.{with_group, with_article}, proofs.{MapEntries.{got_more}, ShownMaps.{octet_keys}}}
 use Rattle.nntp_store.specs.{Inner.Building.{Building, Builds, number_fault, article_fault}, declared.value.spool_fault.SpoolFault.{SpoolFault}}
-use Rattle.nntp_store.{specs.{declared.value.spool_fault.SpoolFault.TheVariants.{Memory}, Content.{with_group, with_article}}, proofs.MapEntries.{got_more}}
-use Rattle.nntp_store.proofs.ShownMaps.{octet_keys}
+use Rattle.nntp_store.specs.declared.value.spool_fault.SpoolFault.TheVariants.{Memory}
 use Rattle.nntp_witness.{specs.Inner.Making.{Makes, unshown_at, IsBegun, NumbersLeft}, proofs.MoreMade.{got_here, got_other, got_still, numbers_here}}
 use Rattle.nntp_witness.proofs.{MoreMade.{group_here, group_other, part_with_number}, BuilderCalls.{called, call_done, call_refused}, FaultsNone.{number_fits}}
 use Rattle.nntp_witness.proofs.FaultsNone.{article_fits, plain_text}

@@ -7,7 +7,8 @@ use Rattle.nntp_article.specs.{Article.Parts.{Id}, Session.{Spool.{Spool, Name, 
 use Rattle.nntp_said.specs.Facts.{Fact, OverviewsAre}
 use Rattle.nntp_theory.{specs.{Given.{IsGiven, id_in, id_shown, is_sent, gives_article}, Together.{shows_article}}, proofs.Given.ConstructedSpool.{names_apart}}
 use Rattle.nntp_theory.proofs.{Members.{any_in, found_in, first_found}, Together.{ListedOverviews.{overview_at}, FactsOfASpoolStand.{same_itself}}}
-use Rattle.nntp_store.{specs.{Inner.Building.{Building, finished}, Content.{ids_have_articles}}, proofs.{ShownMaps.{spool_is}, WholeSpools.{spool_knows}}}
+use Rattle.nntp_content.{specs.Content.{ids_have_articles}, proofs.ShownMaps.{spool_is}}
+use Rattle.nntp_store.{specs.Inner.Building.{Building, finished}, proofs.WholeSpools.{spool_knows}}
 use Rattle.nntp_witness.specs.Inner.{Witness.{IsGivenSpool}, Making.{ArticlesLeft}}
 
 -- ---- what facts show

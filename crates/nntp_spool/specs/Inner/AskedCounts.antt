@@ -2,7 +2,7 @@
 use Rattle.std.specs.{Prelude.{◌≡◌, ℕ, List, Option, None, Some, IfSome, refl}, Ordering.{nat_cmp}, Cmp.Lexicographic.{slice_cmp}, FinMap.{FinMap, get, insert}}
 use Rattle.std.specs.Coded.{Coded, code_by, coded×, coded_ℕ, coded_list, coded_option}
 use Rattle.nntp_article.specs.Session.Spool.{Spool}
-use Rattle.nntp_store.specs.Inner.Content.{asked_count}
+use Rattle.nntp_content.specs.Inner.Content.{asked_count}
 use Rattle.std.specs.FinMap as map
 
 -- the counts that are remembered: of all groups, and of those that match a wildmat

@@ -2,7 +2,7 @@
 ghost use Rattle.std.specs.Prelude.{◌≡◌, Some, IfOk, OnOk};
 ghost use Rattle.nntp_article.specs.Session.Spool.{Spool as SpoolValue};
 ghost use Rattle.nntp_spool.specs.Inner.AskedCounts.{AreCounted, remembered, with_count};
-ghost use Rattle.nntp_store.specs.Inner.Content.{asked_count};
+ghost use Rattle.nntp_content.specs.Inner.Content.{asked_count};
 
 use nntp_store::Content;
 use nntp_wire::Wildmat;

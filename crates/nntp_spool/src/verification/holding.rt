@@ -7,7 +7,7 @@ ghost use Rattle.nntp_article.specs.Inner.Listed.{lists};
 ghost use Rattle.nntp_said.specs.Facts.{Holds};
 ghost use Rattle.nntp_said.specs.Inner.FactView.{fact_of};
 ghost use Rattle.nntp_spool.specs.Inner.AskedCounts.{AreCounted};
-ghost use Rattle.nntp_store.specs.Inner.Content.{IdsHaveArticles};
+ghost use Rattle.nntp_content.specs.Inner.Content.{IdsHaveArticles};
 ghost use Rattle.nntp_spool.specs.Inner.Sessions.{SaysThese, SayThese};
 
 use crate::verification::asked_counts::AskedCounts;

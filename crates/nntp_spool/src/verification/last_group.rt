@@ -31,7 +31,7 @@ impl<'s, S: Allocator> Model for LastGroup<'s, S> {
     ghost use Rattle.std.specs.Prelude.{◌≡◌, Some, IfSome};
     ghost use Rattle.std.specs.FinMap as map;
     ghost use Rattle.nntp_article.specs.Session.Spool.{Spool as SpoolValue};
-    ghost use Rattle.nntp_store.specs.Inner.Codes.{coded_spool};
+    ghost use Rattle.nntp_content.specs.Inner.Codes.{coded_spool};
 
     ghost Value = { SpoolValue };
 

@@ -9,7 +9,7 @@ ghost use Rattle.nntp_article.specs.Session.Spool.{numbers as numbers_of};
 ghost use Rattle.nntp_article.specs.Session.Machine.{HasOverview, ListsOverviews};
 ghost use Rattle.nntp_article.specs.Inner.Listed.{lists};
 ghost use Rattle.nntp_said.specs.Facts.{OverviewsAre};
-ghost use Rattle.nntp_store.specs.Inner.ArticleLines.{text_stored};
+ghost use Rattle.nntp_content.specs.Inner.ArticleLines.{text_stored};
 ghost use Rattle.nntp_spool.specs.Inner.ListedOverviews.{StandsIn};
 ghost use Rattle.nntp_spool.specs.Inner.Sessions.{SaysThese};
 

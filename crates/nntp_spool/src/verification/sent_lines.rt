@@ -1,7 +1,7 @@
 //! The comparison of what is sent of an article with the article's text.
 ghost use Rattle.std.specs.Prelude.{◌≡◌, ◌↔◌, IsTrue, option_map};
 ghost use Rattle.nntp_article.specs.Session.Spool.{text_of};
-ghost use Rattle.nntp_store.specs.Inner.ArticleLines.{text_stored};
+ghost use Rattle.nntp_content.specs.Inner.ArticleLines.{text_stored};
 
 use nntp_store::StoredArticle;
 use nntp_wire::{Block, What};

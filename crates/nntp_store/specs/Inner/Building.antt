@@ -4,8 +4,8 @@ use Rattle.std.specs.{List.{list_all}, Coded.{Coded, code_by, coded×, coded_boo
 use Rattle.nntp_wire.specs.{Decided.{is_group_name, is_message_id}, declared.limit.Limit.{Limit}}
 use Rattle.nntp_article.specs.{Inner.Coded.{coded_limit}, Session.{Spool.{Name, Spool, Text, numbers, is_line}, Machine.{is_article_number}}}
 use Rattle.nntp_article.specs.Article.Parts.{Id}
-use Rattle.nntp_store.specs.{declared.value.spool_fault.SpoolFault.{SpoolFault}, Inner.Codes.{coded_spool}, Limited.{LimitedSpool}, Numbers.{has_id}}
-use Rattle.nntp_store.specs.Content.{is_head_of, ids_have_articles}
+use Rattle.nntp_content.specs.{Inner.Codes.{coded_spool}, Numbers.{has_id}, Content.{is_head_of, ids_have_articles}}
+use Rattle.nntp_store.specs.{declared.value.spool_fault.SpoolFault.{SpoolFault}, Limited.{LimitedSpool}}
 use Rattle.nntp_store.specs.declared.value.spool_fault.SpoolFault.TheVariants as faults
 
 -- a builder's limit, its content, and whether it failed

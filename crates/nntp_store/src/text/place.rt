@@ -2,7 +2,7 @@
 ghost use Rattle.std.specs.Prelude.{◌≡◌, ◌<◌, ◌+◌, ◌-◌, ◌^◌, true, length};
 ghost use Rattle.nntp_store.specs.Fields.{is_decimal};
 
-use crate::value::content::Content;
+use nntp_content::Content;
 use std::alloc::Allocator;
 
 /// The place of the reader: the next line's number, and the octets from there on.

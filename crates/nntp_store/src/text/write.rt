@@ -1,12 +1,12 @@
 //! The text of a spool, handed to a writer.
-ghost use Rattle.std.specs.Prelude.{◌≡◌, ◌∷◌, [], ◌||◌, is_err, map as list_map};
+ghost use Rattle.std.specs.Prelude.{◌≡◌, ◌∷◌, [], ◌||◌, is_err, length, map as list_map};
 ghost use Rattle.std.specs.List.{flat_map};
 ghost use Rattle.std.specs.FinMap as map;
 ghost use Rattle.std.specs.String.{string_bytes};
 ghost use Rattle.nntp_store.specs.Text.{with_line_ends, number_line, group_line, article_line, barred, group_lines, article_lines, limit_lines, content_lines};
 ghost use Rattle.nntp_store.specs.Text.{spool_text};
-ghost use Rattle.nntp_store.specs.Inner.ArticleLines.{text_stored};
-ghost use Rattle.nntp_store.specs.Inner.ArticlesView.{articles_shown, Ascend};
+ghost use Rattle.nntp_content.specs.Inner.ArticleLines.{text_stored};
+ghost use Rattle.nntp_content.specs.Inner.ArticlesView.{articles_shown, Ascend};
 ghost use Rattle.nntp_store.specs.Watched.{inner_of};
 ghost use Rattle.nntp_store.specs.Inner.Watched.{has_failed_of};
 ghost use Rattle.nntp_store.specs.Inner.Writing.{Writes};
@@ -15,12 +15,9 @@ ghost use Rattle.nntp_store.specs.Inner.Buffering.{Puts};
 use crate::buffered_output::BufferedOutput;
 use crate::output::WriteFault;
 use crate::value::Spool;
-use crate::value::article::{StoredArticle, line_count};
-use crate::value::articles::Held;
-use crate::value::content::Content;
-use crate::value::numbers::Numbers;
 use crate::watched::Watched;
 use itoa::Buffer;
+use nntp_content::{Content, Held, Numbers, StoredArticle};
 use nntp_wire::{Block, Limit};
 use std::alloc::Allocator;
 use std::collections::BTreeMap;
@@ -81,15 +78,16 @@ fn put_barred_lines<W: Write>(
     )
 }
 
-impl<A: Allocator> Numbers<A> {
-    /// Writes the lines of the numbers.
-    fn write<W: Write>(&self, output: &mut BufferedOutput<'_, W>) -> Result<(), WriteFault>
-        ensures { Puts W.contents result output.old output.new (with_line_ends (list_map (λ e. number_line e.0 e.1) (map.entries self.now))) }
-    {
-        output.put_each(self.ids.iter(), |output, numbered| {
-            put_number_line(output, numbered.0, numbered.1.as_str().as_bytes())
-        })
-    }
+/// Writes the lines of the numbers.
+fn put_numbers<W: Write, A: Allocator>(
+    output: &mut BufferedOutput<'_, W>,
+    numbers: &Numbers<A>,
+) -> Result<(), WriteFault>
+    ensures { Puts W.contents result output.old output.new (with_line_ends (list_map (λ e. number_line e.0 e.1) (map.entries numbers.now))) }
+{
+    output.put_each(numbers.as_slice().iter(), |output, numbered| {
+        put_number_line(output, numbered.0, numbered.1.as_str().as_bytes())
+    })
 }
 
 /// Writes all lines of a group.
@@ -101,7 +99,14 @@ fn put_group<W: Write, A: Allocator>(
     ensures { Puts W.contents result output.old output.new (with_line_ends (group_lines (name.now, numbers.now))) }
 {
     put_group_line(output, name, numbers.len() as u64)?;
-    numbers.write(output)
+    put_numbers(output, numbers)
+}
+
+/// Returns how many lines a head or a body has.
+fn line_count(lines: &Block<'_>) -> usize
+    ensures { result ≡ length lines.now }
+{
+    lines.lines().count()
 }
 
 /// Writes all lines of an article.
@@ -161,37 +166,44 @@ fn put_articles_of_map<W: Write, A: Allocator>(
     })
 }
 
-impl<A: Allocator> Content<A> {
-    /// Writes the lines of all groups.
-    fn write_groups<W: Write>(&self, output: &mut BufferedOutput<'_, W>) -> Result<(), WriteFault>
-        ensures { Puts W.contents result output.old output.new (with_line_ends (flat_map group_lines (map.entries self.now.groups))) }
-    {
-        output.put_each(
-            self.groups.iter(),
-            |output, (name, numbers)|
-                ensures { Puts W.contents result output.old output.new (with_line_ends (group_lines (string_bytes name.entry.now, numbers.entry.now))) }
-            { put_group(output, name.as_bytes(), numbers.or(&self.no_numbers)) },
-        )
-    }
+/// Writes the lines of all groups.
+fn put_all_groups<W: Write, A: Allocator>(
+    output: &mut BufferedOutput<'_, W>,
+    content: &Content<A>,
+) -> Result<(), WriteFault>
+    ensures { Puts W.contents result output.old output.new (with_line_ends (flat_map group_lines (map.entries content.now.groups))) }
+{
+    output.put_each(
+        content.groups().iter(),
+        |output, (name, numbers)|
+            ensures { Puts W.contents result output.old output.new (with_line_ends (group_lines (string_bytes name.entry.now, numbers.entry.now))) }
+        { put_group(output, name.as_bytes(), numbers.or(content.no_numbers())) },
+    )
+}
 
-    /// Writes the lines of all articles.
-    fn write_articles<W: Write>(&self, output: &mut BufferedOutput<'_, W>) -> Result<(), WriteFault>
-        ensures { Puts W.contents result output.old output.new (with_line_ends (flat_map article_lines (map.entries self.now.articles))) }
-    {
-        match &self.articles.held {
-            Held::InOrder(articles) => put_articles(output, articles.as_slice()),
-            Held::InAnyOrder(articles) => put_articles_of_map(output, articles),
-        }
+/// Writes the lines of all articles.
+fn put_all_articles<W: Write, A: Allocator>(
+    output: &mut BufferedOutput<'_, W>,
+    content: &Content<A>,
+) -> Result<(), WriteFault>
+    ensures { Puts W.contents result output.old output.new (with_line_ends (flat_map article_lines (map.entries content.now.articles))) }
+{
+    match content.articles().held() {
+        Held::InOrder(articles) => put_articles(output, articles.as_slice()),
+        Held::InAnyOrder(articles) => put_articles_of_map(output, articles),
     }
+}
 
-    /// Writes all groups and all articles, and the end.
-    fn write<W: Write>(&self, output: &mut BufferedOutput<'_, W>) -> Result<(), WriteFault>
-        ensures { Puts W.contents result output.old output.new (with_line_ends (content_lines self.now)) }
-    {
-        self.write_groups(output)?;
-        self.write_articles(output)?;
-        output.put(b"end\n")
-    }
+/// Writes all groups and all articles, and the end.
+fn put_content<W: Write, A: Allocator>(
+    output: &mut BufferedOutput<'_, W>,
+    content: &Content<A>,
+) -> Result<(), WriteFault>
+    ensures { Puts W.contents result output.old output.new (with_line_ends (content_lines content.now)) }
+{
+    put_all_groups(output, content)?;
+    put_all_articles(output, content)?;
+    output.put(b"end\n")
 }
 
 impl<A: Allocator> Spool<A> {
@@ -207,7 +219,7 @@ impl<A: Allocator> Spool<A> {
     {
         let mut output = BufferedOutput::new(w);
         put_limit(&mut output, self.limit())?;
-        self.content().write(&mut output)?;
+        put_content(&mut output, self.content())?;
         output.hand_on()
     }
 }

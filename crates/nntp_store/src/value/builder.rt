@@ -5,19 +5,17 @@ ghost use Rattle.std.specs.Rc.{rc_str_bytes};
 ghost use Rattle.nntp_article.specs.Session.Spool.{numbers as numbers_of};
 ghost use Rattle.nntp_wire.specs.Limit.{greatest};
 ghost use Rattle.nntp_store.specs.Inner.Building.{Builds, Admits, AdmitsBoth, group_fault, number_fault, place_fault, article_fault, parts_fault, finished};
-ghost use Rattle.nntp_store.specs.Content.{with_group, with_article, no_spool};
-ghost use Rattle.nntp_store.specs.Inner.ArticleLines.{text_of_article, text_stored, HasLineCount};
+ghost use Rattle.nntp_content.specs.Content.{with_group, with_article, no_spool};
+ghost use Rattle.nntp_content.specs.Inner.ArticleLines.{text_of_article, text_stored, HasLineCount};
 ghost use Rattle.nntp_store.specs.Inner.Text.{IsWritten};
 
 use crate::value::Spool;
-use crate::value::article::{Article, StoredArticle};
-use crate::value::boxed_numbers::BoxedNumbers;
-use crate::value::content::Content;
 use crate::value::spool_fault::SpoolFault;
 use crate::value::well_formed::{
     are_lines, block_has_lines, id_of, is_block_head_of, is_head_of, name_of,
 };
 use nntp_article::is_article_number;
+use nntp_content::{Article, BoxedNumbers, Content, StoredArticle};
 use nntp_wire::{Limit, OwnedBlock};
 use std::alloc::{Allocator, Global};
 use std::marker::Model;
@@ -38,7 +36,7 @@ pub struct SpoolBuilder<A: Allocator = Global> {
 
 impl<A: Allocator> Model for SpoolBuilder<A> {
     ghost use Rattle.nntp_store.specs.Inner.Building.{Building, coded_building};
-    ghost use Rattle.nntp_store.specs.Inner.Content.{IsContent};
+    ghost use Rattle.nntp_content.specs.Inner.Content.{IsContent};
     ghost use Rattle.nntp_wire.specs.Limit.{greatest};
 
     ghost Value = { Building };

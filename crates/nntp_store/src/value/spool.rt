@@ -4,11 +4,11 @@ ghost use Rattle.std.specs.FinMap.{len};
 ghost use Rattle.nntp_wire.specs.Limit.{greatest};
 ghost use Rattle.nntp_wire.specs.declared.limit.Limit.TheVariants.{Wide};
 ghost use Rattle.nntp_article.specs.Session.Spool.{IsSpool};
-ghost use Rattle.nntp_store.specs.Counts.{numbers_in};
+ghost use Rattle.nntp_content.specs.Counts.{numbers_in};
 ghost use Rattle.nntp_store.specs.Limited.{IsWithinLimit};
 ghost use Rattle.nntp_store.specs.Inner.Text.{IsWritten};
 
-use crate::value::content::Content;
+use nntp_content::Content;
 use nntp_wire::Limit;
 use std::alloc::{Allocator, Global};
 use std::marker::Model;

@@ -3,7 +3,7 @@ ghost use Rattle.std.specs.Prelude.{◌≡◌, ◌<◌, ◌^◌, true, false, le
 ghost use Rattle.std.specs.List.{list_all};
 ghost use Rattle.nntp_wire.specs.Decided.{is_group_name, is_message_id};
 ghost use Rattle.nntp_article.specs.Session.Spool.{is_line};
-ghost use Rattle.nntp_store.specs.Content.{is_head_of};
+ghost use Rattle.nntp_content.specs.Content.{is_head_of};
 ghost use Rattle.nntp_wire.specs.Inner.Held.{held};
 
 use memchr::memchr3;

@@ -1,8 +1,9 @@
 use Rattle.std.proofs.Common.{◌≡◌, ℕ, true, false, List, Ok, refl}
 use Rattle.nntp_article.specs.{Article.Parts.{Line, Id}, Session.Spool.{Spool}}
 use Rattle.nntp_wire.specs.Decided.{is_message_id}
-use Rattle.nntp_store.specs.{declared.text.read_fault.ReadError.{ReadError}, Ascending.{is_last}, Content.{with_article, is_head_of}, Inner.Reading.{Fails}}
-use Rattle.nntp_store.specs.{Inner.ReadingView.{turn_of}, Reading.{Place, On, barred_lines_at, article_at}}
+use Rattle.nntp_content.specs.{Ascending.{is_last}, Content.{with_article, is_head_of}}
+use Rattle.nntp_store.specs.{declared.text.read_fault.ReadError.{ReadError}, Inner.{Reading.{Fails}, ReadingView.{turn_of}}, Reading.{Place, On}}
+use Rattle.nntp_store.specs.Reading.{barred_lines_at, article_at}
 use Rattle.nntp_store.specs.declared.text.read_fault.ReadError.TheVariants as errors
 use Rattle.nntp_store.specs.declared.text.read_fault.Kind.TheVariants as kinds
 use Rattle.nntp_store.proofs.text.read.article_at.Goals as goal

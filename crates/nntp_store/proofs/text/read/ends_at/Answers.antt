@@ -1,6 +1,7 @@
 use Rattle.std.proofs.Common.{◌≡◌, ℕ, true, Ok, refl, ◌∙◌}
 use Rattle.nntp_article.specs.Session.Spool.{Spool}
-use Rattle.nntp_store.specs.{Content.{ids_have_articles}, Reading.{Place, Done, end_at}}
+use Rattle.nntp_content.specs.Content.{ids_have_articles}
+use Rattle.nntp_store.specs.Reading.{Place, Done, end_at}
 use Rattle.nntp_store.proofs.text.read.ends_at.Goals as goal
 
 -- the end is read where each id has its article

@@ -1,7 +1,8 @@
 use Rattle.std.proofs.Common.{◌≡◌, ℕ, true, false, Ok, refl}
 use Rattle.nntp_article.specs.Session.Spool.{Name, Spool, Numbers}
 use Rattle.nntp_wire.specs.Decided.{is_group_name}
-use Rattle.nntp_store.specs.{Ascending.{is_last}, Content.{with_group}, Inner.ReadingView.{turn_of}, Reading.{Place, On, numbers_at, group_at}}
+use Rattle.nntp_content.specs.{Ascending.{is_last}, Content.{with_group}}
+use Rattle.nntp_store.specs.{Inner.ReadingView.{turn_of}, Reading.{Place, On, numbers_at, group_at}}
 use Rattle.nntp_store.proofs.text.read.group_at.Goals as goal
 
 -- a group is read where its numbers are

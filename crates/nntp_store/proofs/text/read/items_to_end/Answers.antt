@@ -1,7 +1,8 @@
 use Rattle.std.proofs.Common.{◌≡◌, refl, sym, ◌∙◌, ℕ, true, false, Ok}
 use Rattle.nntp_article.specs.Session.Spool.{Spool}
-use Rattle.nntp_store.specs.{declared.text.read_fault.ReadError.{ReadError}, Content.{no_spool}, Inner.Reading.{Fails}, Reading.{Place, is_end, items_at}}
-use Rattle.nntp_store.{specs.Reading.{content_at}, proofs.SplitLines.{ended}}
+use Rattle.nntp_content.specs.Content.{no_spool}
+use Rattle.nntp_store.specs.{declared.text.read_fault.ReadError.{ReadError}, Inner.Reading.{Fails}, Reading.{Place, is_end, items_at, content_at}}
+use Rattle.nntp_store.proofs.SplitLines.{ended}
 use Rattle.nntp_store.specs.declared.text.read_fault.ReadError.TheVariants as errors
 use Rattle.nntp_store.specs.declared.text.read_fault.Kind.TheVariants as kinds
 use Rattle.nntp_store.proofs.text.read.items_to_end.Goals as goal

@@ -1,7 +1,7 @@
 use Rattle.std.proofs.Common.{arith, ◌≡◌, ℕ, Bool, true, false, not, Ok, refl}
 use Rattle.nntp_article.specs.{Article.Parts.{Line, Id}, Session.Spool.{Numbers}}
-use Rattle.nntp_store.specs.{declared.text.read_fault.ReadError.{ReadError}, Ascending.{is_last}, Inner.{Numbers.{with_number}, Reading.{Fails}}}
-use Rattle.nntp_store.specs.{Numbers.{has_id}, Reading.{Place, line_at, number_in, number_at}}
+use Rattle.nntp_content.specs.{Ascending.{is_last}, Inner.Numbers.{with_number}, Numbers.{has_id}}
+use Rattle.nntp_store.specs.{declared.text.read_fault.ReadError.{ReadError}, Inner.Reading.{Fails}, Reading.{Place, line_at, number_in, number_at}}
 use Rattle.nntp_store.specs.declared.text.read_fault.ReadError.TheVariants as errors
 use Rattle.nntp_store.specs.declared.text.read_fault.Kind.TheVariants as kinds
 use Rattle.nntp_store.proofs.text.read.number_at.Goals as goal

@@ -1,8 +1,8 @@
 use Rattle.std.{proofs.{Common.{rules}, lemmas.List.{nil_from_length}}, specs.{Cmp.Lexicographic.{slice_cmp, nat_list_cmp_total}, Ordering.{nat_cmp}}}
 use Rattle.std.specs.{Rc.{rc_str_bytes}, Slice.Iter.{iter_rest}}
 use Rattle.nntp_article.proofs.ShownMaps.{entries-ascending}
-use Rattle.nntp_store.{specs.{Inner.ArticleLines.{text_stored}, Text.{with_line_ends, article_lines}}, proofs.ShownMaps.{octet_keys}}
-use Rattle.nntp_store.proofs.Written.{text_of_articles, with_line_ends-append}
+use Rattle.nntp_content.{specs.Inner.ArticleLines.{text_stored}, proofs.ShownMaps.{octet_keys}}
+use Rattle.nntp_store.{specs.Text.{with_line_ends, article_lines}, proofs.Written.{text_of_articles, with_line_ends-append}}
 use Rattle.nntp_store.proofs.text.write.put_articles.Goals as goal
 
 pub returns : goal.returns

@@ -1,7 +1,7 @@
 use Rattle.std.{proofs.Common.{rules}, specs.{Cmp.Lexicographic.{slice_cmp, nat_list_cmp_total}, Ordering.{nat_cmp}, Rc.{rc_str_bytes}}}
 use Rattle.nntp_article.proofs.ShownMaps.{entries-shown}
-use Rattle.nntp_store.{specs.{Inner.ArticleLines.{text_stored}, Text.{with_line_ends, article_lines}}, proofs.ShownMaps.{octet_keys}}
-use Rattle.nntp_store.proofs.Written.{text_of_articles, with_line_ends-append}
+use Rattle.nntp_content.{specs.Inner.ArticleLines.{text_stored}, proofs.ShownMaps.{octet_keys}}
+use Rattle.nntp_store.{specs.Text.{with_line_ends, article_lines}, proofs.Written.{text_of_articles, with_line_ends-append}}
 use Rattle.nntp_store.proofs.text.write.put_articles_of_map.Goals as goal
 
 pub returns : goal.returns

@@ -12,4 +12,4 @@ pub returns : goal.returns
 returns g c =
     let numbers = list_map (λ e. number_line e.0 e.1) (entries c.args.numbers.now) in
     let line = rw c.len.ensures at c.in_ok-put_group_line.ensures in
-    Puts-on _ _ _ _ _ _ (with_line_ends-cons (group_line c.args.name.now _) numbers) _ line _ _ c.write.ensures
+    Puts-on _ _ _ _ _ _ (with_line_ends-cons (group_line c.args.name.now _) numbers) _ line _ _ c.put_numbers.ensures

@@ -1,7 +1,7 @@
 use Rattle.std.{proofs.{Common.{arith, ◌≡◌, true, List, [], ◌∷◌, Option, refl}, lemmas.Bool.{and_from}}, specs.{List.{list_all}, Option.{option_map_or}}}
 use Rattle.nntp_wire.specs.{Octets.{is_clean}, Block.{AreClean}}
 use Rattle.nntp_article.specs.{Article.Parts.{Id, Line, is_head, said_id}, Session.Machine.{is_same}}
-use Rattle.nntp_store.specs.Content.{is_head_of}
+use Rattle.nntp_content.specs.Content.{is_head_of}
 use Rattle.nntp_store.proofs.value.well_formed.is_block_head_of.Goals as goal
 
 clean_all : (lines : List Line) → AreClean lines → list_all is_clean lines ≡ true

@@ -1,5 +1,6 @@
 use Rattle.std.proofs.Common.{◌∷◌, ◌∙◌, false, ap, sym, subst}
-use Rattle.nntp_store.specs.{Inner.Building.{Building}, Content.{no_spool}}
+use Rattle.nntp_content.specs.Content.{no_spool}
+use Rattle.nntp_store.specs.Inner.Building.{Building}
 use Rattle.nntp_witness.{specs.Inner.Making.{GroupsLeft}, proofs.{Faults.{memory_passed}, GroupsInOrder.{all_left}}}
 use Rattle.nntp_witness.proofs.maker.SpoolMaker.of_groups.Goals as goal
 

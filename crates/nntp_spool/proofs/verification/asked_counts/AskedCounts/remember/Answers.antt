@@ -1,7 +1,7 @@
 use Rattle.std.{proofs.Common.{◌≡◌, Some, refl, ap, ◌∙◌}, specs.{Ordering.{nat_cmp}, Cmp.Lexicographic.{slice_cmp, nat_list_cmp_total}}}
 use Rattle.nntp_article.proofs.ShownMaps.{insert-shown}
 use Rattle.nntp_spool.{specs.Inner.AskedCounts.{with_count}, proofs.AskedCounts.{counts_are}}
-use Rattle.nntp_store.proofs.ShownMaps.{octet_keys}
+use Rattle.nntp_content.proofs.ShownMaps.{octet_keys}
 use Rattle.nntp_spool.proofs.verification.asked_counts.AskedCounts.remember.Goals as goal
 
 pub returns-in_ok-insert-in-Some : goal.returns-in_ok-insert-in-Some

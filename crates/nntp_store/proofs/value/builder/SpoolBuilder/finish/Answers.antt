@@ -1,7 +1,8 @@
 use Rattle.std.proofs.Common.{◌≡◌, Bool, true, false, Ok, Err, refl, sym, ◌∙◌}
 use Rattle.nntp_wire.specs.declared.limit.Limit.{Limit}
 use Rattle.nntp_article.specs.Session.Spool.{Spool}
-use Rattle.nntp_store.{specs.{Content.{ids_have_articles}, Inner.Building.{Building, finished}, Limited.{LimitedSpool}}, proofs.WholeSpools.{to_spool}}
+use Rattle.nntp_content.specs.Content.{ids_have_articles}
+use Rattle.nntp_store.{specs.{Inner.Building.{Building, finished}, Limited.{LimitedSpool}}, proofs.WholeSpools.{to_spool}}
 use Rattle.nntp_store.specs.declared.value.spool_fault.SpoolFault.TheVariants as faults
 use Rattle.nntp_store.proofs.value.builder.SpoolBuilder.finish.Goals as goal
 

@@ -1,7 +1,8 @@
 use Rattle.std.{proofs.{Common.{arith, ◌≡◌, ℕ, Result, subst, ◌∙◌}, lemmas.Result.{err_from_is_err_and}}, specs.FinMap.{insert}}
 use Rattle.nntp_wire.specs.Limit.{greatest}
 use Rattle.nntp_article.specs.{Article.Parts.{Id}, Session.Spool.{Name, numbers}}
-use Rattle.nntp_store.specs.{Content.{with_group}, Inner.Building.{Building, Builds, number_fault}, declared.value.spool_fault.SpoolFault.{SpoolFault}}
+use Rattle.nntp_content.specs.Content.{with_group}
+use Rattle.nntp_store.specs.{Inner.Building.{Building, Builds, number_fault}, declared.value.spool_fault.SpoolFault.{SpoolFault}}
 use Rattle.nntp_store.proofs.NumberFaults.{misplaced, repeated, unheld}
 use Rattle.nntp_store.proofs.value.builder.SpoolBuilder.number.Goals as goal
 

@@ -1,5 +1,6 @@
 use Rattle.std.{proofs.Common.{inl, inr, ◌∙◌, ap}, specs.Rc.{rc_str_bytes}}
-use Rattle.nntp_store.{specs.Inner.{ArticleLines.{text_stored}, Building.{article_fault}}, proofs.BuiltContent.{article_added, articles_dropped}}
+use Rattle.nntp_content.specs.Inner.ArticleLines.{text_stored}
+use Rattle.nntp_store.{specs.Inner.Building.{article_fault}, proofs.BuiltContent.{article_added, articles_dropped}}
 use Rattle.nntp_store.proofs.value.builder.SpoolBuilder.put_article.Goals as goal
 
 pub invariant_of-self : goal.invariant_of-self

@@ -1,8 +1,8 @@
 use Rattle.std.{proofs.Common.{arith, ◌≡◌, ℕ, Bool, true, false, not, None, Ok, Err, ◌∙◌, ap}, specs.{FinMap.{insert}, Rc.{rc_str_bytes}}}
 use Rattle.nntp_wire.specs.{declared.limit.Limit.{Limit}, Limit.{greatest}}
 use Rattle.nntp_article.specs.{Article.Parts.{Id}, Session.Spool.{Name, Spool, numbers}}
-use Rattle.nntp_store.specs.{Content.{with_group}, Inner.{Content.{with_number_in}, Building.{Building, Builds, number_fault, place_fault}}, Numbers.{has_id}}
-use Rattle.nntp_store.proofs.BuiltContent.{number_added}
+use Rattle.nntp_content.specs.{Content.{with_group}, Inner.Content.{with_number_in}, Numbers.{has_id}}
+use Rattle.nntp_store.{specs.Inner.Building.{Building, Builds, number_fault, place_fault}, proofs.BuiltContent.{number_added}}
 use Rattle.nntp_store.specs.declared.value.spool_fault.SpoolFault.TheVariants as faults
 use Rattle.nntp_store.proofs.value.builder.SpoolBuilder.put_number.Goals as goal
 

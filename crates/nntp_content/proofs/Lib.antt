@@ -1,0 +1,6 @@
+pub mod ShownMaps
+pub mod ShownNumbers
+pub mod MapEntries
+mod NumberIds
+mod GatheredEntries
+mod SearchedEntries

@@ -1,0 +1,5 @@
+pub mod Ascending
+pub mod Content
+pub mod Numbers
+pub mod Counts
+pub mod Inner

@@ -1,4 +1,0 @@
-use Rattle.nntp_store.proofs.value.content.Content.count_articles.Goals as goal
-
-pub returns-clause-line_counts : goal.returns-clause-line_counts
-returns-clause-line_counts g c = rw (← c.self.view_is) c.self.invariant.0

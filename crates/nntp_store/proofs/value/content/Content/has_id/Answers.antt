@@ -1,6 +1,0 @@
-use Rattle.std.proofs.Common.{arith}
-use Rattle.nntp_store.proofs.MapEntries.{entries-empty}
-use Rattle.nntp_store.proofs.value.content.Content.has_id.Goals as goal
-
-pub returns-in-None : goal.returns-in-None
-returns-in-None g c = grind (arith, entries-empty)

@@ -1,5 +1,0 @@
-use Rattle.nntp_store.proofs.ShownMaps.{none_counted}
-use Rattle.nntp_store.proofs.value.content.Content.new.Goals as goal
-
-pub invariant_of-result : goal.invariant_of-result
-invariant_of-result g c = (rw c.new-2.ensures none_counted, c.new-3.ensures)
