@@ -1,4 +1,4 @@
-use Rattle.std.proofs.{Common.{arith, ◌≡◌, refl}, lemmas.{Grind.{common_steps}, Result.{on_ok_weaker}}}
+use Rattle.std.proofs.{Common.{◌≡◌, refl}, lemmas.Result.{on_ok_weaker}}
 use Rattle.nntp_wire.specs.Inner.View.{asked}
 use Rattle.nntp_pair.specs.declared.class.Class.TheVariants.{Malformed}
 use Rattle.nntp_explain.{specs.Inner.ExplainingView.{kept_of, unspelled_lines}, proofs.SessionAnswers.{with_reason, without_reason}}
@@ -19,6 +19,3 @@ returns-else-branch-clause-text g c =
     let put = c.in_ok-put_bad.ensures in
     without_reason (kept_of c.args.self.now) c.args.self.now.text.items c.args.index Malformed m.place.line m.frame.initial (λ r. r ≡ unspelled_lines (asked m.prompt) m.frame.initial m.frame.block)
     put.told put.text refl refl c.line.ensures c.initial-initial.ensures.value c.if-branch.false
-
-pub returns-then-branch-clause-kept : goal.returns-then-branch-clause-kept
-returns-then-branch-clause-kept g c = grind (arith, common_steps)

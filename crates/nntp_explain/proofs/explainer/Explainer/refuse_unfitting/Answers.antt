@@ -29,8 +29,5 @@ returns-else-branch-clause-text g c =
     without_reason (kept_of c.args.self.now) c.args.self.now.text.items pair.index OutOfPlace pair.place.line pair.initial (λ r. r ≡ unfitting_told (kept_of c.args.self.now) pair)
     put.told put.text c.index.ensures.value refl c.line-line.ensures c.initial.ensures c.if-branch.false
 
-pub returns-in_ok-reason-clause-kept : goal.returns-in_ok-reason-clause-kept
-returns-in_ok-reason-clause-kept g c = grind (arith, common_steps)
-
 pub split_at-requires : goal.split_at-requires
 split_at-requires g c = grind (arith, common_steps)
