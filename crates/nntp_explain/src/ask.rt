@@ -1,6 +1,7 @@
 //! One thing that an answer says of the numbers of a group, as `explain` prints it.
-ghost use Rattle.std.specs.Prelude.{◌≡◌, ◌==◌, ◌++◌, None, true, OnOk, codes, length};
+ghost use Rattle.std.specs.Prelude.{◌≡◌, ◌==◌, ◌++◌, None, true, OnOk, codes, decimal, length};
 ghost use Rattle.std.specs.List.{list_any};
+ghost use Rattle.std.specs.Option.{option_map_or};
 ghost use Rattle.nntp_wire.specs.Listing.{listed_numbers, overviews_of};
 ghost use Rattle.nntp_article.specs.Session.Machine.{is_in_range, overview_numbers};
 ghost use Rattle.nntp_theory.specs.Given.{is_end};
@@ -9,6 +10,7 @@ ghost use Rattle.nntp_said.specs.Inner.FactView.{ask_of, numbers_listed};
 ghost use Rattle.nntp_explain.specs.Says.{ask_text, ask_word, bears_on, current_place, current_word, listed_text, marks_text, place_text, range_text};
 ghost use Rattle.nntp_explain.specs.Says.{with_or_without};
 
+use crate::reasons::put_number_line;
 use nntp_facts::{Ask, NumberLines, Position};
 use nntp_printing::put_number;
 use nntp_wire::{Block, Marks, Range, WaterMarks};
@@ -73,33 +75,27 @@ pub(crate) fn put_ask_text<A: Allocator + Copy>(
             put_range(text, *range)?;
             put_number(text, b" are ", count_of(lines))
         }
-        Ask::Lacks(number) => {
-            put_number(text, b" ", *number)?;
-            text.extend_from_slice(b" is missing")
-        }
-        Ask::StandsAt(at, number) => {
-            put_current_place(text, *at)?;
-            put_number(text, b" is ", *number)
-        }
-        Ask::StandsNowhere(at) => put_no_current(text, *at),
-        Ask::StepsUp(at, number) | Ask::StepsDown(at, number) => put_step(text, *at, *number),
-        Ask::IsTop(at) | Ask::IsBottom(at) => put_no_step(text, *at),
+        Ask::Lacks(number) => put_current(text, Position::Known(*number), None),
+        Ask::StandsAt(at, number) => put_current(text, *at, Some(*number)),
+        Ask::StandsNowhere(at) => put_current(text, *at, None),
+        Ask::StepsUp(at, number) | Ask::StepsDown(at, number) => put_step(text, *at, Some(*number)),
+        Ask::IsTop(at) | Ask::IsBottom(at) => put_step(text, *at, None),
     }
 }
 
-/// Adds, about a number, whether it is among those that are listed.
+/// Ends the line: about a number, with whether it is among those that are listed.
 pub(crate) fn put_listed<A: Allocator + Copy>(
     text: &mut Vec<u8, A>,
     about: Option<u64>,
     ask: &Ask<'_>,
 ) -> Result<(), AllocError>
-    ensures { OnOk result (text.new.items ≡ text.old.items ++ listed_text about (ask_of ask.now)) }
+    ensures { OnOk result (text.new.items ≡ text.old.items ++ (listed_text about (ask_of ask.now) ++ codes "\n")) }
 {
     match (about, ask) {
         (Some(number), Ask::Lists { lines, .. }) => {
-            put_number(text, with_or_without(lists(lines, number)), number)
+            put_number_line(text, with_or_without(lists(lines, number)), number)
         }
-        _ => Ok(()),
+        _ => text.extend_from_slice(b"\n"),
     }
 }
 
@@ -203,16 +199,17 @@ fn put_current_place<A: Allocator + Copy>(
     }
 }
 
-/// Adds that there is no current article.
-fn put_no_current<A: Allocator + Copy>(
+/// Adds the number of the current article, if it is known, and the one that it is, or that it is missing.
+fn put_current<A: Allocator + Copy>(
     text: &mut Vec<u8, A>,
     at: Position,
+    found: Option<u64>,
 ) -> Result<(), AllocError>
-    ensures { OnOk result (text.new.items ≡ text.old.items ++ ask_text (asks.StandsNowhere at)) }
+    ensures { OnOk result (text.new.items ≡ text.old.items
+        ++ (current_place at ++ option_map_or (λ n. codes " is " ++ decimal n) found (codes " is missing"))) }
 {
     put_current_place(text, at)?;
-    text.extend_from_slice(b" is missing")?;
-    Ok(())
+    put_found(text, found)
 }
 
 /// Adds what a step is taken from.
@@ -225,24 +222,30 @@ fn put_from<A: Allocator + Copy>(text: &mut Vec<u8, A>, at: Position) -> Result<
     }
 }
 
-/// Adds where a step leads.
+/// Adds where a step leads, if it leads anywhere.
 fn put_step<A: Allocator + Copy>(
     text: &mut Vec<u8, A>,
     at: Position,
-    number: u64,
+    found: Option<u64>,
 ) -> Result<(), AllocError>
-    ensures { OnOk result (text.new.items ≡ text.old.items ++ ask_text (asks.StepsUp at number)) }
+    ensures { OnOk result (text.new.items ≡ text.old.items
+        ++ (codes " from " ++ place_text at ++ option_map_or (λ n. codes " is " ++ decimal n) found (codes " is missing"))) }
 {
     put_from(text, at)?;
-    put_number(text, b" is ", number)
+    put_found(text, found)
 }
 
-/// Adds that a step leads nowhere.
-fn put_no_step<A: Allocator + Copy>(text: &mut Vec<u8, A>, at: Position) -> Result<(), AllocError>
-    ensures { OnOk result (text.new.items ≡ text.old.items ++ ask_text (asks.IsTop at)) }
+/// Adds which number is found, or that none is.
+fn put_found<A: Allocator + Copy>(
+    text: &mut Vec<u8, A>,
+    found: Option<u64>,
+) -> Result<(), AllocError>
+    ensures { OnOk result (text.new.items ≡ text.old.items ++ option_map_or (λ n. codes " is " ++ decimal n) found (codes " is missing")) }
 {
-    put_from(text, at)?;
-    text.extend_from_slice(b" is missing")
+    match found {
+        Some(number) => put_number(text, b" is ", number),
+        None => text.extend_from_slice(b" is missing"),
+    }
 }
 
 /// Adds two marks.
@@ -255,15 +258,23 @@ fn put_marks<A: Allocator + Copy>(
     ensures { OnOk result (text.new.items ≡ text.old.items ++ marks_text how low high) }
 {
     match how {
-        Marks::Lenient => {
-            put_number(text, b" within ", low)?;
-            put_number(text, b"-", high)
-        }
-        Marks::Strict => {
-            put_number(text, b" from ", low)?;
-            put_number(text, b" to ", high)
-        }
+        Marks::Lenient => put_two(text, b" within ", low, b"-", high),
+        Marks::Strict => put_two(text, b" from ", low, b" to ", high),
     }
+}
+
+/// Adds two numbers, each behind a label.
+fn put_two<A: Allocator + Copy>(
+    text: &mut Vec<u8, A>,
+    label: &[u8],
+    number: u64,
+    between: &[u8],
+    other: u64,
+) -> Result<(), AllocError>
+    ensures { OnOk result (text.new.items ≡ text.old.items ++ label.now ++ decimal number ++ between.now ++ decimal other) }
+{
+    put_number(text, label, number)?;
+    put_number(text, between, other)
 }
 
 /// Adds a range.
@@ -271,9 +282,8 @@ fn put_range<A: Allocator + Copy>(text: &mut Vec<u8, A>, range: Range) -> Result
     ensures { OnOk result (text.new.items ≡ text.old.items ++ codes " " ++ range_text range) }
 {
     put_number(text, b" ", range.first)?;
-    text.push(b'-')?;
     match range.last {
-        Some(last) => put_number(text, b"", last),
-        None => Ok(()),
+        Some(last) => put_number(text, b"-", last),
+        None => text.extend_from_slice(b"-"),
     }
 }

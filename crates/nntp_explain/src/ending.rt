@@ -41,6 +41,5 @@ pub(crate) fn put_counts<A: Allocator + Copy>(
     put_sum(text, b"answers=", answers)?;
     put_number(text, b" bad=", bad)?;
     put_sum(text, b" unanswered=", unanswered)?;
-    text.push(b'\n')?;
-    Ok(())
+    text.extend_from_slice(b"\n")
 }

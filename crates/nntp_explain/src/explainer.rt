@@ -146,9 +146,10 @@ impl<'a, A: Allocator + Copy> Explainer<'a, A> {
                 self.accepted.split_at(self.others).1,
                 exchange.answer(),
                 reason,
-            )?;
+            )
+        } else {
+            Ok(())
         }
-        Ok(())
     }
 
     /// Tells that the frame at this place spells nothing.
@@ -165,9 +166,10 @@ impl<'a, A: Allocator + Copy> Explainer<'a, A> {
     {
         let initial = malformed.frame.initial();
         if self.put_bad(index, Class::Malformed, malformed.place.line(), initial)? {
-            put_unspelled(&mut self.text, malformed)?;
+            put_unspelled(&mut self.text, malformed)
+        } else {
+            Ok(())
         }
-        Ok(())
     }
 
     /// Tells that the octets ahead, at this place, answer nothing.
@@ -193,9 +195,10 @@ impl<'a, A: Allocator + Copy> Explainer<'a, A> {
                 class,
                 self.accepted.split_at(self.others).1,
                 ahead.rest,
-            )?;
+            )
+        } else {
+            Ok(())
         }
-        Ok(())
     }
 
     /// Adds the lines of a bad answer, behind the title where it is the first of its session, and where the session

@@ -27,28 +27,24 @@ pub(crate) fn put_standing<A: Allocator + Copy>(
     let Some(name) = &standing.selected else {
         return text.extend_from_slice(b"in no group\n");
     };
-    text.extend_from_slice(b"in ")?;
-    put_escaped(text, name.as_slice())?;
+    put_named(text, b"in ", name.as_slice())?;
     put_number(text, b" since ", standing.selected_by)?;
-    put_current(text, standing.position, standing.moved_by)?;
-    text.push(b'\n')?;
-    Ok(())
+    put_current(text, standing.position, standing.moved_by)
 }
 
-/// Adds the current article, and the answer that made it so.
+/// Adds the current article, and the answer that made it so, at the end of the line.
 fn put_current<A: Allocator + Copy>(
     text: &mut Vec<u8, A>,
     position: Position,
     moved_by: u64,
 ) -> Result<(), AllocError>
-    ensures { OnOk result (text.new.items ≡ text.old.items ++ codes " at " ++ current_text position moved_by) }
+    ensures { OnOk result (text.new.items ≡ text.old.items ++ codes " at " ++ current_text position moved_by ++ codes "\n") }
 {
     match position {
-        Position::Nowhere => text.extend_from_slice(b" at first"),
-        Position::First => text.extend_from_slice(b" at first"),
+        Position::Nowhere | Position::First => text.extend_from_slice(b" at first\n"),
         Position::Known(number) => {
             put_number(text, b" at ", number)?;
-            put_number(text, b" since ", moved_by)
+            put_number_line(text, b" since ", moved_by)
         }
     }
 }
@@ -88,8 +84,7 @@ fn put_wrong_code<A: Allocator + Copy>(
 {
     put_number(text, b"why code ", code)?;
     put_allowed(text, allowed)?;
-    text.push(b'\n')?;
-    Ok(())
+    text.extend_from_slice(b"\n")
 }
 
 /// Adds the line of a number that isn't above the one before it.
@@ -119,13 +114,13 @@ pub(crate) fn put_misspelling<A: Allocator + Copy>(
             text,
             b"why argument ",
             place,
-            due_word(due),
+            due_end(due),
         ),
         Misspelling::WrongLine { place, fault } => put_place_line(
             text,
             b"why block line ",
             place,
-            fault_word(fault),
+            fault_end(fault),
         ),
         Misspelling::WrongBlock => text.extend_from_slice(b"why block\n"),
     }
@@ -175,49 +170,48 @@ fn put_closing<A: Allocator + Copy>(
     }
 }
 
-/// The word that is printed for what is due as an argument.
-fn due_word(due: Due) -> &'static [u8]
-    ensures { result.now ≡ due_word due }
+/// The end of the line of an argument, with the word for what is due.
+fn due_end(due: Due) -> &'static [u8]
+    ensures { result.now ≡ codes " " ++ due_word due ++ codes "\n" }
 {
     match due {
-        Due::Number => b"number",
-        Due::GroupName => b"group",
-        Due::MessageId => b"id",
+        Due::Number => b" number\n",
+        Due::GroupName => b" group\n",
+        Due::MessageId => b" id\n",
     }
 }
 
-/// The word that is printed for what is wrong with a line of a block.
-fn fault_word(fault: LineFault) -> &'static [u8]
-    ensures { result.now ≡ fault_word fault }
+/// The end of the line of a line of a block, with the word for what is wrong with that.
+fn fault_end(fault: LineFault) -> &'static [u8]
+    ensures { result.now ≡ codes " " ++ fault_word fault ++ codes "\n" }
 {
     match fault {
-        LineFault::BadOctet => b"octet",
-        LineFault::SingleDot => b"dot",
-        LineFault::NoNumber | LineFault::NoArticleNumber | LineFault::NoListedNumber => b"number",
-        LineFault::NoGroup => b"group",
-        LineFault::NoMessageId | LineFault::NoListedId => b"id",
-        LineFault::NoVersions => b"versions",
+        LineFault::BadOctet => b" octet\n",
+        LineFault::SingleDot => b" dot\n",
+        LineFault::NoNumber | LineFault::NoArticleNumber | LineFault::NoListedNumber => {
+            b" number\n"
+        }
+        LineFault::NoGroup => b" group\n",
+        LineFault::NoMessageId | LineFault::NoListedId => b" id\n",
+        LineFault::NoVersions => b" versions\n",
     }
 }
 
-/// Adds a line of a label, a place and a word.
+/// Adds a line of a label, a place and its end.
 fn put_place_line<A: Allocator + Copy>(
     text: &mut Vec<u8, A>,
     label: &[u8],
     place: usize,
-    word: &[u8],
+    end: &[u8],
 ) -> Result<(), AllocError>
-    ensures { OnOk result (text.new.items ≡ text.old.items ++ label.now ++ decimal place ++ codes " " ++ word.now ++ codes "\n") }
+    ensures { OnOk result (text.new.items ≡ text.old.items ++ label.now ++ decimal place ++ end.now) }
 {
     put_number(text, label, place as u64)?;
-    text.push(b' ')?;
-    text.extend_from_slice(word)?;
-    text.push(b'\n')?;
-    Ok(())
+    text.extend_from_slice(end)
 }
 
 /// Adds a line of a label and a number.
-fn put_number_line<A: Allocator + Copy>(
+pub(crate) fn put_number_line<A: Allocator + Copy>(
     text: &mut Vec<u8, A>,
     label: &[u8],
     number: u64,
@@ -225,8 +219,7 @@ fn put_number_line<A: Allocator + Copy>(
     ensures { OnOk result (text.new.items ≡ text.old.items ++ number_line label.now number) }
 {
     put_number(text, label, number)?;
-    text.push(b'\n')?;
-    Ok(())
+    text.extend_from_slice(b"\n")
 }
 
 /// Adds the codes that fit, if any do.
@@ -286,8 +279,7 @@ fn put_field_line<A: Allocator + Copy>(
     ensures { OnOk result (text.new.items ≡ text.old.items ++ about_line (points.FieldOf id.now field)) }
 {
     put_field_name(text, b"about field ", id, field)?;
-    text.push(b'\n')?;
-    Ok(())
+    text.extend_from_slice(b"\n")
 }
 
 /// Adds a label, and which header of which article it is.
@@ -356,8 +348,7 @@ pub(crate) fn put_rest<A: Allocator + Copy>(
     };
     put_answer_at(text, b"because some of ", here, answers, 0)?;
     put_answer_at(text, b" to ", here, answers, bound.saturating_sub(1))?;
-    text.push(b'\n')?;
-    Ok(())
+    text.extend_from_slice(b"\n")
 }
 
 /// Adds a label, and which answer it is that stands at a place, if one is there.
@@ -419,6 +410,5 @@ fn put_because<A: Allocator + Copy>(
     text.push(b'\n')?;
     put_command(text, shown_line(answer.exchange.line()))?;
     put_escaped_line(text, b"answer ", shown(answer.exchange.initial()))?;
-    put_standing(text, &answer.standing)?;
-    Ok(())
+    put_standing(text, &answer.standing)
 }

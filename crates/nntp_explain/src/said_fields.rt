@@ -102,8 +102,7 @@ fn put_words_line<A: Allocator + Copy>(
     };
     text.extend_from_slice(b" is ")?;
     put_words(text, first, words)?;
-    text.push(b'\n')?;
-    Ok(())
+    text.extend_from_slice(b"\n")
 }
 
 /// Adds words with a space between, as far as a report shows them.

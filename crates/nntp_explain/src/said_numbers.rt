@@ -27,9 +27,7 @@ fn put_ask_line<A: Allocator + Copy>(
     }
     put_subject(text, ask_word(ask), name)?;
     put_ask_text(text, ask)?;
-    put_listed(text, about, ask)?;
-    text.push(b'\n')?;
-    Ok(())
+    put_listed(text, about, ask)
 }
 
 /// Adds what the line of a group or an id begins with.

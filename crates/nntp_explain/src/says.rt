@@ -112,9 +112,9 @@ fn put_ask<A: Allocator + Copy>(
     ensures { OnOk result (text.new.items ≡ text.old.items ++ says about.now.line (point_of about.now.point) (Asks name.now (ask_of ask.now))) }
 {
     match &about.point {
-        Point::Step(group) => put_asked(text, *group, None, name, ask),
-        Point::Count(group) => put_asked(text, *group, None, name, ask),
-        Point::First(group) => put_asked(text, *group, None, name, ask),
+        Point::Step(group) | Point::Count(group) | Point::First(group) => {
+            put_asked(text, *group, None, name, ask)
+        }
         Point::Number {
             name: group,
             number,
@@ -134,9 +134,9 @@ fn put_id_at<A: Allocator + Copy>(
     ensures { OnOk result (text.new.items ≡ text.old.items ++ says about.now.line (point_of about.now.point) (IdAt name.now number id.now)) }
 {
     match &about.point {
-        Point::Step(group) => put_numbered(text, *group, None, name, number, id),
-        Point::Count(group) => put_numbered(text, *group, None, name, number, id),
-        Point::First(group) => put_numbered(text, *group, None, name, number, id),
+        Point::Step(group) | Point::Count(group) | Point::First(group) => {
+            put_numbered(text, *group, None, name, number, id)
+        }
         Point::Number {
             name: group,
             number: other,
@@ -259,9 +259,9 @@ fn put_groups<A: Allocator + Copy>(
 {
     match &about.point {
         Point::Group(name) => put_group_listed(text, name, wildmat, block),
-        Point::Step(group) => put_bounds(text, *group, None, block),
-        Point::Count(group) => put_bounds(text, *group, None, block),
-        Point::First(group) => put_bounds(text, *group, None, block),
+        Point::Step(group) | Point::Count(group) | Point::First(group) => {
+            put_bounds(text, *group, None, block)
+        }
         Point::Number {
             name: group,
             number,

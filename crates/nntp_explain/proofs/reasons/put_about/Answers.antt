@@ -1,4 +1,4 @@
-use Rattle.std.{proofs.{Common.{◌∙◌, ap, sym}, lemmas.Result.{on_ok_weaker}}, specs.Prelude.{codes}}
+use Rattle.std.{proofs.{Common.{arith, ◌∙◌, ap, sym}, lemmas.{Grind.{common_steps}, Result.{on_ok_weaker}}}, specs.Prelude.{codes}}
 use Rattle.nntp_facts.specs.Inner.PointView.{point_of}
 use Rattle.nntp_explain.{specs.Reasons.{about_line, octets_line}, proofs.SaidLines.{line_told}}
 use Rattle.nntp_explain.proofs.reasons.put_about.Goals as goal
@@ -36,3 +36,12 @@ returns-in-Count g c =
     (λ put. line_told c.args.text.now.items (codes "about count ") c.in-Count.name.now (about_line (point_of c.args.point.now)) c.put_escaped_line-in-Count.new.text.items put
     (ap (λ p. about_line (point_of p)) (sym c.in-Count.is)))
     c.put_escaped_line-in-Count.ensures
+
+pub returns-in-BodyOf : goal.returns-in-BodyOf
+returns-in-BodyOf g c = grind (arith, common_steps)
+
+pub returns-in-HeadOf : goal.returns-in-HeadOf
+returns-in-HeadOf g c = grind (arith, common_steps)
+
+pub returns-in-Step : goal.returns-in-Step
+returns-in-Step g c = grind (arith, common_steps)

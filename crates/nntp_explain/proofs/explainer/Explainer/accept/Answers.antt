@@ -3,3 +3,6 @@ use Rattle.nntp_explain.proofs.explainer.Explainer.accept.Goals as goal
 
 pub returns-clause-kept : goal.returns-clause-kept
 returns-clause-kept g c = grind (arith, common_steps)
+
+pub returns-clause-text : goal.returns-clause-text
+returns-clause-text g c = grind (arith, common_steps)

@@ -1,4 +1,4 @@
-use Rattle.std.proofs.Common.{sym, subst}
+use Rattle.std.proofs.{Common.{arith, sym, subst}, lemmas.Grind.{common_steps}}
 use Rattle.nntp_pair.specs.Pairing.{Ends, bad}
 use Rattle.nntp_explain.{specs.Inner.ExplainingView.{HasTold}, proofs.{ToldAnswers.{others_accepted, told_unspelled}, ReadSessions.{read_at_end}}}
 use Rattle.nntp_explain.proofs.ReadSessions.{read_at_octets}
@@ -42,3 +42,12 @@ returns-in_default g c = λ profile b h.
 
 pub returns-in-End : goal.returns-in-End
 returns-in-End g c = λ profile b h. read_at_end (c.loop-exchange.invariant profile b h) c.in-End.ensures.step.0
+
+pub loop-exchange-init : goal.loop-exchange-init
+loop-exchange-init g c = grind (arith, common_steps)
+
+pub loop-exchange-smaller : goal.loop-exchange-smaller
+loop-exchange-smaller g c = grind (arith, common_steps)
+
+pub pass_over-malformed-requires : goal.pass_over-malformed-requires
+pass_over-malformed-requires g c = grind (arith, common_steps)

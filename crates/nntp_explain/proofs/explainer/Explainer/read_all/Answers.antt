@@ -1,4 +1,4 @@
-use Rattle.std.proofs.{Common.{[], ◌<◌, ◌^◌, length, arith, rules, subst}, lemmas.List.{take_all, length-take-le}}
+use Rattle.std.proofs.{Common.{arith, [], ◌<◌, ◌^◌, length, rules, subst}, lemmas.{Grind.{common_steps}, List.{take_all, length-take-le}}}
 use Rattle.nntp_facts.specs.Inner.Noted.{profile_kept}
 use Rattle.nntp_explain.{specs.Inner.ExplainingView.{kept_of, accepted_behind, HaveRead}, proofs.ReadSessions.{next_read}}
 use Rattle.nntp_explain.proofs.explainer.Explainer.read_all.Goals as goal
@@ -23,3 +23,6 @@ pub returns : goal.returns
 returns g c =
     subst (λ sessions. HaveRead (profile_kept c.args.self.now.facts) sessions (kept_of c.loop-named.self) c.loop-named.self.text.items c.loop-named.unanswered)
     (take_all c.loop-named.named-index c.args.sessions.now (search rules)) c.loop-named.invariant.read
+
+pub loop-named-init : goal.loop-named-init
+loop-named-init g c = grind (arith, common_steps)

@@ -1,4 +1,4 @@
-use Rattle.std.proofs.{Common.{arith, rules, ◌≡◌, ◌∙◌, sym, ap, subst, refl, Bool, length, List}, lemmas.Result.{on_ok_weaker}}
+use Rattle.std.proofs.{Common.{arith, rules, ◌≡◌, ◌∙◌, sym, ap, subst, refl, Bool, length, List}, lemmas.{Grind.{common_steps}, Result.{on_ok_weaker}}}
 use Rattle.nntp_theory.specs.Conflict.{Placed}
 use Rattle.nntp_pair.specs.declared.class.Class.TheVariants.{Contradiction}
 use Rattle.nntp_facts.specs.{Inner.Noted.{profile_kept}, Standing.{stands_of}}
@@ -63,3 +63,15 @@ returns-clause-text g c =
     with_reason kept c.args.self.now.text.items pair.index Contradiction pair.place.line pair.initial (TellsNext kept facts there)
     put.told put.text c.index.ensures.value refl c.line-line.ensures c.initial.ensures goes.0 c.if-not-branch.false goes.1
     (subst (λ (q : Bool × Kept × Placed). TellsContradiction q.0 q.1 facts q.2 goes.0) (λ i. (looked_for i, (same i).0, (same i).1)) goes.2)) c.tell_conflict.ensures.text
+
+pub returns-then-not-branch-clause-kept : goal.returns-then-not-branch-clause-kept
+returns-then-not-branch-clause-kept g c = grind (arith, common_steps)
+
+pub returns-clause-kept : goal.returns-clause-kept
+returns-clause-kept g c = grind (arith, common_steps)
+
+pub returns-then-not-branch-clause-adds : goal.returns-then-not-branch-clause-adds
+returns-then-not-branch-clause-adds g c = grind (arith, common_steps)
+
+pub returns-then-not-branch-clause-reasons : goal.returns-then-not-branch-clause-reasons
+returns-then-not-branch-clause-reasons g c = grind (arith, common_steps)
