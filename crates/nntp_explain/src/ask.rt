@@ -75,7 +75,10 @@ pub(crate) fn put_ask_text<A: Allocator + Copy>(
             put_range(text, *range)?;
             put_number(text, b" are ", count_of(lines))
         }
-        Ask::Lacks(number) => put_current(text, Position::Known(*number), None),
+        Ask::Lacks(number) => {
+            put_number(text, b" ", *number)?;
+            put_found(text, None)
+        }
         Ask::StandsAt(at, number) => put_current(text, *at, Some(*number)),
         Ask::StandsNowhere(at) => put_current(text, *at, None),
         Ask::StepsUp(at, number) | Ask::StepsDown(at, number) => put_step(text, *at, Some(*number)),
