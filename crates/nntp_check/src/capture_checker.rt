@@ -21,7 +21,6 @@ use std::alloc::{AllocError, Allocator};
 use std::mem;
 
 /// Judges the sessions of a capture as they come, and keeps their names.
-#[derive(Drop)]
 pub(crate) struct CaptureChecker<A: Allocator> {
     alloc: A,
     checker: Checker<A>,
@@ -31,12 +30,33 @@ pub(crate) struct CaptureChecker<A: Allocator> {
     last_name: Vec<u8, A>,
 }
 
+/// By hand, since a derived one is checked field by field at each place where a checker may be dropped.
+impl<A: Allocator> Drop for CaptureChecker<A> {
+    fn drop(self) {
+        let CaptureChecker {
+            alloc: _,
+            checker: _,
+            names: _,
+            last_name: _,
+        } = self;
+    }
+}
+
 /// What is said of the sessions of a capture.
-#[derive(Drop)]
 pub(crate) struct JudgedCapture<A: Allocator> {
     pub verdict: SessionsVerdict<A>,
     /// The name of each session.
     pub names: Vec<Vec<u8, A>, A>,
+}
+
+/// By hand, as that of the checker.
+impl<A: Allocator> Drop for JudgedCapture<A> {
+    fn drop(self) {
+        let JudgedCapture {
+            verdict: _,
+            names: _,
+        } = self;
+    }
 }
 
 impl<A: Allocator + Copy> CaptureChecker<A> {
@@ -58,21 +78,21 @@ impl<A: Allocator + Copy> CaptureChecker<A> {
     }
 
     /// The verdict on what came, where no more comes.
-    pub(crate) fn finish(self) -> Result<JudgedCapture<A>, PairError>
+    pub(crate) fn finish(mut self) -> Result<JudgedCapture<A>, PairError>
         requires { (limit : Limit) × (marks : Marks) × (overviews : Overviews) × (held : Held) × Judges limit marks overviews self held }
         ensures ok { IfOk result (λ judged. (limit : Limit) (marks : Marks) (overviews : Overviews) (held : Held) → Judges limit marks overviews self held
             → IsVerdictOfAll limit marks (unnamed (sessions_of overviews held)) (sessions_verdict_shown judged.verdict)
             × (names_in judged.names.items ≡ names_of (sessions_of overviews held))) }
         ensures err { IfErr result (λ error. error ≡ Memory) }
     {
+        self.end_name()?;
         let CaptureChecker {
+            alloc: _,
             checker,
             names,
-            last_name,
-            ..
+            last_name: _,
         } = self;
         let verdict = checker.finish_sessions()?;
-        let names = with_name(names, last_name)?;
         Ok(JudgedCapture { verdict, names })
     }
 
@@ -87,17 +107,6 @@ impl<A: Allocator + Copy> CaptureChecker<A> {
     }
 }
 
-/// The names with one more.
-fn with_name<A: Allocator>(
-    mut names: Vec<Vec<u8, A>, A>,
-    name: Vec<u8, A>,
-) -> Result<Vec<Vec<u8, A>, A>, AllocError>
-    ensures { IfOk result (λ all. names_in all.items ≡ names_in names.items ++ name.items ∷ []) }
-{
-    names.push(name)?;
-    Ok(names)
-}
-
 /// It passes over the text of a spool.
 impl<A: Allocator + Copy> Sink for CaptureChecker<A> {
     ghost By = { Limit × Marks × Overviews };
@@ -106,12 +115,11 @@ impl<A: Allocator + Copy> Sink for CaptureChecker<A> {
 
     fn take(&mut self, source: Source, octets: &[u8]) -> Result<(), PairError> {
         match source {
-            Source::Client => self.checker.feed_client(octets)?,
-            Source::Server => self.checker.feed_server(octets)?,
-            Source::Spool => {}
-            Source::Session => self.last_name.extend_from_slice(octets)?,
+            Source::Client => self.checker.feed_client(octets),
+            Source::Server => self.checker.feed_server(octets),
+            Source::Spool => Ok(()),
+            Source::Session => Ok(self.last_name.extend_from_slice(octets)?),
         }
-        Ok(())
     }
 
     fn begin_session(&mut self) -> Result<(), PairError> {

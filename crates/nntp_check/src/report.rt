@@ -75,30 +75,45 @@ pub(crate) fn put_text_behind<A: Allocator, W: Write>(
     }
 }
 
-/// The report on what `verify` answers of these sessions.
-pub(crate) fn verified_report<A: Allocator + Copy>(
-    alloc: A,
+/// Adds the report on what `verify` answers of these sessions.
+pub(crate) fn put_verified<A: Allocator + Copy>(
+    text: &mut Vec<u8, A>,
     is_several: bool,
     sessions: &[Named<'_>],
     verified: &VerifiedSessions<A>,
-) -> Result<Vec<u8, A>, AllocError>
+) -> Result<(), AllocError>
     requires { IsVerifiedWithin (length sessions.now) (verified_shown verified.now) }
-    ensures { IfOk result (λ text. text.items ≡ verified_report is_several (names_of sessions.now) (verified_shown verified.now)) }
+    ensures { OnOk result (text.new.items ≡ text.old.items ++ verified_report is_several (names_of sessions.now) (verified_shown verified.now)) }
 {
-    let mut text = Vec::new(alloc);
     match verified {
         VerifiedSessions::Permits { answers } => {
             text.extend_from_slice(b"permits ")?;
-            put_answers(&mut text, is_several, answers)?;
+            put_answers(text, is_several, answers)?;
+            text.extend_from_slice(b"\n")
         }
         VerifiedSessions::Refuses { session, index } => {
             let named = &sessions[*session as usize];
-            put_title_if(&mut text, is_several, *session, named.name)?;
-            put_number(&mut text, b"refuses answer ", *index)?;
+            put_refusal(text, is_several, *session, named.name, *index)
         }
     }
-    text.push(b'\n')?;
-    Ok(text)
+}
+
+/// Adds that this answer of a session isn't explained, behind the session's title if there are several. Both are counted
+/// from 0.
+fn put_refusal<A: Allocator + Copy>(
+    text: &mut Vec<u8, A>,
+    is_several: bool,
+    session: u64,
+    name: &[u8],
+    answer: u64,
+) -> Result<(), AllocError>
+    requires { session + 1 < 2 ^ 64 }
+    ensures { OnOk result (text.new.items ≡ text.old.items ++ (if_several is_several (title_line (session + 1) name.now) ++ codes "refuses answer "
+        ++ decimal answer ++ codes "\n")) }
+{
+    put_title_if(text, is_several, session, name)?;
+    put_number(text, b"refuses answer ", answer)?;
+    text.extend_from_slice(b"\n")
 }
 
 /// Adds the title of this session, counted from 0, if there are several.
@@ -133,8 +148,7 @@ fn put_consistent<A: Allocator + Copy>(
     put_number(text, b" groups=", counts.groups)?;
     put_sum(text, b" numbers=", counts.numbers)?;
     put_number(text, b" articles=", counts.articles)?;
-    text.push(b'\n')?;
-    Ok(())
+    text.extend_from_slice(b"\n")
 }
 
 /// Adds how many answers there are in all, and before that, of several, how many sessions have them.

@@ -6,18 +6,19 @@ ghost use Rattle.nntp_store.specs.Watched.{inner_of};
 ghost use Rattle.nntp_store.specs.Inner.Watched.{has_failed_of};
 ghost use Rattle.nntp_store.specs.Writing.{Wrote};
 ghost use Rattle.nntp_store.specs.Inner.Writing.{Writes};
-ghost use Rattle.nntp_check.specs.Inner.Collecting.{held_in, judged_report};
-ghost use Rattle.nntp_check.specs.Inner.Report.{IsWithin, text_behind};
-ghost use Rattle.nntp_check.specs.Report.{is_permitted};
+ghost use Rattle.nntp_check.specs.Inner.Collecting.{IsUnverified, VerifiesHeld, held_in, judged_report};
+ghost use Rattle.nntp_check.specs.Capture.{sessions_of};
+ghost use Rattle.nntp_check.specs.Inner.Report.{IsVerifiedWithin, IsWithin, text_behind};
+ghost use Rattle.nntp_check.specs.Report.{is_permitted, names_of, verified_report};
 ghost use Rattle.nntp_verdict.specs.Verdict.{sessions_verdict_shown, is_consistent_of_all};
 ghost use Rattle.nntp_wire.specs.declared.overviews.Overviews.TheVariants.{Opaque};
-ghost use Rattle.nntp_check.specs.Run.{Input, Output, ReadsCapture, read_by, written_by, CheckReports, VerifyReports, ShowReports, ExplainReports};
+ghost use Rattle.nntp_check.specs.Run.{read_by, written_by, CheckReports, VerifyReports, ShowReports, ExplainReports};
 ghost use Rattle.nntp_check.specs.Run.{TaskReports, IsReported, IsCheckFault, IsVerifyFault, IsShowFault, IsExplainFault, IsTaskFault};
 
 use crate::capture_checker::{CaptureChecker, JudgedCapture};
 use crate::command_line::Task;
 use crate::input::read_capture;
-use crate::report::{first_lines, put_text_behind, verified_report};
+use crate::report::{first_lines, put_text_behind, put_verified};
 use crate::run_fault::RunFault;
 use crate::session_printer::SessionPrinter;
 use crate::streams::Streams;
@@ -41,13 +42,16 @@ fn flush<W: Write>(output: &mut Watched<W>) -> Result<(), WriteFault>
     }
 }
 
-/// Writes the text, and then flushes once.
-fn print<W: Write>(text: &[u8], output: &mut Watched<W>) -> Result<(), WriteFault>
-    ensures text { Writes result (W.contents (inner_of output.old)) (W.contents (inner_of output.new)) text.now }
-    ensures failed { has_failed_of output.new ≡ (has_failed_of output.old || is_err result) }
+/// Writes a report that stands whole, and then flushes once: the answer is the one that is told with it.
+fn print<W: Write>(text: &[u8], answer: bool, output: &mut Watched<W>) -> Result<bool, RunFault>
+    ensures ok { IfOk result (λ told. (told ≡ answer) × Wrote (W.contents (inner_of output.old)) (W.contents (inner_of output.new)) text.now []) }
+    ensures err { IfErr result (λ fault. (fault ≡ RunFault.Write)
+        × ((left : List ℕ) × Wrote (W.contents (inner_of output.old)) (W.contents (inner_of output.new)) text.now left)) }
+    ensures write_failed { has_failed_of output.old ≡ false → (IsErrOf result RunFault.Write ↔ (has_failed_of output.new ≡ true)) }
 {
     put(output, text)?;
-    flush(output)
+    flush(output)?;
+    Ok(answer)
 }
 
 /// Writes the first lines of the report on a verdict and what stands behind them, and then flushes once. It takes no
@@ -155,38 +159,48 @@ fn run_check_taking<A: Allocator + Copy, R: Read, W: Write>(
     report_verdict(alloc, is_several, &judged, output)
 }
 
-/// What `verify` tells.
-#[derive(Drop)]
-struct Verification<A: Allocator> {
-    /// The report, whole.
-    text: Vec<u8, A>,
-    /// Whether the spool permits all answers.
-    is_permitted: bool,
-}
-
-/// Verifies what was collected of a capture by the spool whose text is there: the answer, and the report. The spool
-/// stands in the arena.
+/// Verifies what was collected of a capture by the spool whose text is there. The spool stands in the arena.
 fn verify_collected<A: Allocator + Copy, S: Allocator + Copy>(
     alloc: A,
     arena: S,
     marks: Marks,
     overviews: Overviews,
-    is_several: bool,
     streams: &Streams<A>,
-) -> Result<Verification<A>, RunFault>
-    ensures ok { IfOk result (λ told. VerifyReports marks overviews (record { held = held_in streams.now; is_several = is_several }) told.text.items
-        told.is_permitted) }
-    ensures err { IfErr result (λ fault. (input : Input) (output : Output) → ReadsCapture input (record { held = held_in streams.now; is_several = is_several })
-        → IsVerifyFault marks overviews input output fault) }
+) -> Result<VerifiedSessions<A>, RunFault>
+    ensures ok { IfOk result (λ verified. VerifiesHeld marks overviews (held_in streams.now) (verified_shown verified)) }
+    ensures err { IfErr result (IsUnverified (held_in streams.now)) }
     ensures by_text { IfErr result (λ fault. (fault ≢ RunFault.Read) × (fault ≢ RunFault.Write)) }
 {
     let spool = Spool::read_with(arena, alloc, &streams.spool)?;
-    let verified = verify_sessions(alloc, marks, &spool, &streams.recorded(overviews)?)?;
-    let text = verified_report(alloc, is_several, &streams.named(overviews)?, &verified)?;
-    Ok(Verification {
-        text,
-        is_permitted: is_permitted(&verified),
-    })
+    let sessions = streams.recorded(overviews)?;
+    Ok(verify_sessions(alloc, marks, &spool, &sessions)?)
+}
+
+/// Takes what memory the report on what `verify` answers of a capture needs, and writes it: the answer is whether the
+/// spool permits all answers.
+fn report_verified<A: Allocator + Copy, W: Write>(
+    alloc: A,
+    is_several: bool,
+    overviews: Overviews,
+    streams: &Streams<A>,
+    verified: &VerifiedSessions<A>,
+    output: &mut Watched<W>,
+) -> Result<bool, RunFault>
+    requires { IsVerifiedWithin (length (sessions_of overviews (held_in streams.now))) (verified_shown verified.now) }
+    ensures ok { IfOk result (λ answer. (answer ≡ is_permitted (verified_shown verified.now))
+        × Wrote (W.contents (inner_of output.old)) (W.contents (inner_of output.new))
+        (verified_report is_several (names_of (sessions_of overviews (held_in streams.now))) (verified_shown verified.now)) []) }
+    ensures err { IfErr result (λ fault. (fault ≡ RunFault.Memory)
+        ⊎ ((fault ≡ RunFault.Write) × ((left : List ℕ) × Wrote (W.contents (inner_of output.old)) (W.contents (inner_of output.new))
+        (verified_report is_several (names_of (sessions_of overviews (held_in streams.now))) (verified_shown verified.now)) left))) }
+    ensures unwritten { IfErr result (λ e. e ≢ RunFault.Write → output.new ≡ output.old) }
+    ensures unread { IfErr result (λ e. e ≢ RunFault.Read) }
+    ensures write_failed { has_failed_of output.old ≡ false → (IsErrOf result RunFault.Write ↔ (has_failed_of output.new ≡ true)) }
+{
+    let sessions = streams.named(overviews)?;
+    let mut text = Vec::new(alloc);
+    put_verified(&mut text, is_several, &sessions, verified)?;
+    print(&text, is_permitted(verified), output)
 }
 
 /// Tells whether the spool of a capture explains its sessions, and writes the report on them: the answer is whether the
@@ -239,9 +253,8 @@ fn run_verify_taking<A: Allocator + Copy, R: Read, W: Write>(
     let mut streams = Streams::new(alloc);
     let is_several = read_capture(input, &mut streams, most)?;
     let arena = Bump::new(alloc);
-    let told = verify_collected(alloc, &arena, marks, overviews, is_several, &streams)?;
-    print(&told.text, output)?;
-    Ok(told.is_permitted)
+    let verified = verify_collected(alloc, &arena, marks, overviews, &streams)?;
+    report_verified(alloc, is_several, overviews, &streams, &verified, output)
 }
 
 /// Writes the sessions of the capture that the input has as a reader sees them: the answer is whether all octets of the
@@ -269,8 +282,7 @@ pub fn run_show<A: Allocator + Copy, R: Read, W: Write>(
     let mut printer = SessionPrinter::new(alloc);
     let is_several = read_capture(input, &mut printer, most)?;
     let shown = printer.finish(is_several)?;
-    print(&shown.text, output)?;
-    Ok(shown.is_answered)
+    print(shown.text, shown.is_answered, output)
 }
 
 /// Explains what was collected of a capture: several sessions, or the only one.
@@ -351,8 +363,7 @@ fn run_explain_taking<A: Allocator + Copy, R: Read, W: Write>(
     let mut streams = Streams::new(alloc);
     let is_several = read_capture(input, &mut streams, most)?;
     let told = explain_collected(alloc, limit, marks, overviews, is_several, &streams)?;
-    print(&told.text, output)?;
-    Ok(told.is_without_fault)
+    print(&told.text, told.is_without_fault, output)
 }
 
 /// Does the task: what `run_check`, `run_verify`, `run_show` or `run_explain` does, by what the task holds, where overviews

@@ -17,7 +17,6 @@ use nntp_printing::{put_bad_line, put_title};
 use std::alloc::{AllocError, Allocator};
 
 /// Shows the exchanges of sessions as they come.
-#[derive(Drop)]
 pub(crate) struct SessionPrinter<A: Allocator> {
     alloc: A,
     /// The report on the sessions that another one ended, each behind its title.
@@ -33,11 +32,26 @@ pub(crate) struct SessionPrinter<A: Allocator> {
     text: Vec<u8, A>,
 }
 
+/// By hand, since a derived one is checked field by field at each place where a printer may be dropped.
+impl<A: Allocator> Drop for SessionPrinter<A> {
+    fn drop(self) {
+        let SessionPrinter {
+            alloc: _,
+            ended: _,
+            many: _,
+            is_answered: _,
+            name: _,
+            feed: _,
+            text: _,
+        } = self;
+    }
+}
+
 /// What is shown of sessions.
-#[derive(Drop)]
-pub(crate) struct Shown<A: Allocator> {
+#[derive(Clone, Copy)]
+pub(crate) struct Shown<'a> {
     /// The report, whole.
-    pub text: Vec<u8, A>,
+    pub text: &'a [u8],
     /// Whether all octets of the servers are answers.
     pub is_answered: bool,
 }
@@ -120,21 +134,21 @@ impl<A: Allocator + Copy> SessionPrinter<A> {
     }
 
     /// The report, where no more octets come. Where no piece began a session, it is that on the only one.
-    pub(crate) fn finish(mut self, is_several: bool) -> Result<Shown<A>, AllocError>
-        requires { (held : Held) × ShowsWhole self held }
-        ensures { IfOk result (λ shown. (c : Captured) → c.is_several ≡ is_several → IsAlone c → ShowsWhole self c.held
-            → ShowReports c shown.text.items shown.is_answered) }
+    pub(crate) fn finish(&mut self, is_several: bool) -> Result<Shown<'_>, AllocError>
+        requires { (held : Held) × ShowsWhole self.old held }
+        ensures { IfOk result (λ shown. (c : Captured) → c.is_several ≡ is_several → IsAlone c → ShowsWhole self.old c.held
+            → ShowReports c shown.text.now shown.is_answered) }
     {
         if is_several {
             self.end_session()?;
             return Ok(Shown {
-                text: self.ended,
+                text: &self.ended,
                 is_answered: self.is_answered,
             });
         }
         let is_answered = self.put_ending()?;
         Ok(Shown {
-            text: self.text,
+            text: &self.text,
             is_answered,
         })
     }

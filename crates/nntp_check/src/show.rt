@@ -24,8 +24,7 @@ pub(crate) fn put_end<A: Allocator + Copy>(
 {
     put_number(text, b"end answers=", answers)?;
     put_number(text, b" unanswered=", unanswered)?;
-    text.push(b'\n')?;
-    Ok(())
+    text.extend_from_slice(b"\n")
 }
 
 /// Adds an exchange: its line, and what its answer says.
@@ -161,8 +160,7 @@ fn put_new_group<A: Allocator + Copy>(
     text.extend_from_slice(b"  control newgroup ")?;
     put_escaped(text, name)?;
     put_word_if(text, moderated, b"moderated")?;
-    text.push(b'\n')?;
-    Ok(())
+    text.extend_from_slice(b"\n")
 }
 
 /// Adds the line of a Control header of another content, which may be empty.
@@ -187,8 +185,7 @@ fn put_missing<A: Allocator + Copy>(
     }
     text.extend_from_slice(b"  missing")?;
     put_missing_names(text, missing)?;
-    text.push(b'\n')?;
-    Ok(())
+    text.extend_from_slice(b"\n")
 }
 
 /// Adds the names of the headers that are missing.
@@ -226,9 +223,9 @@ fn put_word_if<A: Allocator + Copy>(
 ) -> Result<(), AllocError>
     ensures { OnOk result (text.new.items ≡ text.old.items ++ word_if is_told word.now) }
 {
-    if is_told {
-        text.push(b' ')?;
-        text.extend_from_slice(word)?;
+    if !is_told {
+        return Ok(());
     }
-    Ok(())
+    text.push(b' ')?;
+    text.extend_from_slice(word)
 }

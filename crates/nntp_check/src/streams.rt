@@ -1,6 +1,6 @@
 //! What a capture holds, collected.
 ghost use Rattle.std.specs.Prelude.{◌≡◌, IfOk, OnOk};
-ghost use Rattle.nntp_check.specs.Capture.{blank, nothing, session_as, sessions_of, with_another};
+ghost use Rattle.nntp_check.specs.Capture.{blank, nothing, session_as, sessions_of, with_another, with_octets};
 ghost use Rattle.nntp_check.specs.Inner.Collecting.{held_in};
 ghost use Rattle.nntp_several.specs.Sessions.{unnamed};
 
@@ -14,13 +14,23 @@ use std::marker::Model;
 use std::mem;
 
 /// A session of a capture: the joined octets of its pieces.
-#[derive(Drop)]
 struct Collected<A: Allocator> {
     name: Vec<u8, A>,
     /// What the client sent.
     client: Vec<u8, A>,
     /// What the server answered.
     server: Vec<u8, A>,
+}
+
+/// By hand, since a derived one is checked field by field at each place where a session may be dropped.
+impl<A: Allocator> Drop for Collected<A> {
+    fn drop(self) {
+        let Collected {
+            name: _,
+            client: _,
+            server: _,
+        } = self;
+    }
 }
 
 impl<A: Allocator> Model for Collected<A> {
@@ -68,7 +78,6 @@ impl<A: Allocator + Copy> Collected<A> {
 }
 
 /// What a capture holds.
-#[derive(Drop)]
 pub(crate) struct Streams<A: Allocator> {
     alloc: A,
     /// The sessions that another one ended.
@@ -77,6 +86,18 @@ pub(crate) struct Streams<A: Allocator> {
     last: Collected<A>,
     /// The text of a spool; empty where the capture has none.
     pub spool: Vec<u8, A>,
+}
+
+/// By hand, since a derived one is checked field by field at each place where streams may be dropped.
+impl<A: Allocator> Drop for Streams<A> {
+    fn drop(self) {
+        let Streams {
+            alloc: _,
+            ended: _,
+            last: _,
+            spool: _,
+        } = self;
+    }
 }
 
 impl<A: Allocator + Copy> Streams<A> {
@@ -89,6 +110,18 @@ impl<A: Allocator + Copy> Streams<A> {
             ended: Vec::new(alloc),
             last: Collected::new(alloc),
             spool: Vec::new(alloc),
+        }
+    }
+
+    /// Joins octets to those of their source.
+    fn join(&mut self, source: Source, octets: &[u8]) -> Result<(), AllocError>
+        ensures { OnOk result (held_in self.new ≡ with_octets source octets.now (held_in self.old)) }
+    {
+        match source {
+            Source::Client => self.last.client.extend_from_slice(octets),
+            Source::Server => self.last.server.extend_from_slice(octets),
+            Source::Spool => self.spool.extend_from_slice(octets),
+            Source::Session => self.last.name.extend_from_slice(octets),
         }
     }
 
@@ -139,12 +172,7 @@ impl<A: Allocator + Copy> Sink for Streams<A> {
     ghost stands = { λ _ streams held. held_in streams ≡ held };
 
     fn take(&mut self, source: Source, octets: &[u8]) -> Result<(), PairError> {
-        match source {
-            Source::Client => self.last.client.extend_from_slice(octets)?,
-            Source::Server => self.last.server.extend_from_slice(octets)?,
-            Source::Spool => self.spool.extend_from_slice(octets)?,
-            Source::Session => self.last.name.extend_from_slice(octets)?,
-        }
+        self.join(source, octets)?;
         Ok(())
     }
 

@@ -1,5 +1,6 @@
-use Rattle.nntp_check.proofs.RunLemmas.{Writes-kept}
+use Rattle.std.proofs.Common.{refl}
+use Rattle.nntp_check.proofs.RunLemmas.{Wrote-kept}
 use Rattle.nntp_check.proofs.run.print.Goals as goal
 
-pub returns-clause-text : goal.returns-clause-text
-returns-clause-text g c = Writes-kept c.flush.result _ _ _ c.args.text.now c.in_ok-put.ensures.text c.flush.ensures.text
+pub returns-clause-ok : goal.returns-clause-ok
+returns-clause-ok g c = (refl, Wrote-kept _ _ _ c.args.text.now c.in_ok-put.ensures.text c.in_ok-flush.ensures.text)
