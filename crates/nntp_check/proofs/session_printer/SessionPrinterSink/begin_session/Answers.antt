@@ -1,7 +1,7 @@
 use Rattle.std.proofs.Common.{rules, ◌≡◌, List, [], ◌∷◌, ◌++◌, ap, refl, subst, sym}
 use Rattle.nntp_wire.specs.declared.overviews.Overviews.TheVariants.{Opaque}
 use Rattle.nntp_several.specs.Sessions.{Named}
-use Rattle.nntp_check.specs.{Capture.{Held, session_as, sessions_as}, Inner.Showing.{AreReported, ShowsWhole}}
+use Rattle.nntp_check.specs.{Capture.{session_as, sessions_as}, Inner.Showing.{AreReported}}
 use Rattle.nntp_check.proofs.session_printer.SessionPrinterSink.begin_session.Goals as goal
 
 -- the sessions that ended, and the last one
